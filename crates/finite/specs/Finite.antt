@@ -1,0 +1,47 @@
+-- Tests, sums and lists over the numbers below a bound.
+use mathlib.Core.Bool.{Bool, true, false, not}
+use mathlib.Core.List.{List, [], _∷_, _++_}
+use Prim.Native.Nat.{ℕ, zero, suc, _+_}
+use lib.Dec.{eqb}
+
+unfoldable pub and : Bool → Bool → Bool
+and true b = b
+and false b = false
+
+unfoldable pub or : Bool → Bool → Bool
+or true b = true
+or false b = b
+
+-- p holds of some number below n
+unfoldable pub some : ℕ → (ℕ → Bool) → Bool
+some zero p = false
+some (suc n) p = or (some n p) (p n)
+
+-- p holds of every number below n
+unfoldable pub every : ℕ → (ℕ → Bool) → Bool
+every zero p = true
+every (suc n) p = and (every n p) (p n)
+
+-- the sum of f over the numbers below n
+unfoldable pub sum : ℕ → (ℕ → ℕ) → ℕ
+sum zero f = 0
+sum (suc n) f = sum n f + f n
+
+-- the numbers below n of which p holds, in ascending order
+unfoldable pub those : ℕ → (ℕ → Bool) → List ℕ
+those zero p = []
+those (suc n) p = those n p ++ keep (p n) n
+  where
+    keep : Bool → ℕ → List ℕ
+    keep true x = x ∷ []
+    keep false x = []
+
+-- x stands in the list
+unfoldable pub has : ℕ → List ℕ → Bool
+has x [] = false
+has x (y ∷ ys) = or (eqb y x) (has x ys)
+
+-- f at each of the numbers below n, in ascending order
+unfoldable pub places : {A : Type 0} → ℕ → (ℕ → A) → List A
+places zero f = []
+places (suc n) f = places n f ++ (f n ∷ [])

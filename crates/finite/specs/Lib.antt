@@ -1,0 +1,2 @@
+-- What the rules of both games are written with.
+pub mod Finite

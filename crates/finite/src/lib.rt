@@ -1,0 +1,1 @@
+// Definitions and laws only: tests, sums and lists over the numbers below a bound.

@@ -1,0 +1,167 @@
+-- What each call answers, and what it leaves in lent memory (document 01, "What comes back when a call is refused" and "The two games").
+-- A refused answer holds its number, the position handed in, and 0 in every other field.
+use mathlib.Core.Bool.{Bool, true, false, not, cond}
+use mathlib.Core.List.{List, [], _∷_, _++_}
+use Prim.Native.Nat.{ℕ, zero, suc, _+_, _*_, _-_}
+use lib.Dec.{eqb, leb, ltb}
+use lib.IntN.{ℤ, pos}
+use lib.ListN.{length, getD, take, drop, set, replicate}
+use Rattle.refusals.specs.Refusals.{Check, first, _refuses_}
+use Rattle.refusals.specs.Refusals as Refusals
+use Rattle.finite.specs.Finite.{and, or, places}
+use Rattle.kuhn.specs.Rules.{PASS, BET, due, live, over, ended, legal, key, remaining, payoff, overrun}
+use Rattle.kuhn.specs.Reached.{possible, strange, twice, unknown}
+use Rattle.kuhn.specs.declared.KuhnPoker.{KuhnPoker}
+use Rattle.kuhn.specs.declared.KuhnState.{KuhnState}
+use Rattle.kuhn.specs.declared.Moved.{Moved}
+use Rattle.kuhn.specs.declared.Written.{Written}
+use Rattle.kuhn.specs.declared.Payoffs.{Payoffs}
+
+-- the stakes of today's calls
+abbrev pub ante : ℕ
+ante = 1
+
+abbrev pub bet : ℕ
+bet = 1
+
+-- ---- positions
+
+-- the cards and the actions of a position; places past a length are no part of it
+abbrev pub cardsOf : KuhnState → List ℕ
+cardsOf s = take (s .dealt) (s .cards)
+
+abbrev pub historyOf : KuhnState → List ℕ
+historyOf s = take (s .acted) (s .history)
+
+-- the initial position
+abbrev pub initial : KuhnState
+initial = record { cards = replicate 10 0; dealt = 0; history = replicate 19 0; acted = 0 }
+
+-- one card more; one action more
+abbrev pub with-card : KuhnState → ℕ → KuhnState
+with-card s c = record { cards = set (s .cards) (s .dealt) c; dealt = s .dealt + 1; history = s .history; acted = s .acted }
+
+abbrev pub with-action : KuhnState → ℕ → KuhnState
+with-action s a = record { cards = s .cards; dealt = s .dealt; history = set (s .history) (s .acted) a; acted = s .acted + 1 }
+
+-- ---- checks
+
+-- number 2: the seat count is outside 2 to 10
+abbrev pub seats-out : ℕ → Bool
+seats-out n = or (ltb n 2) (ltb 10 n)
+
+-- number 19: no length is above its array, and the cards and actions can be reached by legal moves
+unfoldable pub reachable : ℕ → KuhnState → Bool
+reachable n s = and (and (leb (s .dealt) 10) (leb (s .acted) 19)) (possible n (cardsOf s) (historyOf s))
+
+-- the checks of every rules call on a position, before its own
+abbrev pub position-checks : ℕ → KuhnState → List Check
+position-checks n s = (seats-out n refuses Refusals.seats) ∷ (not (reachable n s) refuses Refusals.unreachable) ∷ []
+
+-- ---- answers
+
+-- a move that was accepted gives the new position, t, a refused one the old, s
+abbrev pub moved : ℕ → KuhnState → KuhnState → Moved
+moved zero s t = record { refusal = zero; state = t }
+moved (suc r) s t = record { refusal = suc r; state = s }
+
+-- how many bytes a call wrote
+abbrev pub wrote : ℕ → KuhnState → ℕ → Written
+wrote zero s k = record { refusal = zero; state = s; count = k }
+wrote (suc r) s k = record { refusal = suc r; state = s; count = 0 }
+
+-- what an output holds then: the bytes at its front and what it held beyond them; all it held, if the call was refused
+abbrev pub written : ℕ → List ℕ → List ℕ → List ℕ
+written zero bytes out = bytes ++ drop (length bytes) out
+written (suc r) bytes out = out
+
+-- ---- the calls
+
+-- start
+abbrev pub start-refusal : KuhnPoker → ℕ
+start-refusal g = first ((seats-out (g .players) refuses Refusals.seats) ∷ [])
+
+abbrev pub started : KuhnPoker → Moved
+started g = record { refusal = start-refusal g; state = initial }
+
+-- deal: the card of an outcome is the one that stands there among those left
+unfoldable pub deal-refusal : KuhnPoker → KuhnState → ℕ → ℕ
+deal-refusal g s k =
+    first
+    (position-checks (g .players) s
+    ++ (not (and (due (g .players) (cardsOf s)) (ltb k (length (remaining (g .players) (cardsOf s))))) refuses Refusals.unfit)
+    ∷ [])
+
+abbrev pub dealt : KuhnPoker → KuhnState → ℕ → Moved
+dealt g s k = moved (deal-refusal g s k) s (with-card s (getD (remaining (g .players) (cardsOf s)) k 0))
+
+-- step: every action above 1 counts as a bet
+abbrev pub counted : ℕ → ℕ
+counted a = cond (ltb BET a) BET a
+
+unfoldable pub step-refusal : KuhnPoker → KuhnState → ℕ
+step-refusal g s =
+    first
+    (position-checks (g .players) s
+    ++ (not (live (g .players) (cardsOf s) (historyOf s)) refuses Refusals.unfit)
+    ∷ [])
+
+abbrev pub stepped : KuhnPoker → KuhnState → ℕ → Moved
+stepped g s a = moved (step-refusal g s) s (with-action s (counted a))
+
+-- legal list, of a seat p, into an output of room bytes
+abbrev pub legal-of : KuhnPoker → KuhnState → ℕ → List ℕ
+legal-of g s p = legal (g .players) (cardsOf s) (historyOf s) p
+
+unfoldable pub legal-refusal : KuhnPoker → KuhnState → ℕ → ℕ → ℕ
+legal-refusal g s p room =
+    first
+    (position-checks (g .players) s
+    ++ (ltb room (length (legal-of g s p)) refuses Refusals.output)
+    ∷ [])
+
+-- key, of a seat p that has a card
+abbrev pub key-of : KuhnState → ℕ → List ℕ
+key-of s p = key (cardsOf s) (historyOf s) p
+
+unfoldable pub key-refusal : KuhnPoker → KuhnState → ℕ → ℕ → ℕ
+key-refusal g s p room =
+    first
+    (position-checks (g .players) s
+    ++ (leb (length (cardsOf s)) p refuses Refusals.unfit)
+    ∷ (ltb room (length (key-of s p)) refuses Refusals.output)
+    ∷ [])
+
+-- payoff, at the end of a hand: a number for each seat, 0 past the seats
+unfoldable pub payoff-refusal : KuhnPoker → KuhnState → ℕ
+payoff-refusal g s =
+    first
+    (position-checks (g .players) s
+    ++ (not (over (g .players) (cardsOf s) (historyOf s)) refuses Refusals.unfit)
+    ∷ [])
+
+unfoldable pub payoffs-of : ℕ → List ℕ → List ℕ → List ℤ
+payoffs-of n cs h = places 10 (λ p. cond (ltb p n) (payoff ante bet n cs h p) (pos 0))
+
+abbrev pub paid : ℕ → KuhnPoker → KuhnState → Payoffs
+paid zero g s = record { refusal = zero; state = s; count = g .players; payoffs = payoffs-of (g .players) (cardsOf s) (historyOf s) }
+paid (suc r) g s = record { refusal = suc r; state = s; count = 0; payoffs = replicate 10 (pos 0) }
+
+-- saved position with its end mark: 0 for a live hand, 1 for one that has ended
+abbrev pub mark : Bool → ℕ
+mark b = cond b 1 0
+
+unfoldable pub saved-refusal : KuhnPoker → KuhnState → ℕ → ℕ
+saved-refusal g s m =
+    first
+    ((seats-out (g .players) refuses Refusals.seats)
+    ∷ (not (eqb (s .dealt) (g .players)) refuses Refusals.card-count)
+    ∷ (strange (g .players) (cardsOf s) refuses Refusals.card)
+    ∷ (twice (cardsOf s) refuses Refusals.card-twice)
+    ∷ (or (ltb (2 * g .players - 1) (s .acted)) (unknown (historyOf s)) refuses Refusals.history)
+    ∷ (overrun (g .players) (historyOf s) refuses Refusals.closed)
+    ∷ (not (eqb m (mark (ended (g .players) (historyOf s)))) refuses Refusals.end-mark)
+    ∷ [])
+
+abbrev pub checked : KuhnPoker → KuhnState → ℕ → Moved
+checked g s m = record { refusal = saved-refusal g s m; state = s }

@@ -1,0 +1,2 @@
+-- What a refusal is (document 01, "What comes back when a call is refused").
+pub mod Refusals

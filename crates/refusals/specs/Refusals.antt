@@ -1,0 +1,99 @@
+-- The refusal numbers by name, and the order of the checks (document 01, "What comes back when a call is refused").
+use mathlib.Core.Bool.{Bool, true, false}
+use mathlib.Core.List.{List, [], _∷_}
+use Prim.Native.Nat.{ℕ}
+
+-- no refusal: the call was accepted
+abbrev pub accepted : ℕ
+accepted = 0
+
+-- the game number is neither 0 (Kuhn) nor 1 (Leduc)
+abbrev pub game : ℕ
+game = 1
+
+-- the seat count is outside 2 to 10 for Kuhn, or not 2 for Leduc
+abbrev pub seats : ℕ
+seats = 2
+
+-- a tree is needed and has more than 4,000,000 nodes
+abbrev pub tree : ℕ
+tree = 3
+
+-- the work memory has fewer than 12 words of 64 bits per node of the tree
+abbrev pub memory : ℕ
+memory = 4
+
+-- the seat is not below the seat count
+abbrev pub seat : ℕ
+seat = 5
+
+-- D, the parts per set, is 0 or too large
+abbrev pub parts : ℕ
+parts = 6
+
+-- the table's length is not the entry count
+abbrev pub table : ℕ
+table = 7
+
+-- in some set the parts do not add up to D
+abbrev pub sum : ℕ
+sum = 8
+
+-- an output is shorter than its answer
+abbrev pub output : ℕ
+output = 9
+
+-- a saved position does not hold one card per seat
+abbrev pub card-count : ℕ
+card-count = 10
+
+-- a card is not in the deck
+abbrev pub card : ℕ
+card = 11
+
+-- a card appears twice
+abbrev pub card-twice : ℕ
+card-twice = 12
+
+-- a history is too long or holds an unknown action
+abbrev pub history : ℕ
+history = 13
+
+-- an action stands after the hand or its round closed, or in round 2 before round 1 closed
+abbrev pub closed : ℕ
+closed = 14
+
+-- a Leduc action was not legal when made
+abbrev pub illegal : ℕ
+illegal = 15
+
+-- a live second round has no public card
+abbrev pub no-public : ℕ
+no-public = 16
+
+-- a public card lies there before round 1 closed
+abbrev pub early-public : ℕ
+early-public = 17
+
+-- the saved end mark differs from the position
+abbrev pub end-mark : ℕ
+end-mark = 18
+
+-- a position cannot be reached from the start by legal moves
+abbrev pub unreachable : ℕ
+unreachable = 19
+
+-- the call does not fit the position
+abbrev pub unfit : ℕ
+unfit = 20
+
+-- a check of a call: if its test holds, the call is refused with its number
+infix 40 _refuses_
+pub data Check : Type 0 where
+  _refuses_ : Bool → ℕ → Check
+
+-- the number of the first check whose test holds; accepted if none does
+abbrev pub first : List Check → ℕ
+first [] = accepted
+first ((true refuses k) ∷ cs) = k
+first ((false refuses k) ∷ cs) = first cs
