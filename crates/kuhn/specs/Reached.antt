@@ -26,15 +26,17 @@ twice cs = some (length cs) (λ i. has (getD cs i 0) (take i cs))
 unfoldable pub unknown : List ℕ → Bool
 unknown h = some (length h) (λ i. ltb BET (getD h i 0))
 
--- the cards are of the deck and differ, no seat has acted before all are dealt, and the actions are known and end with the hand
+-- the cards are at most one a seat, of the deck, and differ
+unfoldable pub fair : ℕ → List ℕ → Bool
+fair n cs = and (leb (length cs) n) (and (not (strange n cs)) (not (twice cs)))
+
+-- the actions are known, and the last of them is the hand's last or an earlier one
+unfoldable pub played : ℕ → List ℕ → Bool
+played n h = and (not (unknown h)) (not (overrun n h))
+
+-- a fair deal, actions only once every seat has its card, and these played by the rules
 unfoldable pub possible : ℕ → List ℕ → List ℕ → Bool
-possible n cs h =
-    and (leb (length cs) n)
-    (and (not (strange n cs))
-    (and (not (twice cs))
-    (and (or (eqb (length h) 0) (eqb (length cs) n))
-    (and (not (unknown h))
-    (not (overrun n h))))))
+possible n cs h = and (fair n cs) (and (or (eqb (length h) 0) (eqb (length cs) n)) (played n h))
 
 -- the test holds of the reachable positions and of no other
 pub record Decides-reached : Type 0 where

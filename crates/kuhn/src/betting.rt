@@ -2,7 +2,7 @@
 ghost use mathlib.Core.Path.{_≡_};
 ghost use mathlib.Core.Bool.{true, false};
 ghost use Prim.Native.Nat.{ℕ, _+_, _*_, _≤_, _<_};
-ghost use lib.ListN.{getD, take};
+ghost use lib.ListN.{length, getD, take};
 ghost use Rattle.kuhn.specs.Rules.{ended, overrun, bets};
 ghost use Rattle.kuhn.specs.Reached.{unknown};
 
@@ -13,8 +13,8 @@ pub fn wide(x: u8) -> usize
 }
 
 // The place of the first bet, or acted where there is none.
-pub fn first_bet(history: &[u8; 19], acted: usize) -> usize
-    requires { ⌜ acted ≤ 19 ⌝ }
+pub fn first_bet(history: &[u8], acted: usize) -> usize
+    requires { ⌜ acted ≤ length (now history) ⌝ }
     ensures within { λ r. ⌜ r ≤ acted ⌝ }
     ensures before { λ r. ⌜ ((k : ℕ) → k < r → getD (now (history .entry)) k 0 ≡ 1 → ⊥) ⌝ }
     ensures found { λ r. ⌜ (r < acted → getD (now (history .entry)) r 0 ≡ 1) ⌝ }
@@ -30,8 +30,8 @@ pub fn first_bet(history: &[u8; 19], acted: usize) -> usize
 }
 
 // Whether the hand has ended: after n passes, or n - 1 actions after the first bet.
-pub fn is_terminal(history: &[u8; 19], acted: usize, n: usize) -> bool
-    requires { ⌜ (acted ≤ 19) × (1 ≤ n) × (n ≤ 10) ⌝ }
+pub fn is_terminal(history: &[u8], acted: usize, n: usize) -> bool
+    requires { ⌜ (acted ≤ length (now history)) × (1 ≤ n) × (n ≤ 10) ⌝ }
     ensures { λ r. ⌜ r ≡ ended n (take acted (now (history .entry))) ⌝ }
 {
     let b = first_bet(history, acted);
@@ -43,8 +43,8 @@ pub fn is_terminal(history: &[u8; 19], acted: usize, n: usize) -> bool
 }
 
 // Whether an action stands after the hand ended.
-pub fn past_the_end(history: &[u8; 19], acted: usize, n: usize) -> bool
-    requires { ⌜ (acted ≤ 19) × (1 ≤ n) × (n ≤ 10) ⌝ }
+pub fn past_the_end(history: &[u8], acted: usize, n: usize) -> bool
+    requires { ⌜ (acted ≤ length (now history)) × (1 ≤ n) × (n ≤ 10) ⌝ }
     ensures { λ r. ⌜ r ≡ overrun n (take acted (now (history .entry))) ⌝ }
 {
     let b = first_bet(history, acted);
@@ -58,8 +58,8 @@ pub fn past_the_end(history: &[u8; 19], acted: usize, n: usize) -> bool
 }
 
 // Whether an action is neither a pass nor a bet.
-pub fn unknown_action(history: &[u8; 19], acted: usize) -> bool
-    requires { ⌜ acted ≤ 19 ⌝ }
+pub fn unknown_action(history: &[u8], acted: usize) -> bool
+    requires { ⌜ acted ≤ length (now history) ⌝ }
     ensures { λ r. ⌜ r ≡ unknown (take acted (now (history .entry))) ⌝ }
 {
     let mut i = 0;
@@ -73,8 +73,8 @@ pub fn unknown_action(history: &[u8; 19], acted: usize) -> bool
 }
 
 // Whether a seat has bet.
-pub fn bet_by(history: &[u8; 19], acted: usize, n: usize, player: usize) -> bool
-    requires { ⌜ (acted ≤ 19) × (1 ≤ n) ⌝ }
+pub fn bet_by(history: &[u8], acted: usize, n: usize, player: usize) -> bool
+    requires { ⌜ (acted ≤ length (now history)) × (1 ≤ n) ⌝ }
     ensures { λ r. ⌜ r ≡ bets n (take acted (now (history .entry))) player ⌝ }
 {
     let mut i = 0;

@@ -1,15 +1,16 @@
 // The cards: 0 to n, one for each of n seats.
 use crate::betting::wide;
 ghost use mathlib.Core.Path.{_≡_};
+ghost use mathlib.Core.Bool.{cond};
 ghost use Prim.Native.Nat.{_+_, _≤_, _<_};
-ghost use lib.ListN.{getD, take};
+ghost use lib.ListN.{length, getD, take};
 ghost use Rattle.finite.specs.Finite.{has};
 ghost use Rattle.kuhn.specs.Rules.{remaining};
 ghost use Rattle.kuhn.specs.Reached.{strange, twice};
 
 // Whether card c is among the first count cards.
-pub fn contains(cards: &[u8; 10], count: usize, c: usize) -> bool
-    requires { ⌜ count ≤ 10 ⌝ }
+pub fn contains(cards: &[u8], count: usize, c: usize) -> bool
+    requires { ⌜ count ≤ length (now cards) ⌝ }
     ensures { λ r. ⌜ r ≡ has c (take count (now (cards .entry))) ⌝ }
 {
     let mut i = 0;
@@ -23,8 +24,8 @@ pub fn contains(cards: &[u8; 10], count: usize, c: usize) -> bool
 }
 
 // Whether a card is not in the deck.
-pub fn card_outside(cards: &[u8; 10], dealt: usize, n: usize) -> bool
-    requires { ⌜ dealt ≤ 10 ⌝ }
+pub fn card_outside(cards: &[u8], dealt: usize, n: usize) -> bool
+    requires { ⌜ dealt ≤ length (now cards) ⌝ }
     ensures { λ r. ⌜ r ≡ strange n (take dealt (now (cards .entry))) ⌝ }
 {
     let mut i = 0;
@@ -38,8 +39,8 @@ pub fn card_outside(cards: &[u8; 10], dealt: usize, n: usize) -> bool
 }
 
 // Whether a card appears twice.
-pub fn card_twice(cards: &[u8; 10], dealt: usize) -> bool
-    requires { ⌜ dealt ≤ 10 ⌝ }
+pub fn card_twice(cards: &[u8], dealt: usize) -> bool
+    requires { ⌜ dealt ≤ length (now cards) ⌝ }
     ensures { λ r. ⌜ r ≡ twice (take dealt (now (cards .entry))) ⌝ }
 {
     let mut i = 0;
@@ -53,8 +54,8 @@ pub fn card_twice(cards: &[u8; 10], dealt: usize) -> bool
 }
 
 // The card of an outcome among those left, ascending; n + 1 where there are not so many.
-pub fn nth_remaining(cards: &[u8; 10], dealt: usize, n: usize, outcome: usize) -> usize
-    requires { ⌜ (dealt ≤ 10) × (n ≤ 10) ⌝ }
+pub fn nth_remaining(cards: &[u8], dealt: usize, n: usize, outcome: usize) -> usize
+    requires { ⌜ (dealt ≤ length (now cards)) × (n ≤ 10) ⌝ }
     ensures { λ r. ⌜ r ≡ getD (remaining n (take dealt (now (cards .entry)))) outcome (n + 1) ⌝ }
 {
     let mut c = 0;
@@ -71,6 +72,9 @@ pub fn nth_remaining(cards: &[u8; 10], dealt: usize, n: usize, outcome: usize) -
 }
 
 // 1 if card c is left, 0 if it is dealt.
-fn left(cards: &[u8; 10], dealt: usize, c: usize) -> usize {
+fn left(cards: &[u8], dealt: usize, c: usize) -> usize
+    requires { ⌜ dealt ≤ length (now cards) ⌝ }
+    ensures { λ r. ⌜ (r ≡ cond (has c (take dealt (now (cards .entry)))) 0 1) × (r ≤ 1) ⌝ }
+{
     if contains(cards, dealt, c) { 0 } else { 1 }
 }

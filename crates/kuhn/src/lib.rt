@@ -56,9 +56,9 @@ impl KuhnPoker {
 
     pub const ACTIONS: usize = 19;
 
-    pub const ANTE: i64 = 1;
+    pub const ANTE: u64 = 1;
 
-    pub const STAKE: i64 = 1;
+    pub const STAKE: u64 = 1;
 }
 
 impl KuhnState {

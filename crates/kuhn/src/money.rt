@@ -1,1 +1,85 @@
-// money
+// The money: who stands, who wins, and what each seat pays or gains.
+use crate::KuhnPoker;
+use crate::betting::bet_by;
+use crate::betting::first_bet;
+use crate::betting::wide;
+ghost use mathlib.Core.Path.{_≡_};
+ghost use mathlib.Core.Bool.{cond};
+ghost use mathlib.Core.Logic.{_⊎_};
+ghost use Prim.Native.Nat.{ℕ, _+_, _-_, _≤_, _<_};
+ghost use lib.IntN.{pos, negℤ};
+ghost use lib.ListN.{length, getD, take};
+ghost use Rattle.finite.specs.Finite.{sum};
+ghost use Rattle.kuhn.specs.Rules.{stands, contribution, wins, payoff};
+ghost use Rattle.kuhn.specs.Calls.{ante, bet, payoffs-of};
+ghost use Rattle.kuhn.specs.Money.{Highest};
+
+// Whether a seat stands: those who bet do, all if none did.
+fn standing(history: &[u8], acted: usize, n: usize, player: usize) -> bool
+    requires { ⌜ (acted ≤ length (now history)) × (1 ≤ n) ⌝ }
+    ensures { λ r. ⌜ r ≡ stands n (take acted (now (history .entry))) player ⌝ }
+{
+    if first_bet(history, acted) == acted {
+        return true;
+    }
+    bet_by(history, acted, n, player)
+}
+
+// What a seat has paid.
+fn contributed(history: &[u8], acted: usize, n: usize, player: usize) -> u64
+    requires { ⌜ (acted ≤ length (now history)) × (1 ≤ n) ⌝ }
+    ensures { λ r. ⌜ (r ≡ contribution ante bet n (take acted (now (history .entry))) player) × (r ≤ 2) ⌝ }
+{
+    if bet_by(history, acted, n, player) {
+        KuhnPoker::ANTE + KuhnPoker::STAKE
+    } else {
+        KuhnPoker::ANTE
+    }
+}
+
+// What all seats have paid.
+fn pot(history: &[u8], acted: usize, n: usize) -> u64
+    requires { ⌜ (acted ≤ length (now history)) × (1 ≤ n) × (n ≤ 10) ⌝ }
+    ensures { λ r. ⌜ (r ≡ sum n (contribution ante bet n (take acted (now (history .entry))))) × (r ≤ 20) ⌝ }
+{
+    let mut total = 0;
+    let mut player = 0;
+    while player < n {
+        total += contributed(history, acted, n, player);
+        player += 1;
+    }
+    total
+}
+
+// The highest card among the seats that stand.
+fn highest(cards: &[u8], history: &[u8], acted: usize, n: usize) -> usize
+    requires { ⌜ (acted ≤ length (now history)) × (1 ≤ n) × (n ≤ length (now cards)) ⌝ }
+    ensures { λ r. ⌜ Highest n (take acted (now (history .entry))) (now (cards .entry)) n r ⌝ }
+{
+    let mut top = 0;
+    let mut player = 0;
+    while player < n {
+        let card = shown(cards, history, acted, n, player);
+        top = larger(top, card);
+        player += 1;
+    }
+    top
+}
+
+// The card of a seat that stands; 0 of any other.
+fn shown(cards: &[u8], history: &[u8], acted: usize, n: usize, player: usize) -> usize
+    requires { ⌜ (acted ≤ length (now history)) × (1 ≤ n) × (player < length (now cards)) ⌝ }
+    ensures { λ r. ⌜ r ≡ cond (stands n (take acted (now (history .entry))) player) (getD (now (cards .entry)) player 0) 0 ⌝ }
+{
+    if standing(history, acted, n, player) {
+        wide(cards[player])
+    } else {
+        0
+    }
+}
+
+fn larger(a: usize, b: usize) -> usize
+    ensures { λ r. ⌜ (a ≤ r) × (b ≤ r) × ((r ≡ a) ⊎ (r ≡ b)) ⌝ }
+{
+    if a < b { b } else { a }
+}

@@ -1,0 +1,4 @@
+-- Laws of Kuhn's rules.
+pub mod Histories
+pub mod Deals
+pub mod Winner
