@@ -2,3 +2,4 @@
 pub mod Histories
 pub mod Deals
 pub mod Winner
+pub mod Amounts
