@@ -3,3 +3,4 @@ pub mod Histories
 pub mod Deals
 pub mod Winner
 pub mod Amounts
+pub mod Positions

@@ -3,6 +3,7 @@
 mod betting;
 mod cards;
 mod money;
+mod position;
 
 ghost use mathlib.Core.Path.{_≡_};
 ghost use Rattle.kuhn.specs.Calls.{initial, start-refusal, started, deal-refusal, dealt, step-refusal, stepped};
