@@ -4,3 +4,4 @@ pub mod Deals
 pub mod Winner
 pub mod Amounts
 pub mod Positions
+pub mod Answers
