@@ -1,0 +1,118 @@
+-- The best choice decides every set of a tree with recall as document 01 says, no single action betters it, and no other choice decides so. Nothing is assumed.
+use mathlib.Core.Path.{_≡_, refl, sym, ap, ap₂, _∙_, fun-ext}
+use mathlib.Core.Bool.{Bool, true, false, cond}
+use mathlib.Core.Logic.{_⊎_, inl, inr}
+use mathlib.Core.List.{List, [], _∷_, _++_}
+use Prim.Native.Nat.{ℕ, zero, suc, pred, _+_, _≤_, _<_, zero-le}
+use native.Mathlib.Nat as NatL
+use native.Mathlib.Omega.{arith}
+use lib.Dec.{T, eqb}
+use lib.IntN.{ℤ, pos}
+use lib.Signed.{ltZ, _≤ℤ_, _<ℤ_, ≤ℤ-refl, ltZ-no, ltZ-yes, <ℤ-≤ℤ-trans}
+use lib.ListN.{length}
+use Rattle.game.specs.Tree.{Key}
+use Rattle.game.specs.Reply.{Reply, leaf, split, own, Replies, none, more, count, Choice, value, Node, nodes, nodesAll, same, keep, withKey, members, setSum, highest, lowest, actions, depth, decided, best, bestValue, EveryOwn, Decides, Optimal}
+use Rattle.game.specs.Recall.{Path, Recalled, RecalledAll, RecalledKids, RecallsOwn}
+use Rattle.game.specs.Theorem.{LowestOfGreatest, BestDecides, DecidesAlike, BestOptimal}
+use Rattle.game.proofs.Integers.{≤ℤ-trans, <ℤ-le}
+use Rattle.game.proofs.Tests.{Tested, is, isn't, tested, T-of, same→eq, eqb-is, eqb-isn't}
+use Rattle.game.proofs.Own.{own-both, own-map, value-agree, level-below, own-actions, set-agree}
+
+-- ---- the lowest action with the greatest sum
+highest-most : (q : ℕ → ℤ) (n a : ℕ) → a ≤ n → q a ≤ℤ q (highest q n)
+unfolding highest
+highest-most q zero a l = rw (zero-is a l) (≤ℤ-refl (q 0))
+  where
+    zero-is : (a : ℕ) → a ≤ 0 → a ≡ 0
+    zero-is a l = omega arith
+highest-most q (suc n) a l = at (tested (ltZ (q (highest q n)) (q (suc n)))) (tested (eqb a (suc n))) (λ w. highest-most q n a w)
+  where
+    B : Bool
+    B = ltZ (q (highest q n)) (q (suc n))
+
+    at : Tested B → Tested (eqb a (suc n)) → (a ≤ n → q a ≤ℤ q (highest q n)) → q a ≤ℤ q (cond B (suc n) (highest q n))
+    at (is e) (is w) f = rw (e, eqb-is a (suc n) w) (≤ℤ-refl (q (suc n)))
+    at (is e) (isn't w) f = rw e (≤ℤ-trans (q a) (q (highest q n)) (q (suc n)) (f (omega (arith, eqb-isn't a (suc n) w))) (<ℤ-le (q (highest q n)) (q (suc n)) (T-of e)))
+    at (isn't e) (is w) f = rw (e, eqb-is a (suc n) w) (ltZ-no (rw e tt))
+    at (isn't e) (isn't w) f = rw e (f (omega (arith, eqb-isn't a (suc n) w)))
+
+highest-bound : (q : ℕ → ℤ) (n : ℕ) → highest q n ≤ n
+unfolding highest
+highest-bound q zero = zero-le
+highest-bound q (suc n) = at (ltZ (q (highest q n)) (q (suc n))) (highest-bound q n)
+  where
+    at : (b : Bool) → highest q n ≤ n → cond b (suc n) (highest q n) ≤ suc n
+    at true h = NatL.le-refl (suc n)
+    at false h = omega arith
+
+≤ℤ-<ℤ-trans : (a b c : ℤ) → a ≤ℤ b → b <ℤ c → a <ℤ c
+≤ℤ-<ℤ-trans a b c h k = at (tested (ltZ a c))
+  where
+    at : Tested (ltZ a c) → a <ℤ c
+    at (is e) = ltZ-yes (T-of e)
+    at (isn't e) = lib.Signed.clashℤ k (≤ℤ-trans c a b (ltZ-no (rw e tt)) h)
+
+highest-first : (q : ℕ → ℤ) (n a : ℕ) → a < highest q n → q a <ℤ q (highest q n)
+unfolding highest
+highest-first q zero a l = absurd (NatL.not-suc-le-zero l)
+highest-first q (suc n) a l = at (tested (ltZ (q (highest q n)) (q (suc n)))) l (λ w. highest-first q n a w)
+  where
+    B : Bool
+    B = ltZ (q (highest q n)) (q (suc n))
+
+    at : Tested B → a < cond B (suc n) (highest q n) → (a < highest q n → q a <ℤ q (highest q n)) → q a <ℤ q (cond B (suc n) (highest q n))
+    at (is e) w f = rw e (≤ℤ-<ℤ-trans (q a) (q (highest q n)) (q (suc n)) (highest-most q n a (NatL.le-of-suc-le-suc (rw e at w))) (ltZ-yes (T-of e)))
+    at (isn't e) w f = rw e (f (rw e at w))
+
+pub lowest-of-greatest : LowestOfGreatest
+lowest-of-greatest n q l = (omega (arith, highest-bound q (pred n)), (λ a h. highest-most q (pred n) a (omega arith)), λ a h. highest-first q (pred n) a h)
+
+-- ---- the choice, by the own moves to come
+module _ (r : Reply) (H : Key → Path) (n : Key → ℕ) (h : Recalled H n [] r) where
+  abbrev m : ℕ
+  m = depth r
+
+  levels : EveryOwn (λ k a. length (H k) < m) r
+  levels = level-below H n r [] m h (NatL.le-of-eq (NatL.add-zero m))
+
+  -- two choices that are one in the sets with at most d own moves to come have the same sums in those with one more
+  same-sums : (c e : Choice) (d : ℕ) → EveryOwn (λ j b. m ≤ d + length (H j) → c j ≡ e j) r → (k : Key) → m ≤ suc d + length (H k) → setSum c r k ≡ setSum e r k
+  same-sums c e d g k l = fun-ext (λ a. set-agree H n c e k a r h
+      (own-map (λ j b. m ≤ d + length (H j) → c j ≡ e j) (λ j b. length (H k) < length (H j) → c j ≡ e j) (λ j b f w. f (omega arith)) r g))
+
+  settled : (d : ℕ) → EveryOwn (λ k b. m ≤ d + length (H k) → decided r d k ≡ decided r (suc d) k) r
+  unfolding decided
+  settled zero = own-map (λ k b. length (H k) < m) (λ k b. m ≤ 0 + length (H k) → decided r 0 k ≡ decided r 1 k) (λ k b l w. absurd (omega arith)) r levels
+  settled (suc d) = own-map (λ k b. length (H k) < m) (λ k b. m ≤ suc d + length (H k) → decided r (suc d) k ≡ decided r (suc (suc d)) k)
+      (λ k b l w. ap (lowest (actions (members r k))) (same-sums (decided r d) (decided r (suc d)) d (settled d) k w)) r levels
+
+  best-decides-sets : Decides (best r) r
+  unfolding best decided
+  best-decides-sets = own-both (λ k b. b ≡ actions (members r k)) (λ k b. m ≤ m + length (H k) → decided r m k ≡ decided r (suc m) k) (λ k b. decided r m k ≡ lowest b (setSum (decided r m) r k))
+      (λ k b e f. f (omega arith) ∙ ap (λ x. lowest x (setSum (decided r m) r k)) (sym e)) r (own-actions H n r h) (settled m)
+
+  -- two choices that decide every set are one
+  module _ (c e : Choice) (p : Decides c r) (q : Decides e r) where
+    alike-below : (d : ℕ) → EveryOwn (λ k b. m ≤ d + length (H k) → c k ≡ e k) r
+    alike-below zero = own-map (λ k b. length (H k) < m) (λ k b. m ≤ 0 + length (H k) → c k ≡ e k) (λ k b l w. absurd (omega arith)) r levels
+    alike-below (suc d) = own-both (λ k b. c k ≡ lowest b (setSum c r k)) (λ k b. e k ≡ lowest b (setSum e r k)) (λ k b. m ≤ suc d + length (H k) → c k ≡ e k)
+        (λ k b x y w. x ∙ ap (lowest b) (same-sums c e d (alike-below d) k w) ∙ sym y) r p q
+
+    alike : EveryOwn (λ k b. c k ≡ e k) r
+    alike = own-map (λ k b. m ≤ m + length (H k) → c k ≡ e k) (λ k b. c k ≡ e k) (λ k b f. f (omega arith)) r (alike-below m)
+
+pub best-decides : BestDecides
+best-decides r h = best-decides-sets r (h .0) (h .1) (h .2)
+
+pub decides-alike : DecidesAlike
+decides-alike r c h p = (same-actions, value-agree c (best r) r same-actions)
+  where
+    same-actions : EveryOwn (λ k n. c k ≡ best r k) r
+    same-actions = alike r (h .0) (h .1) (h .2) c (best r) p (best-decides r h)
+
+pub decides-optimal : (r : Reply) (c : Choice) → Decides c r → Optimal c r
+decides-optimal r c p = own-map (λ k n. c k ≡ lowest n (setSum c r k)) (λ k n. (a : ℕ) → a < n → setSum c r k a ≤ℤ setSum c r k (c k))
+    (λ k n e a l. rw e (highest-most (setSum c r k) (pred n) a (omega arith))) r p
+
+pub best-optimal : BestOptimal
+best-optimal r h = decides-optimal r (best r) (best-decides r h)
