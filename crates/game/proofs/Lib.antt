@@ -6,3 +6,5 @@ pub mod Own
 pub mod Best
 pub mod Rival
 pub mod Units
+pub mod Against
+pub mod Link
