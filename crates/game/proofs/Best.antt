@@ -8,7 +8,7 @@ use native.Mathlib.Nat as NatL
 use native.Mathlib.Omega.{arith}
 use lib.Dec.{T, eqb}
 use lib.IntN.{ℤ, pos}
-use lib.Signed.{ltZ, _≤ℤ_, _<ℤ_, ≤ℤ-refl, ltZ-no, ltZ-yes, <ℤ-≤ℤ-trans}
+use lib.Signed.{ltZ, _≤ℤ_, _<ℤ_, ≤ℤ-refl, ltZ-no, ltZ-yes, clashℤ}
 use lib.ListN.{length}
 use Rattle.game.specs.Tree.{Key}
 use Rattle.game.specs.Reply.{Reply, leaf, split, own, Replies, none, more, count, Choice, value, Node, nodes, nodesAll, same, keep, withKey, members, setSum, highest, lowest, actions, depth, decided, best, bestValue, EveryOwn, Decides, Optimal}
@@ -19,53 +19,43 @@ use Rattle.game.proofs.Tests.{Tested, is, isn't, tested, T-of, same→e
 use Rattle.game.proofs.Own.{own-both, own-map, value-agree, level-below, own-actions, set-agree}
 
 -- ---- the lowest action with the greatest sum
-highest-most : (q : ℕ → ℤ) (n a : ℕ) → a ≤ n → q a ≤ℤ q (highest q n)
-unfolding highest
-highest-most q zero a l = rw (zero-is a l) (≤ℤ-refl (q 0))
-  where
-    zero-is : (a : ℕ) → a ≤ 0 → a ≡ 0
-    zero-is a l = omega arith
-highest-most q (suc n) a l = at (tested (ltZ (q (highest q n)) (q (suc n)))) (tested (eqb a (suc n))) (λ w. highest-most q n a w)
-  where
-    B : Bool
-    B = ltZ (q (highest q n)) (q (suc n))
-
-    at : Tested B → Tested (eqb a (suc n)) → (a ≤ n → q a ≤ℤ q (highest q n)) → q a ≤ℤ q (cond B (suc n) (highest q n))
-    at (is e) (is w) f = rw (e, eqb-is a (suc n) w) (≤ℤ-refl (q (suc n)))
-    at (is e) (isn't w) f = rw e (≤ℤ-trans (q a) (q (highest q n)) (q (suc n)) (f (omega (arith, eqb-isn't a (suc n) w))) (<ℤ-le (q (highest q n)) (q (suc n)) (T-of e)))
-    at (isn't e) (is w) f = rw (e, eqb-is a (suc n) w) (ltZ-no (rw e tt))
-    at (isn't e) (isn't w) f = rw e (f (omega (arith, eqb-isn't a (suc n) w)))
-
-highest-bound : (q : ℕ → ℤ) (n : ℕ) → highest q n ≤ n
-unfolding highest
-highest-bound q zero = zero-le
-highest-bound q (suc n) = at (ltZ (q (highest q n)) (q (suc n))) (highest-bound q n)
-  where
-    at : (b : Bool) → highest q n ≤ n → cond b (suc n) (highest q n) ≤ suc n
-    at true h = NatL.le-refl (suc n)
-    at false h = omega arith
-
 ≤ℤ-<ℤ-trans : (a b c : ℤ) → a ≤ℤ b → b <ℤ c → a <ℤ c
 ≤ℤ-<ℤ-trans a b c h k = at (tested (ltZ a c))
   where
     at : Tested (ltZ a c) → a <ℤ c
     at (is e) = ltZ-yes (T-of e)
-    at (isn't e) = lib.Signed.clashℤ k (≤ℤ-trans c a b (ltZ-no (rw e tt)) h)
+    at (isn't e) = clashℤ k (≤ℤ-trans c a b (ltZ-no (rw e tt)) h)
 
-highest-first : (q : ℕ → ℤ) (n a : ℕ) → a < highest q n → q a <ℤ q (highest q n)
+-- b is the lowest with the greatest q of the actions up to n
+abbrev Lowest : (ℕ → ℤ) → ℕ → ℕ → Type 0
+Lowest q n b = (b ≤ n) × ((a : ℕ) → a ≤ n → q a ≤ℤ q b) × ((a : ℕ) → a < b → q a <ℤ q b)
+
+highest-lowest : (q : ℕ → ℤ) (n : ℕ) → Lowest q n (highest q n)
 unfolding highest
-highest-first q zero a l = absurd (NatL.not-suc-le-zero l)
-highest-first q (suc n) a l = at (tested (ltZ (q (highest q n)) (q (suc n)))) l (λ w. highest-first q n a w)
+highest-lowest q zero = (zero-le, (λ a l. rw (zero-is a l) (≤ℤ-refl (q 0))), λ a l. absurd (NatL.not-suc-le-zero l))
+  where
+    zero-is : (a : ℕ) → a ≤ 0 → a ≡ 0
+    zero-is a l = omega arith
+highest-lowest q (suc n) = at (tested (ltZ (q (highest q n)) (q (suc n)))) (highest-lowest q n)
   where
     B : Bool
     B = ltZ (q (highest q n)) (q (suc n))
 
-    at : Tested B → a < cond B (suc n) (highest q n) → (a < highest q n → q a <ℤ q (highest q n)) → q a <ℤ q (cond B (suc n) (highest q n))
-    at (is e) w f = rw e (≤ℤ-<ℤ-trans (q a) (q (highest q n)) (q (suc n)) (highest-most q n a (NatL.le-of-suc-le-suc (rw e at w))) (ltZ-yes (T-of e)))
-    at (isn't e) w f = rw e (f (rw e at w))
+    -- the new action, or one before it
+    one-more : (b : ℕ) → q (suc n) ≤ℤ q b → ((a : ℕ) → a ≤ n → q a ≤ℤ q b) → (a : ℕ) → Tested (eqb a (suc n)) → a ≤ suc n → q a ≤ℤ q b
+    one-more b x f a (is w) l = rw (eqb-is a (suc n) w) x
+    one-more b x f a (isn't w) l = f a (omega (arith, eqb-isn't a (suc n) w))
+
+    at : Tested B → Lowest q n (highest q n) → Lowest q (suc n) (cond B (suc n) (highest q n))
+    at (is e) h = let g : q (highest q n) <ℤ q (suc n) = ltZ-yes (T-of e) in rw e (
+      NatL.le-refl (suc n),
+      (λ a l. one-more (suc n) (≤ℤ-refl (q (suc n))) (λ b w. ≤ℤ-trans (q b) (q (highest q n)) (q (suc n)) (h .1 b w) (<ℤ-le (q (highest q n)) (q (suc n)) (T-of e))) a (tested (eqb a (suc n))) l),
+      λ a l. ≤ℤ-<ℤ-trans (q a) (q (highest q n)) (q (suc n)) (h .1 a (NatL.le-of-suc-le-suc l)) g,
+    )
+    at (isn't e) h = rw e (omega (arith, h .0), (λ a l. one-more (highest q n) (ltZ-no (rw e tt)) (h .1) a (tested (eqb a (suc n))) l), h .2)
 
 pub lowest-of-greatest : LowestOfGreatest
-lowest-of-greatest n q l = (omega (arith, highest-bound q (pred n)), (λ a h. highest-most q (pred n) a (omega arith)), λ a h. highest-first q (pred n) a h)
+lowest-of-greatest n q l = let h : Lowest q (pred n) (lowest n q) = highest-lowest q (pred n) in (omega (arith, h .0), (λ a w. h .1 a (omega arith)), h .2)
 
 -- ---- the choice, by the own moves to come
 module _ (r : Reply) (H : Key → Path) (n : Key → ℕ) (h : Recalled H n [] r) where
@@ -112,7 +102,7 @@ decides-alike r c h p = (same-actions, value-agree c (best r) r same-actions)
 
 pub decides-optimal : (r : Reply) (c : Choice) → Decides c r → Optimal c r
 decides-optimal r c p = own-map (λ k n. c k ≡ lowest n (setSum c r k)) (λ k n. (a : ℕ) → a < n → setSum c r k a ≤ℤ setSum c r k (c k))
-    (λ k n e a l. rw e (highest-most (setSum c r k) (pred n) a (omega arith))) r p
+    (λ k n e a l. rw e (highest-lowest (setSum c r k) (pred n) .1 a (omega arith))) r p
 
 pub best-optimal : BestOptimal
 best-optimal r h = decides-optimal r (best r) (best-decides r h)

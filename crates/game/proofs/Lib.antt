@@ -8,3 +8,6 @@ pub mod Rival
 pub mod Units
 pub mod Against
 pub mod Link
+pub mod Bounds
+pub mod Small
+pub mod Theorem

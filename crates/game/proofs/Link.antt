@@ -12,10 +12,10 @@ use Rattle.game.specs.Sums.{_·_, parts}
 use Rattle.game.specs.Tree.{Key, Tree, end, chance, decide, Trees, nil, cons, fan, Strategy, all, but, worth, worthAll, worthKids, Splits, SplitsAll, Every, EveryAll, Valid, Keeps, Rival}
 use Rattle.game.specs.Reply.{Reply, leaf, split, own, Replies, none, more, node, share, replyTree, replyAll, replyKids, Choice, value, setSum, lowest, depth, best, bestValue, pure, reply, EveryOwn, scaled, scaledAll, scaledKids}
 use Rattle.game.specs.Recall.{PerfectRecall, RecallsOwn}
-use Rattle.game.specs.Theorem.{NoFinerRivalBetter, ReplyIsRival, ReplyWorth, Link, LinkInUnits, NoRivalBetter}
+use Rattle.game.specs.Theorem.{NoFinerRivalBetter, FinerUnitsExact, ReplyIsRival, ReplyWorth, Link, LinkInUnits, NoRivalBetter}
 use Rattle.game.proofs.Integers.{·-zero, ·-sum, ·-mul, ·-cancel, ·-cancel-eq}
 use Rattle.game.proofs.Tests.{Tested, is, isn't, tested, eqb-is, eqb-self, eqb-no}
-use Rattle.game.proofs.Units.{Fits, FitsAll, fits-scale, fits-scale-all, splits-fit, of-fan, part-of, worth-scale}
+use Rattle.game.proofs.Units.{Fits, FitsAll, fits-scale, fits-scale-all, splits-fit, fits-exact, of-fan, part-of, worth-scale}
 use Rattle.game.proofs.Against.{every-of, every-both, same-reply-tree, reply-depth, every→own, own→every, recall-kept}
 use Rattle.game.proofs.Best.{best-decides, best-optimal, lowest-of-greatest}
 use Rattle.game.proofs.Rival.{optimal-unbeaten, pure-worth, pure-parts}
@@ -128,6 +128,10 @@ module _ (D i : ℕ) where
 pub link : Link
 link C m D E i s z t d e h o = sym (link-tree D i E d e z t C m (C * D ^ m) m h (NatL.le-refl m) (fits-free D i t (C * D ^ m) (splits-fit D t C m h)))
     ∙ ap (λ r. scaled E (z i) r m) (same-reply-tree D i s z t (C * D ^ m) o)
+
+pub finer-units-exact : FinerUnitsExact
+finer-units-exact C m D E i z t d e h = fits-exact (but i E D) (parts-pos D i E d e z) z t (E ^ m * (C * D ^ m))
+    (fits-finer D i E t C m (C * D ^ m) m h (NatL.le-refl m) (fits-free D i t (C * D ^ m) (splits-fit D t C m h)))
 
 -- with D parts in seat i's sets all seats have D
 but-all : (i D : ℕ) → but i D D ≡ all D

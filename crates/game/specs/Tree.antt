@@ -2,7 +2,7 @@
 use mathlib.Core.Path.{_≡_}
 use mathlib.Core.Bool.{cond}
 use mathlib.Core.List.{List}
-use Prim.Native.Nat.{ℕ, zero, suc, pred, _+_, _*_, _/_, _≤_, _<_}
+use Prim.Native.Nat.{ℕ, zero, suc, pred, _+_, _*_, _/_, _^_, _≤_, _<_}
 use lib.Dec.{eqb}
 use lib.IntN.{ℤ, pos, _+ℤ_, natAbs}
 use Rattle.game.specs.Sums.{_·_, parts}
@@ -33,6 +33,10 @@ Strategy = ℕ → Key → ℕ → ℕ
 -- how many parts the sets of each seat have; document 01: D for all seats
 abbrev pub all : ℕ → ℕ → ℕ
 all D j = D
+
+-- the units of the root; document 01: U = C × D^m
+abbrev pub U : ℕ → ℕ → ℕ → ℕ
+U C D m = C * D ^ m
 
 -- E for seat i, D for the others
 abbrev pub but : ℕ → ℕ → ℕ → ℕ → ℕ
