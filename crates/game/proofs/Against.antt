@@ -1,13 +1,13 @@
 -- From a tree to a seat's reply tree: recall, depth and properties of the seat's sets carry over, and only the others' entries count. Nothing is assumed.
-use mathlib.Core.Path.{_≡_, refl, sym, ap, ap₂, _∙_}
-use mathlib.Core.Bool.{Bool, true, false, cond}
-use mathlib.Core.List.{List, [], _∷_}
-use Prim.Native.Nat.{ℕ, zero, suc, pred, _+_, _*_, _/_, _≤_, _<_, max, zero-le}
+use mathlib.Core.Path.{_≡_, refl, ap, ap₂, _∙_}
+use mathlib.Core.Bool.{Bool, true, false}
+use mathlib.Core.List.{[], _∷_}
+use Prim.Native.Nat.{ℕ, suc, pred, _+_, _*_, _/_, _≤_, _<_, zero-le}
 use native.Mathlib.Nat as NatL
 use native.Mathlib.Omega.{arith}
 use lib.Dec.{eqb}
 use Rattle.game.specs.Tree.{Key, Tree, end, chance, decide, Trees, nil, cons, fan, Strategy, Splits, SplitsAll, Every, EveryAll, Keeps}
-use Rattle.game.specs.Reply.{Reply, leaf, split, own, Replies, none, more, node, share, replyTree, replyAll, replyKids, value, bestValue, count, depth, depthAll, EveryOwn, EveryOwnAll}
+use Rattle.game.specs.Reply.{split, own, Replies, more, node, share, replyTree, replyAll, replyKids, bestValue, count, depth, depthAll, EveryOwn, EveryOwnAll}
 use Rattle.game.specs.Recall.{Path, moved, Recall, RecallAll, RecallKids, Recalled, RecalledAll, RecalledKids}
 use Rattle.game.specs.Theorem.{RecallKept, OwnEntriesFree}
 use Rattle.game.proofs.Tests.{Tested, is, isn't, tested, eqb-is, eqb-isn't}

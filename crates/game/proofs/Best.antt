@@ -1,21 +1,20 @@
 -- The best choice decides every set of a tree with recall as document 01 says, no single action betters it, and no other choice decides so. Nothing is assumed.
-use mathlib.Core.Path.{_≡_, refl, sym, ap, ap₂, _∙_, fun-ext}
-use mathlib.Core.Bool.{Bool, true, false, cond}
-use mathlib.Core.Logic.{_⊎_, inl, inr}
-use mathlib.Core.List.{List, [], _∷_, _++_}
+use mathlib.Core.Path.{_≡_, sym, ap, _∙_, fun-ext}
+use mathlib.Core.Bool.{Bool, cond}
+use mathlib.Core.List.{[]}
 use Prim.Native.Nat.{ℕ, zero, suc, pred, _+_, _≤_, _<_, zero-le}
 use native.Mathlib.Nat as NatL
 use native.Mathlib.Omega.{arith}
-use lib.Dec.{T, eqb}
-use lib.IntN.{ℤ, pos}
+use lib.Dec.{eqb}
+use lib.IntN.{ℤ}
 use lib.Signed.{ltZ, _≤ℤ_, _<ℤ_, ≤ℤ-refl, ltZ-no, ltZ-yes, clashℤ}
 use lib.ListN.{length}
 use Rattle.game.specs.Tree.{Key}
-use Rattle.game.specs.Reply.{Reply, leaf, split, own, Replies, none, more, count, Choice, value, Node, nodes, nodesAll, same, keep, withKey, members, setSum, highest, lowest, actions, depth, decided, best, bestValue, EveryOwn, Decides, Optimal}
-use Rattle.game.specs.Recall.{Path, Recalled, RecalledAll, RecalledKids, RecallsOwn}
+use Rattle.game.specs.Reply.{Reply, Choice, members, setSum, highest, lowest, actions, depth, decided, best, EveryOwn, Decides, Optimal}
+use Rattle.game.specs.Recall.{Path, Recalled}
 use Rattle.game.specs.Theorem.{LowestOfGreatest, BestDecides, DecidesAlike, BestOptimal}
 use Rattle.game.proofs.Integers.{≤ℤ-trans, <ℤ-le}
-use Rattle.game.proofs.Tests.{Tested, is, isn't, tested, T-of, same→eq, eqb-is, eqb-isn't}
+use Rattle.game.proofs.Tests.{Tested, is, isn't, tested, T-of, eqb-is, eqb-isn't}
 use Rattle.game.proofs.Own.{own-both, own-map, value-agree, level-below, own-actions, set-agree}
 
 -- ---- the lowest action with the greatest sum

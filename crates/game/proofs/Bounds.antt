@@ -1,17 +1,17 @@
 -- What the sums of a set come to at most: the units of its members add up to no more than the root's, so no sum leaves the root's units × the largest payoff. Nothing is assumed.
 -- By recall the members of a set lie behind the same own moves, so only chance and the others' moves part them, and these part the units too (`members-light`).
-use mathlib.Core.Path.{_≡_, refl, sym, ap, ap₂, _∙_}
+use mathlib.Core.Path.{_≡_, refl, sym, ap, _∙_}
 use mathlib.Core.Logic.{_⊎_, inl, inr}
 use mathlib.Core.Bool.{Bool, true, false, cond}
 use mathlib.Core.List.{List, [], _∷_, _++_}
 use Prim.Native.Nat.{ℕ, zero, suc, _+_, _*_, _-_, _/_, _≤_, _<_, zero-le}
 use native.Mathlib.Nat as NatL
 use native.Mathlib.Omega.{arith}
-use lib.Dec.{T, eqb, ltb}
+use lib.Dec.{eqb, ltb}
 use lib.IntN.{ℤ, pos, negsuc, _+ℤ_, natAbs}
 use lib.ListN.{length, take, drop, length-drop}
 use Rattle.game.specs.Sums.{_·_, sum, sumℕ, parts}
-use Rattle.game.specs.Tree.{Key, Tree, end, chance, decide, Trees, nil, cons, fan, Strategy, all, worth, worthAll, worthKids, units, unitsAll, unitsKids, Every, EveryAll, Pays, PaysAll, Valid}
+use Rattle.game.specs.Tree.{Key, Tree, end, chance, decide, Trees, nil, cons, fan, Strategy, all, worth, worthAll, worthKids, units, unitsAll, unitsKids, Every, EveryAll, Pays, PaysAll}
 use Rattle.game.specs.Reply.{Reply, leaf, split, own, Replies, none, more, node, share, replyTree, replyAll, replyKids, Choice, value, total, pick, Node, nodes, nodesAll, same, keep, withKey, members}
 use Rattle.game.specs.Recall.{Path, Recalled, RecalledAll, RecalledKids, RecallsOwn}
 use Rattle.game.specs.Theorem.{MembersUnits, SetSumBound, ValueBound, WorthBound}
@@ -347,19 +347,25 @@ module _ (D i : ℕ) (D-pos : 0 < D) (s : Strategy) where
     worth-size-kids nil u j k a B h = zero-le
     worth-size-kids (cons t f) u j k a B h = omega (arith, size-of-sum (worth (all D) s i (u * s j k a / D) t) (worthKids (all D) s i u j k (suc a) f), worth-size t (u * s j k a / D) B (h .0), worth-size-kids f u j k (suc a) B (h .1))
 
+-- ---- the bounds, of any reply tree with recall
+pub members-weight : (r : Reply) (k : Key) (n : ℕ) → RecallsOwn r → Carries r → sumℕ (λ x. x .0) (take n (members r k)) ≤ weight r
+members-weight r k n h g = NatL.le-trans (sumℕ-take (λ x. x .0) n (members r k)) (members-light (h .0) (h .1) k r [] (h .2) g)
+
+pub set-sum-size : (r : Reply) (k : Key) (n B : ℕ) (c : Choice) (a : ℕ) → RecallsOwn r → Carries r → Bounded B r → natAbs (sum (λ x. pick c (x .2) a) (take n (members r k))) ≤ weight r * B
+set-sum-size r k n B c a h g b = NatL.le-trans (prefix-size B c a n (members r k) (members-ranged B c a k (nodes r) (nodes-ranged B c a r g b))) (NatL.mul-le-mul-right B (members-weight r k n h g))
+
+-- ---- and of a seat's
 pub members-units : MembersUnits
-members-units D i u n s t k d g v =
-    let q : RecallsOwn (replyTree D s i u t) = recall-kept D i u s t g in
-    NatL.le-trans (sumℕ-take (λ x. x .0) n (members (replyTree D s i u t) k))
-    (NatL.le-trans (members-light (q .0) (q .1) k (replyTree D s i u t) [] (q .2) (reply-carries D i d s t u v)) (reply-weight D i d s t u v))
+members-units D i u n s t k d g v = NatL.le-trans (members-weight (replyTree D s i u t) k n (recall-kept D i u s t g) (reply-carries D i d s t u v)) (reply-weight D i d s t u v)
 
 pub set-sum-bound : SetSumBound
 set-sum-bound D i u n B a s t k c d g v b = NatL.le-trans
-    (prefix-size B c a n (members (replyTree D s i u t) k) (members-ranged B c a k (nodes (replyTree D s i u t)) (nodes-ranged B c a (replyTree D s i u t) (reply-carries D i d s t u v) (reply-bounded D i d s t u B b))))
-    (NatL.mul-le-mul-right B (members-units D i u n s t k d g v))
+    (set-sum-size (replyTree D s i u t) k n B c a (recall-kept D i u s t g) (reply-carries D i d s t u v) (reply-bounded D i d s t u B b))
+    (NatL.mul-le-mul-right B (reply-weight D i d s t u v))
 
 pub value-bound : ValueBound
-value-bound D i u B s t c d v b = NatL.le-trans (value-size B c (replyTree D s i u t) (reply-carries D i d s t u v) (reply-bounded D i d s t u B b)) (NatL.mul-le-mul-right B (reply-weight D i d s t u v))
+value-bound D i u B s t c d v b = NatL.le-trans
+    (value-size B c (replyTree D s i u t) (reply-carries D i d s t u v) (reply-bounded D i d s t u B b)) (NatL.mul-le-mul-right B (reply-weight D i d s t u v))
 
 pub worth-bound : WorthBound
 worth-bound D i u B s t d v b = NatL.le-trans (worth-size D i d s t u B b) (NatL.mul-le-mul-right B (units-most D i d s t u v))

@@ -1,12 +1,12 @@
 -- The laws of the integers that `lib.IntN` and `lib.Signed` lack: multiples by a natural number, and how the order goes with sums and multiples. Nothing is assumed.
-use mathlib.Core.Path.{_≡_, refl, sym, ap, _∙_, subst, subst⁻¹}
+use mathlib.Core.Path.{_≡_, sym, ap, _∙_}
 use mathlib.Core.Logic.{_⊎_, inl, inr}
 use mathlib.Core.Bool.{Bool, true, false, not, cond}
 use Prim.Native.Nat.{ℕ, zero, suc, _+_, _*_, _-_, _≤_, _<_, zero-le, suc-le-suc}
 use native.Mathlib.Nat as NatL
 use native.Mathlib.Omega.{arith}
-use lib.Dec.{T, ltb, leb, ltb→lt, nltb→le, leb→le, le→leb}
-use lib.IntN.{ℤ, pos, negsuc, negℤ, subℕ, _+ℤ_, _*ℤ_, +ℤ-assoc, +ℤ-comm, +ℤ-idl, +ℤ-idr, +ℤ-invr, sucℤ-*ℤ, zero-*ℤ, *ℤ-zero}
+use lib.Dec.{T, ltb, ltb→lt, nltb→le, leb→le, le→leb}
+use lib.IntN.{ℤ, pos, negsuc, negℤ, _+ℤ_, +ℤ-assoc, +ℤ-comm, +ℤ-idl, +ℤ-idr, +ℤ-invr, sucℤ-*ℤ, zero-*ℤ, *ℤ-zero}
 use lib.Signed.{leZ, ltZ, _≤ℤ_, ≤ℤ-refl}
 use Rattle.game.specs.Sums.{_·_}
 

@@ -1,19 +1,18 @@
 -- A strategy's worth in a tree is the scaled worth of the seat's reply tree under the seat's own parts. So no rival is worth more than the best value, and the reply is worth just that. Nothing is assumed.
 use mathlib.Core.Path.{_≡_, refl, sym, ap, ap₂, _∙_, fun-ext}
 use mathlib.Core.Bool.{Bool, true, false, cond}
-use mathlib.Core.List.{List, [], _∷_}
-use Prim.Native.Nat.{ℕ, zero, suc, pred, _+_, _*_, _/_, _^_, _≤_, _<_}
+use Prim.Native.Nat.{ℕ, zero, suc, pred, _*_, _/_, _^_, _≤_, _<_}
 use native.Mathlib.Nat as NatL
 use native.Mathlib.Omega.{arith}
 use lib.Dec.{eqb}
-use lib.IntN.{ℤ, pos, _+ℤ_}
-use lib.Signed.{_≤ℤ_, ≤ℤ-refl}
+use lib.IntN.{_+ℤ_}
+use lib.Signed.{_≤ℤ_}
 use Rattle.game.specs.Sums.{_·_, parts}
-use Rattle.game.specs.Tree.{Key, Tree, end, chance, decide, Trees, nil, cons, fan, Strategy, all, but, worth, worthAll, worthKids, Splits, SplitsAll, Every, EveryAll, Valid, Keeps, Rival}
-use Rattle.game.specs.Reply.{Reply, leaf, split, own, Replies, none, more, node, share, replyTree, replyAll, replyKids, Choice, value, setSum, lowest, depth, best, bestValue, pure, reply, EveryOwn, scaled, scaledAll, scaledKids}
+use Rattle.game.specs.Tree.{Key, Tree, end, chance, decide, Trees, nil, cons, fan, Strategy, all, but, worth, worthAll, worthKids, Splits, SplitsAll, Valid, Keeps, Rival}
+use Rattle.game.specs.Reply.{Reply, node, share, replyTree, replyAll, replyKids, setSum, lowest, best, bestValue, pure, reply, EveryOwn, scaled, scaledAll, scaledKids}
 use Rattle.game.specs.Recall.{PerfectRecall, RecallsOwn}
 use Rattle.game.specs.Theorem.{NoFinerRivalBetter, FinerUnitsExact, ReplyIsRival, ReplyWorth, Link, LinkInUnits, NoRivalBetter}
-use Rattle.game.proofs.Integers.{·-zero, ·-sum, ·-mul, ·-cancel, ·-cancel-eq}
+use Rattle.game.proofs.Integers.{·-mul, ·-cancel, ·-cancel-eq}
 use Rattle.game.proofs.Tests.{Tested, is, isn't, tested, eqb-is, eqb-self, eqb-no}
 use Rattle.game.proofs.Units.{Fits, FitsAll, fits-scale, fits-scale-all, splits-fit, fits-exact, of-fan, part-of, worth-scale}
 use Rattle.game.proofs.Against.{every-of, every-both, same-reply-tree, reply-depth, every→own, own→every, recall-kept}
@@ -160,6 +159,10 @@ no-finer-rival-better C m D E i s z t d e h g v = rw (link C m D E i s z t d e h
 pub no-rival-better : NoRivalBetter
 no-rival-better C m D i s z t d h g v = ·-cancel (D ^ m) (worth (all D) z i (C * D ^ m) t) (bestValue (replyTree D s i (C * D ^ m) t)) (NatL.one-le-pow m D d)
     (rw (link-in-units C m D i s z t d h (v .1)) (parts-unbeaten C m D D i (C * D ^ m) s (z i) t h g (every→own D i s (λ j k n. parts n (z j k) ≡ D) t (C * D ^ m) (v .0))))
+
+-- a valid strategy is its own rival, so its worth is at most the best value
+pub own-rival : (D : ℕ → ℕ) (i : ℕ) (s : Strategy) (t : Tree) → Valid D s t → Rival D i s s t
+own-rival D i s t v = (v, every-of (λ j k n. (j ≡ i → ⊥) → (a : ℕ) → a < n → s j k a ≡ s j k a) (λ j k n e a l. refl) t)
 
 -- ---- the reply
 module _ (D i u : ℕ) (s : Strategy) (t : Tree) where

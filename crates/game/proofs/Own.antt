@@ -3,17 +3,17 @@ use mathlib.Core.Path.{_≡_, refl, sym, ap, ap₂, _∙_}
 use mathlib.Core.Logic.{_⊎_, inl, inr}
 use mathlib.Core.Bool.{Bool, true, false}
 use mathlib.Core.List.{List, [], _∷_, _++_}
-use Prim.Native.Nat.{ℕ, zero, suc, _+_, _≤_, _<_, max}
+use Prim.Native.Nat.{ℕ, zero, suc, _+_, _≤_, _<_}
 use native.Mathlib.Nat as NatL
 use native.Mathlib.Omega.{arith}
-use lib.IntN.{ℤ, pos, _+ℤ_}
+use lib.IntN.{_+ℤ_}
 use lib.ListN.{length}
 use Rattle.game.specs.Sums.{sum}
 use Rattle.game.specs.Tree.{Key}
 use Rattle.game.specs.Reply.{Reply, leaf, split, own, Replies, none, more, count, Choice, value, total, pick, Node, nodes, nodesAll, same, keep, withKey, members, setSum, actions, depth, depthAll, EveryOwn, EveryOwnAll}
 use Rattle.game.specs.Recall.{Path, Recalled, RecalledAll, RecalledKids}
 use Rattle.game.proofs.Tests.{Tested, is, isn't, tested, T-of, same→eq, same-self}
-use Rattle.game.proofs.Members.{withKey-append, withKey-none}
+use Rattle.game.proofs.Members.{withKey-none}
 
 -- ---- from two properties of each own node, a third
 module _ (P R S : Key → ℕ → Type 0) (g : (k : Key) (n : ℕ) → P k n → R k n → S k n) where

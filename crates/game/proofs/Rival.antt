@@ -2,19 +2,17 @@
 -- The worth of parts and the value of a choice differ by a sum over the own nodes (`balance`): each adds what the parts gain there over the choice, weighed by how much of
 -- the parts comes there. By recall that weight is the set's (`gain`), so the sum goes set by set (`weigh-mono`), and in no set is anything gained.
 use mathlib.Core.Path.{_≡_, refl, sym, ap, ap₂, _∙_}
-use mathlib.Core.Bool.{Bool, true, false, cond}
 use mathlib.Core.Logic.{_⊎_, inl, inr}
 use mathlib.Core.List.{List, [], _∷_, _++_}
-use Prim.Native.Nat.{ℕ, zero, suc, pred, _+_, _*_, _-_, _^_, _≤_, _<_, max}
+use Prim.Native.Nat.{ℕ, zero, suc, _+_, _*_, _-_, _^_, _≤_, _<_}
 use native.Mathlib.Nat as NatL
 use native.Mathlib.Omega.{arith}
-use lib.Dec.{eqb}
 use lib.IntN.{ℤ, pos, _+ℤ_, +ℤ-idl, +ℤ-idr}
 use lib.Signed.{_≤ℤ_, ≤ℤ-refl}
 use lib.ListN.{length}
 use Rattle.game.specs.Sums.{_·_, sum, parts}
 use Rattle.game.specs.Tree.{Key}
-use Rattle.game.specs.Reply.{Reply, leaf, split, own, Replies, none, more, count, Choice, value, total, pick, Node, nodes, nodesAll, withKey, members, setSum, depth, depthAll, pure, EveryOwn, Optimal, scaled, scaledAll, scaledKids}
+use Rattle.game.specs.Reply.{Reply, leaf, split, own, Replies, none, more, count, Choice, value, total, pick, Node, nodes, nodesAll, members, setSum, depth, depthAll, pure, EveryOwn, Optimal, scaled, scaledAll, scaledKids}
 use Rattle.game.specs.Recall.{Path, Recalled, RecalledAll, RecalledKids}
 use Rattle.game.specs.Theorem.{OptimalUnbeaten, PureWorth}
 use Rattle.game.proofs.Integers.{sums, ·-none, ·-zero, ·-one, ·-sum, ·-mul, ·-swap, +ℤ-mono, +ℤ-cancel, +ℤ-left-comm}

@@ -1,18 +1,22 @@
 -- The theorem tried on the small tree: its premises hold, its numbers are computed. Nothing is assumed.
-use mathlib.Core.Path.{_≡_, refl, subst}
-use mathlib.Core.Bool.{true, false, cond}
-use mathlib.Core.List.{List, [], _∷_}
-use Prim.Native.Nat.{ℕ, zero, suc, _≤_, _<_}
+use mathlib.Core.Path.{refl, subst}
+use mathlib.Core.Bool.{cond}
+use mathlib.Core.List.{[], _∷_}
 use native.Mathlib.Omega.{arith}
-use lib.IntN.{ℤ, pos, natAbs}
+use lib.Dec.{eqb}
 use lib.Signed.{_≤ℤ_}
 use Rattle.game.specs.Sums.{_·_, sum, sumℕ, parts}
-use Rattle.game.specs.Tree.{Tree, Splits, Pays, Every, Valid, all, worth, units, fan, Strategy, Rival}
-use Rattle.game.specs.Reply.{Reply, replyTree, value, nodes, withKey, highest, best, decided, depth, actions, reply, pure}
-use Rattle.game.specs.Recall.{Recall, PerfectRecall}
-use Rattle.game.specs.Small.{small, given, before, seen}
+use Rattle.game.specs.Tree.{Key, Splits, Pays, Every, Valid, all, worth, units}
+use Rattle.game.specs.Reply.{value, withKey, highest, best, reply}
+use Rattle.game.specs.Recall.{Path, Recall, PerfectRecall}
+use Rattle.game.specs.Small.{small, given, seen}
 use Rattle.game.specs.Theorem.{SmallPremises, SmallChoices, SmallNumbers, SmallNoUnits, SmallNoRival}
 use Rattle.game.proofs.Link.{no-rival-better}
+
+-- seat 0 comes to set 4 by action 1 of set 1, to its other sets by no move of its own
+unfoldable before : Key → Path
+before [] = []
+before (n ∷ k) = cond (eqb n 4) ((1 ∷ [], 1) ∷ []) []
 
 small-splits : Splits 3 2 small
 unfolding Splits small
@@ -20,7 +24,13 @@ small-splits = (1, refl, omega arith, omega arith)
 
 small-recall : PerfectRecall 0 small
 unfolding Recall small before
-small-recall = (before, (λ k. 2), (((λ e. (refl, refl)), (tt, (((λ e. (refl, refl)), (tt, (tt, tt))), tt))), (((λ e. (refl, refl)), (tt, (((λ e. (refl, refl)), (tt, (tt, tt))), tt))), (((λ e. absurd (omega arith)), (tt, (((λ e. (refl, refl)), (tt, (tt, tt))), tt))), tt))))
+small-recall = (before, (λ k. 2), (
+  ((λ e. (refl, refl)), (tt, (((λ e. (refl, refl)), (tt, (tt, tt))), tt))),
+  (
+    ((λ e. (refl, refl)), (tt, (((λ e. (refl, refl)), (tt, (tt, tt))), tt))),
+    (((λ e. absurd (omega arith)), (tt, (((λ e. (refl, refl)), (tt, (tt, tt))), tt))), tt),
+  ),
+))
 
 small-valid : Valid (all 2) given small
 unfolding Every small given parts

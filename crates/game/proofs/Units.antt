@@ -1,13 +1,11 @@
 -- Whole units divide evenly: what U = C × D^m gives, that all divisions are exact, that the ends' units add up, and that p times the units are worth p times as much. Nothing is assumed.
 use mathlib.Core.Path.{_≡_, refl, sym, ap, ap₂, _∙_}
-use mathlib.Core.Bool.{Bool, true, false, cond}
-use Prim.Native.Nat.{ℕ, zero, suc, pred, _+_, _*_, _/_, _^_, _≤_, _<_}
+use Prim.Native.Nat.{ℕ, zero, suc, pred, _+_, _*_, _/_, _^_, _<_}
 use native.Mathlib.Nat as NatL
 use native.Mathlib.Omega.{arith}
-use lib.Dec.{eqb}
-use lib.IntN.{ℤ, pos, _+ℤ_}
+use lib.IntN.{_+ℤ_}
 use Rattle.game.specs.Sums.{_·_, parts}
-use Rattle.game.specs.Tree.{Key, Tree, end, chance, decide, Trees, nil, cons, fan, Strategy, all, but, worth, worthAll, worthKids, units, unitsAll, unitsKids, Exact, ExactAll, ExactKids, Splits, SplitsAll, Every, EveryAll, Valid}
+use Rattle.game.specs.Tree.{Key, Tree, end, chance, decide, Trees, nil, cons, fan, Strategy, all, worth, worthAll, worthKids, units, unitsAll, unitsKids, Exact, ExactAll, ExactKids, Splits, SplitsAll, Every, EveryAll, Valid}
 use Rattle.game.specs.Theorem.{UnitsExact, UnitsAddUp}
 use Rattle.game.proofs.Integers.{·-zero, ·-sum, ·-mul}
 

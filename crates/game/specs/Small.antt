@@ -1,12 +1,11 @@
 -- A small tree to try the theorem on. Seat 0's set 1 has two members, and the first alone would decide otherwise; set 4 lies below it; set 3 gets no units.
 use mathlib.Core.Bool.{cond}
-use mathlib.Core.List.{List, [], _∷_}
+use mathlib.Core.List.{[], _∷_}
 use Prim.Native.Nat.{ℕ}
 use lib.Dec.{eqb}
 use lib.IntN.{ℤ, pos, negsuc, negℤ}
-use Rattle.game.specs.Tree.{Key, Tree, end, chance, decide, Trees, nil, cons, Strategy}
+use Rattle.game.specs.Tree.{Tree, end, chance, decide, nil, cons, Strategy}
 use Rattle.game.specs.Reply.{Reply, replyTree}
-use Rattle.game.specs.Recall.{Path}
 
 -- z to seat 0, paid by seat 1
 unfoldable pub pays : ℤ → Tree
@@ -26,11 +25,6 @@ small = chance (cons (either 0 1 (pays (pos 1)) (either 0 4 (pays (pos 0)) (pays
 unfoldable pub given : Strategy
 given j [] a = 0
 given j (n ∷ k) a = cond (eqb n 3) (cond (eqb a 0) 0 2) (cond (eqb n 2) (cond (eqb a 0) 2 0) 1)
-
--- seat 0 comes to set 4 by action 1 of set 1, to its other sets by no move of its own
-unfoldable pub before : Key → Path
-before [] = []
-before (n ∷ k) = cond (eqb n 4) ((1 ∷ [], 1) ∷ []) []
 
 -- seat 0's reply tree, from U = 3 × 2² units
 unfoldable pub seen : Reply

@@ -1,7 +1,7 @@
 -- The reply theorem, statement by statement, of the definitions in Tree, Reply and Recall (document 01, "Whole units"). Each is proved in proofs/Theorem.antt, which assumes nothing.
 -- Throughout: t is a tree, s a strategy with D parts, i a seat, z a rival of the seat, r a reply tree, c a choice; the root has U = C × D^m units.
 use mathlib.Core.Path.{_≡_}
-use mathlib.Core.List.{List, [], _∷_}
+use mathlib.Core.List.{[], _∷_}
 use Prim.Native.Nat.{ℕ, _*_, _^_, _≤_, _<_}
 use lib.IntN.{ℤ, pos, natAbs}
 use lib.Signed.{_≤ℤ_, _<ℤ_}
@@ -50,11 +50,12 @@ OptimalUnbeaten = (E m : ℕ) (p : Key → ℕ → ℕ) (c : Choice) (r : Reply)
 abbrev pub PureWorth : Type 0
 PureWorth = (E m : ℕ) (c : Choice) (r : Reply) → depth r ≤ m → scaled E (pure E c) r m ≡ E ^ m · value c r
 
--- A rival with E parts in its own sets, the others keeping D, is worth no more than the best value: its worth is over U × E^m, by exact divisions.
+-- A rival with E parts in its own sets, the others keeping D, is worth no more than the best value; its worth is over U × E^m,
 abbrev pub NoFinerRivalBetter : Type 0
 NoFinerRivalBetter = (C m D E i : ℕ) (s z : Strategy) (t : Tree) → 0 < D → 0 < E → Splits C m t → PerfectRecall i t → Rival (but i E D) i s z t
     → worth (but i E D) z i (E ^ m * U C D m) t ≤ℤ (E ^ m · bestValue (replyTree D s i (U C D m) t))
 
+-- by exact divisions.
 abbrev pub FinerUnitsExact : Type 0
 FinerUnitsExact = (C m D E i : ℕ) (z : Strategy) (t : Tree) → 0 < D → 0 < E → Splits C m t → Exact (but i E D) z (E ^ m * U C D m) t
 
@@ -92,10 +93,11 @@ abbrev pub SetSumBound : Type 0
 SetSumBound = (D i u n B a : ℕ) (s : Strategy) (t : Tree) (k : Key) (c : Choice) → 0 < D → PerfectRecall i t → Valid (all D) s t → Pays B i t
     → natAbs (sum (λ x. pick c (x .2) a) (take n (members (replyTree D s i u t) k))) ≤ u * B
 
--- and so are the value under any choice, and the worth.
+-- and so is the value under any choice,
 abbrev pub ValueBound : Type 0
 ValueBound = (D i u B : ℕ) (s : Strategy) (t : Tree) (c : Choice) → 0 < D → Valid (all D) s t → Pays B i t → natAbs (value c (replyTree D s i u t)) ≤ u * B
 
+-- and the worth.
 abbrev pub WorthBound : Type 0
 WorthBound = (D i u B : ℕ) (s : Strategy) (t : Tree) → 0 < D → Valid (all D) s t → Pays B i t → natAbs (worth (all D) s i u t) ≤ u * B
 
