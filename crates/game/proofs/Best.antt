@@ -48,7 +48,8 @@ highest-lowest q (suc n) = at (tested (ltZ (q (highest q n)) (q (suc n)))) (high
     at : Tested B → Lowest q n (highest q n) → Lowest q (suc n) (cond B (suc n) (highest q n))
     at (is e) h = let g : q (highest q n) <ℤ q (suc n) = ltZ-yes (T-of e) in rw e (
       NatL.le-refl (suc n),
-      (λ a l. one-more (suc n) (≤ℤ-refl (q (suc n))) (λ b w. ≤ℤ-trans (q b) (q (highest q n)) (q (suc n)) (h .1 b w) (<ℤ-le (q (highest q n)) (q (suc n)) (T-of e))) a (tested (eqb a (suc n))) l),
+      (λ a l. one-more (suc n) (≤ℤ-refl (q (suc n)))
+          (λ b w. ≤ℤ-trans (q b) (q (highest q n)) (q (suc n)) (h .1 b w) (<ℤ-le (q (highest q n)) (q (suc n)) (T-of e))) a (tested (eqb a (suc n))) l),
       λ a l. ≤ℤ-<ℤ-trans (q a) (q (highest q n)) (q (suc n)) (h .1 a (NatL.le-of-suc-le-suc l)) g,
     )
     at (isn't e) h = rw e (omega (arith, h .0), (λ a l. one-more (highest q n) (ltZ-no (rw e tt)) (h .1) a (tested (eqb a (suc n))) l), h .2)
@@ -77,7 +78,8 @@ module _ (r : Reply) (H : Key → Path) (n : Key → ℕ) (h : Recalled H n [] r
 
   best-decides-sets : Decides (best r) r
   unfolding best decided
-  best-decides-sets = own-both (λ k b. b ≡ actions (members r k)) (λ k b. m ≤ m + length (H k) → decided r m k ≡ decided r (suc m) k) (λ k b. decided r m k ≡ lowest b (setSum (decided r m) r k))
+  best-decides-sets = own-both (λ k b. b ≡ actions (members r k)) (λ k b. m ≤ m + length (H k) → decided r m k ≡ decided r (suc m) k)
+      (λ k b. decided r m k ≡ lowest b (setSum (decided r m) r k))
       (λ k b e f. f (omega arith) ∙ ap (λ x. lowest x (setSum (decided r m) r k)) (sym e)) r (own-actions H n r h) (settled m)
 
   -- two choices that decide every set are one

@@ -6,7 +6,7 @@ use Prim.Native.Nat.{ℕ, zero, suc, _+_, _*_, _-_, _≤_, _<_, zero-le, suc-le-
 use native.Mathlib.Nat as NatL
 use native.Mathlib.Omega.{arith}
 use lib.Dec.{T, ltb, ltb→lt, nltb→le, leb→le, le→leb}
-use lib.IntN.{ℤ, pos, negsuc, negℤ, _+ℤ_, +ℤ-assoc, +ℤ-comm, +ℤ-idl, +ℤ-idr, +ℤ-invr, sucℤ-*ℤ, zero-*ℤ, *ℤ-zero}
+use lib.IntN.{ℤ, pos, negsuc, negℤ, _+ℤ_, +ℤ-assoc, +ℤ-comm, +ℤ-idl, +ℤ-idr, +ℤ-invr, natAbs, sucℤ-*ℤ, zero-*ℤ, *ℤ-zero}
 use lib.Signed.{leZ, ltZ, _≤ℤ_, ≤ℤ-refl}
 use Rattle.game.specs.Sums.{_·_}
 
@@ -159,3 +159,18 @@ pub <ℤ-le : (a b : ℤ) → T (ltZ a b) → a ≤ℤ b
 
 pub ·-swap : (m n : ℕ) (a : ℤ) → m · (n · a) ≡ n · (m · a)
 ·-swap m n a = sym (·-mul m n a) ∙ ap (λ x. x · a) (NatL.mul-comm m n) ∙ ·-mul n m a
+
+-- ---- the size of sums and multiples
+cond-size : (b : Bool) (x y : ℤ) (n : ℕ) → natAbs x ≤ n → natAbs y ≤ n → natAbs (cond b x y) ≤ n
+cond-size true x y n h k = h
+cond-size false x y n h k = k
+
+pub size-of-sum : (a b : ℤ) → natAbs (a +ℤ b) ≤ natAbs a + natAbs b
+size-of-sum (pos a) (pos b) = NatL.le-refl (a + b)
+size-of-sum (pos a) (negsuc b) = cond-size (ltb a (suc b)) (negsuc (suc b - suc a)) (pos (a - suc b)) (a + suc b) (omega arith) (omega arith)
+size-of-sum (negsuc a) (pos b) = cond-size (ltb b (suc a)) (negsuc (suc a - suc b)) (pos (b - suc a)) (suc a + b) (omega arith) (omega arith)
+size-of-sum (negsuc a) (negsuc b) = omega arith
+
+pub size-of-multiple : (n : ℕ) (z : ℤ) (B : ℕ) → natAbs z ≤ B → natAbs (n · z) ≤ n * B
+size-of-multiple zero z B h = rw (·-none z) zero-le
+size-of-multiple (suc n) z B h = rw (·-suc n z, NatL.suc-mul n B) (NatL.le-trans (size-of-sum (n · z) z) (NatL.add-le-add (size-of-multiple n z B h) h))

@@ -4,10 +4,13 @@ pub mod Sums
 pub mod Members
 pub mod Own
 pub mod Best
-pub mod Rival
+pub mod Unbeaten
+pub mod Pure
+pub mod Weights
 pub mod Units
 pub mod Against
 pub mod Link
+pub mod Rival
 pub mod Bounds
 pub mod Small
 pub mod Theorem

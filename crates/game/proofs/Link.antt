@@ -1,4 +1,4 @@
--- A strategy's worth in a tree is the scaled worth of the seat's reply tree under the seat's own parts. So no rival is worth more than the best value, and the reply is worth just that. Nothing is assumed.
+-- A strategy's worth in a tree is the scaled worth of the seat's reply tree under the seat's own parts. Nothing is assumed.
 use mathlib.Core.Path.{_≡_, refl, sym, ap, ap₂, _∙_, fun-ext}
 use mathlib.Core.Bool.{Bool, true, false, cond}
 use Prim.Native.Nat.{ℕ, zero, suc, pred, _*_, _/_, _^_, _≤_, _<_}
@@ -6,18 +6,14 @@ use native.Mathlib.Nat as NatL
 use native.Mathlib.Omega.{arith}
 use lib.Dec.{eqb}
 use lib.IntN.{_+ℤ_}
-use lib.Signed.{_≤ℤ_}
-use Rattle.game.specs.Sums.{_·_, parts}
-use Rattle.game.specs.Tree.{Key, Tree, end, chance, decide, Trees, nil, cons, fan, Strategy, all, but, worth, worthAll, worthKids, Splits, SplitsAll, Valid, Keeps, Rival}
-use Rattle.game.specs.Reply.{Reply, node, share, replyTree, replyAll, replyKids, setSum, lowest, best, bestValue, pure, reply, EveryOwn, scaled, scaledAll, scaledKids}
-use Rattle.game.specs.Recall.{PerfectRecall, RecallsOwn}
-use Rattle.game.specs.Theorem.{NoFinerRivalBetter, FinerUnitsExact, ReplyIsRival, ReplyWorth, Link, LinkInUnits, NoRivalBetter}
-use Rattle.game.proofs.Integers.{·-mul, ·-cancel, ·-cancel-eq}
-use Rattle.game.proofs.Tests.{Tested, is, isn't, tested, eqb-is, eqb-self, eqb-no}
+use Rattle.game.specs.Sums.{_·_}
+use Rattle.game.specs.Tree.{Key, Tree, end, chance, decide, Trees, nil, cons, fan, Strategy, all, but, worth, worthAll, worthKids, Splits, SplitsAll}
+use Rattle.game.specs.Reply.{node, share, replyTree, replyAll, replyKids, scaled, scaledAll, scaledKids}
+use Rattle.game.specs.Theorem.{FinerUnitsExact, Link, LinkInUnits}
+use Rattle.game.proofs.Integers.{·-mul}
+use Rattle.game.proofs.Tests.{Tested, is, isn't, tested, eqb-is}
 use Rattle.game.proofs.Units.{Fits, FitsAll, fits-scale, fits-scale-all, splits-fit, fits-exact, of-fan, part-of, worth-scale}
-use Rattle.game.proofs.Against.{every-of, every-both, same-reply-tree, reply-depth, every→own, own→every, recall-kept}
-use Rattle.game.proofs.Best.{best-decides, best-optimal, lowest-of-greatest}
-use Rattle.game.proofs.Rival.{optimal-unbeaten, pure-worth, pure-parts}
+use Rattle.game.proofs.Against.{same-reply-tree}
 
 module _ (D i : ℕ) where
   -- ---- units that fit all seats fit where seat i divides by nothing
@@ -48,13 +44,22 @@ module _ (D i : ℕ) where
 
       fits-finer : (t : Tree) (C m u r : ℕ) → Splits C m t → m ≤ r → Fits (but i 1 D) u t → Fits (but i E D) (E ^ r * u) t
       fits-finer (end p) C m u r g l h = tt
-      fits-finer (chance f) C m u r g l h = (E ^ r * h .0, ap (λ n. E ^ r * n) (h .1) ∙ NatL.mul-left-comm (E ^ r) (fan f) (h .0), h .2, fits-finer-all f (g .0) m (h .0) r (g .3) l (h .3))
-      fits-finer (decide j k f) C m u r g l h = at (tested (eqb j i)) (fits-finer-all f C (pred m) (h .0) (pred r) (g .1) (omega arith) (h .2)) (fits-finer-all f C (pred m) (h .0) r (g .1) (omega arith) (h .2))
+      fits-finer (chance f) C m u r g l h = (
+        E ^ r * h .0,
+        ap (λ n. E ^ r * n) (h .1) ∙ NatL.mul-left-comm (E ^ r) (fan f) (h .0),
+        h .2,
+        fits-finer-all f
+            (g .0) m (h .0) r (g .3) l (h .3),
+      )
+      fits-finer (decide j k f) C m u r g l h = at (tested (eqb j i)) (fits-finer-all f C (pred m) (h .0) (pred r) (g .1) (omega arith) (h .2))
+          (fits-finer-all f C (pred m) (h .0) r (g .1) (omega arith) (h .2))
         where
-          at : Tested (eqb j i) → FitsAll (but i E D) (E ^ pred r * h .0) f → FitsAll (but i E D) (E ^ r * h .0) f → (q : ℕ) × (E ^ r * u ≡ but i E D j * q) × FitsAll (but i E D) q f
+          at : Tested (eqb j i) → FitsAll (but i E D) (E ^ pred r * h .0) f → FitsAll (but i E D) (E ^ r * h .0) f
+              → (q : ℕ) × (E ^ r * u ≡ but i E D j * q) × FitsAll (but i E D) q f
           at (is e) x y = (
             E ^ pred r * h .0,
-            ap (λ n. E ^ r * n) (h .1 ∙ ap (λ b. cond b 1 D * h .0) e ∙ NatL.one-mul (h .0)) ∙ one-less r (h .0) (omega (arith, g .0)) ∙ sym (ap (λ b. cond b E D * (E ^ pred r * h .0)) e),
+            ap (λ n. E ^ r * n) (h .1 ∙ ap (λ b. cond b 1 D * h .0) e ∙ NatL.one-mul (h .0)) ∙ one-less r (h .0) (omega (arith, g .0)) ∙ sym
+                (ap (λ b. cond b E D * (E ^ pred r * h .0)) e),
             x,
           )
           at (isn't e) x y = (
@@ -77,23 +82,28 @@ module _ (D i : ℕ) where
 
       -- the units of seat i's child, and of another seat's
       own-part : (j : ℕ) (k : Key) (a u r : ℕ) → eqb j i ≡ true → 0 < r → E ^ r * u * z j k a / but i E D j ≡ z i k a * (E ^ pred r * u)
-      own-part j k a u r e l = ap₂ (λ b n. E ^ r * u * n / cond b E D) e (ap (λ x. z x k a) (eqb-is j i e)) ∙ part-of E (E ^ r * u) (E ^ pred r * u) (z i k a) E-pos (one-less r u l)
+      own-part j k a u r e l = ap₂ (λ b n. E ^ r * u * n / cond b E D) e (ap (λ x. z x k a) (eqb-is j i e)) ∙ part-of E (E ^ r * u) (E ^ pred r * u)
+          (z i k a) E-pos (one-less r u l)
 
       else-part : (j : ℕ) (k : Key) (a u q r : ℕ) → eqb j i ≡ false → u ≡ D * q → E ^ r * u * z j k a / but i E D j ≡ E ^ r * (z j k a * q)
       else-part j k a u q r e h =
-          ap (λ b. E ^ r * u * z j k a / cond b E D) e ∙ part-of D (E ^ r * u) (E ^ r * q) (z j k a) D-pos (ap (λ n. E ^ r * n) h ∙ NatL.mul-left-comm (E ^ r) D q)
+          ap (λ b. E ^ r * u * z j k a / cond b E D) e ∙ part-of D (E ^ r * u) (E ^ r * q) (z j k a) D-pos
+          (ap (λ n. E ^ r * n) h ∙ NatL.mul-left-comm (E ^ r) D q)
           ∙ NatL.mul-left-comm (z j k a) (E ^ r) q
 
       mutual
         unfolding worth replyTree Fits Splits scaled node share
 
-        link-tree : (t : Tree) (C m u r : ℕ) → Splits C m t → m ≤ r → Fits (but i 1 D) u t → scaled E (z i) (replyTree D z i u t) r ≡ worth (but i E D) z i (E ^ r * u) t
+        link-tree : (t : Tree) (C m u r : ℕ) → Splits C m t → m ≤ r → Fits (but i 1 D) u t
+            → scaled E (z i) (replyTree D z i u t) r ≡ worth (but i E D) z i (E ^ r * u) t
         link-tree (end p) C m u r g l h = sym (·-mul (E ^ r) u (p i))
         link-tree (chance f) C m u r g l h =
             ap (λ n. scaledAll E (z i) (replyAll D z i n f) r) (of-fan u (fan f) (h .0) (h .1) (h .2)) ∙ link-all f (g .0) m (h .0) r (g .3) l (h .3)
-            ∙ ap (λ n. worthAll (but i E D) z i n f) (sym (of-fan (E ^ r * u) (fan f) (E ^ r * h .0) (ap (λ n. E ^ r * n) (h .1) ∙ NatL.mul-left-comm (E ^ r) (fan f) (h .0)) (h .2)))
+            ∙ ap (λ n. worthAll (but i E D) z i n f)
+            (sym (of-fan (E ^ r * u) (fan f) (E ^ r * h .0) (ap (λ n. E ^ r * n) (h .1) ∙ NatL.mul-left-comm (E ^ r) (fan f) (h .0)) (h .2)))
         link-tree (decide j k f) C m u r g l h = at (tested (eqb j i))
-            (λ e. link-own f C (pred m) u r j k 0 e (omega (arith, g .0)) (g .1) (omega arith) (rw (unit e) (h .2))) (λ e. link-else f C (pred m) u (h .0) r j k 0 e (h .1 ∙ ap (λ b. cond b 1 D * h .0) e) (g .1) (omega arith) (h .2))
+            (λ e. link-own f C (pred m) u r j k 0 e (omega (arith, g .0)) (g .1) (omega arith) (rw (unit e) (h .2)))
+            (λ e. link-else f C (pred m) u (h .0) r j k 0 e (h .1 ∙ ap (λ b. cond b 1 D * h .0) e) (g .1) (omega arith) (h .2))
           where
             unit : eqb j i ≡ true → u ≡ h .0
             unit e = h .1 ∙ ap (λ b. cond b 1 D * h .0) e ∙ NatL.one-mul (h .0)
@@ -104,7 +114,8 @@ module _ (D i : ℕ) where
             at (is e) x y = ap (λ b. scaled E (z i) (node b u k (replyKids D z i b u j k 0 f)) r) e ∙ x e
             at (isn't e) x y = ap (λ b. scaled E (z i) (node b u k (replyKids D z i b u j k 0 f)) r) e ∙ y e
 
-        link-all : (f : Trees) (C m u r : ℕ) → SplitsAll C m f → m ≤ r → FitsAll (but i 1 D) u f → scaledAll E (z i) (replyAll D z i u f) r ≡ worthAll (but i E D) z i (E ^ r * u) f
+        link-all : (f : Trees) (C m u r : ℕ) → SplitsAll C m f → m ≤ r → FitsAll (but i 1 D) u f
+            → scaledAll E (z i) (replyAll D z i u f) r ≡ worthAll (but i E D) z i (E ^ r * u) f
         link-all nil C m u r g l h = refl
         link-all (cons t f) C m u r g l h = ap₂ _+ℤ_ (link-tree t C m u r (g .0) l (h .0)) (link-all f C m u r (g .1) l (h .1))
 
@@ -112,7 +123,8 @@ module _ (D i : ℕ) where
             → scaledKids E (z i) k a (replyKids D z i true u j k a f) (pred r) ≡ worthKids (but i E D) z i (E ^ r * u) j k a f
         link-own nil C m u r j k a e b g l h = refl
         link-own (cons t f) C m u r j k a e b g l h = ap₂ _+ℤ_
-            (ap (λ x. z i k a · x) (link-tree t C m u (pred r) (g .0) l (h .0)) ∙ sym (worth-scale (but i E D) parts-pos z i t (E ^ pred r * u) (z i k a) (fits-finer t C m u (pred r) (g .0) l (h .0)))
+            (ap (λ x. z i k a · x) (link-tree t C m u (pred r) (g .0) l (h .0)) ∙ sym
+            (worth-scale (but i E D) parts-pos z i t (E ^ pred r * u) (z i k a) (fits-finer t C m u (pred r) (g .0) l (h .0)))
             ∙ ap (λ n. worth (but i E D) z i n t) (sym (own-part j k a u r e b)))
             (link-own f C m u r j k (suc a) e b (g .1) l (h .1))
 
@@ -120,7 +132,8 @@ module _ (D i : ℕ) where
             → scaledAll E (z i) (replyKids D z i false u j k a f) r ≡ worthKids (but i E D) z i (E ^ r * u) j k a f
         link-else nil C m u q r j k a e w g l h = refl
         link-else (cons t f) C m u q r j k a e w g l h = ap₂ _+ℤ_
-            (ap (λ n. scaled E (z i) (replyTree D z i n t) r) (part-of D u q (z j k a) D-pos w) ∙ link-tree t C m (z j k a * q) r (g .0) l (fits-scale t (but i 1 D) q (z j k a) (h .0))
+            (ap (λ n. scaled E (z i) (replyTree D z i n t) r) (part-of D u q (z j k a) D-pos w) ∙ link-tree t C m (z j k a * q) r (g .0) l
+            (fits-scale t (but i 1 D) q (z j k a) (h .0))
             ∙ ap (λ n. worth (but i E D) z i n t) (sym (else-part j k a u q r e w)))
             (link-else f C m u q r j k (suc a) e w (g .1) l (h .1))
 
@@ -143,70 +156,3 @@ but-all i D = fun-ext (λ j. at (eqb j i))
 pub link-in-units : LinkInUnits
 link-in-units C m D i s z t d h o = sym (worth-scale (all D) (λ j. d) z i t (C * D ^ m) (D ^ m) (splits-fit D t C m h))
     ∙ ap (λ g. worth g z i (D ^ m * (C * D ^ m)) t) (sym (but-all i D)) ∙ link C m D D i s z t d d h o
-
--- ---- no rival is worth more
-parts-unbeaten : (C m D E i u : ℕ) (s : Strategy) (p : Key → ℕ → ℕ) (t : Tree) → Splits C m t → PerfectRecall i t → EveryOwn (λ k n. parts n (p k) ≡ E) (replyTree D s i u t)
-    → scaled E p (replyTree D s i u t) m ≤ℤ (E ^ m · bestValue (replyTree D s i u t))
-parts-unbeaten C m D E i u s p t h g e = optimal-unbeaten E m p (best (replyTree D s i u t)) (replyTree D s i u t) recalls (reply-depth D i s t u C m h) (best-optimal (replyTree D s i u t) recalls) e
-  where
-    recalls : RecallsOwn (replyTree D s i u t)
-    recalls = recall-kept D i u s t g
-
-pub no-finer-rival-better : NoFinerRivalBetter
-no-finer-rival-better C m D E i s z t d e h g v = rw (link C m D E i s z t d e h (v .1)) (parts-unbeaten C m D E i (C * D ^ m) s (z i) t h g
-    (rw (eqb-self i) at (every→own D i s (λ j k n. parts n (z j k) ≡ but i E D j) t (C * D ^ m) (v .0))))
-
-pub no-rival-better : NoRivalBetter
-no-rival-better C m D i s z t d h g v = ·-cancel (D ^ m) (worth (all D) z i (C * D ^ m) t) (bestValue (replyTree D s i (C * D ^ m) t)) (NatL.one-le-pow m D d)
-    (rw (link-in-units C m D i s z t d h (v .1)) (parts-unbeaten C m D D i (C * D ^ m) s (z i) t h g (every→own D i s (λ j k n. parts n (z j k) ≡ D) t (C * D ^ m) (v .0))))
-
--- a valid strategy is its own rival, so its worth is at most the best value
-pub own-rival : (D : ℕ → ℕ) (i : ℕ) (s : Strategy) (t : Tree) → Valid D s t → Rival D i s s t
-own-rival D i s t v = (v, every-of (λ j k n. (j ≡ i → ⊥) → (a : ℕ) → a < n → s j k a ≡ s j k a) (λ j k n e a l. refl) t)
-
--- ---- the reply
-module _ (D i u : ℕ) (s : Strategy) (t : Tree) where
-  abbrev seen : Reply
-  seen = replyTree D s i u t
-
-  reply-own : (j : ℕ) (k : Key) → eqb j i ≡ true → reply D s i u t j k ≡ pure D (best seen) k
-  unfolding reply
-  reply-own j k e = fun-ext (λ a. ap (λ b. cond b (pure D (best seen) k a) (s j k a)) e)
-
-  reply-else : (j : ℕ) (k : Key) → eqb j i ≡ false → reply D s i u t j k ≡ s j k
-  unfolding reply
-  reply-else j k e = fun-ext (λ a. ap (λ b. cond b (pure D (best seen) k a) (s j k a)) e)
-
-  reply-keeps : Keeps i s (reply D s i u t) t
-  reply-keeps = every-of (λ j k n. (j ≡ i → ⊥) → (a : ℕ) → a < n → reply D s i u t j k a ≡ s j k a) (λ j k n e a l. ap (λ p. p a) (reply-else j k (eqb-no j i e))) t
-
-  module _ (d : 0 < D) (v : Valid (all D) s t) where
-    abbrev Chosen : ℕ → Key → ℕ → Type 0
-    Chosen j k n = j ≡ i → best seen k ≡ lowest n (setSum (best seen) seen k)
-
-    reply-parts : (j : ℕ) (k : Key) (n : ℕ) → parts n (s j k) ≡ D → Chosen j k n → parts n (reply D s i u t j k) ≡ D
-    unfolding parts
-    reply-parts j k n e c = at (tested (eqb j i))
-      where
-        some : (n : ℕ) → parts n (s j k) ≡ D → 0 < n
-        some zero q = omega arith
-        some (suc n) q = omega arith
-
-        at : Tested (eqb j i) → parts n (reply D s i u t j k) ≡ D
-        at (is w) = ap (parts n) (reply-own j k w) ∙ pure-parts D (best seen) k n (rw (c (eqb-is j i w)) (lowest-of-greatest n (setSum (best seen) seen k) (some n e) .0))
-        at (isn't w) = ap (parts n) (reply-else j k w) ∙ e
-
-    reply-valid : PerfectRecall i t → Valid (all D) (reply D s i u t) t
-    reply-valid h = every-both (λ j k n. parts n (s j k) ≡ D) Chosen (λ j k n. parts n (reply D s i u t j k) ≡ D) reply-parts t v
-        (own→every D i s (λ k n. best seen k ≡ lowest n (setSum (best seen) seen k)) t u (best-decides seen (recall-kept D i u s t h)))
-
-pub reply-is-rival : ReplyIsRival
-reply-is-rival D i u s t d h v = (reply-valid D i u s t d v h, reply-keeps D i u s t)
-
-pub reply-worth : ReplyWorth
-reply-worth C m D i s t d h = ·-cancel-eq (D ^ m) (worth (all D) (reply D s i (C * D ^ m) t) i (C * D ^ m) t) (bestValue r) (NatL.one-le-pow m D d)
-    (link-in-units C m D i s (reply D s i (C * D ^ m) t) t d h (reply-keeps D i (C * D ^ m) s t)
-    ∙ ap (λ p. scaled D p r m) (fun-ext (λ k. reply-own D i (C * D ^ m) s t i k (eqb-self i))) ∙ pure-worth D m (best r) r (reply-depth D i s t (C * D ^ m) C m h))
-  where
-    r : Reply
-    r = replyTree D s i (C * D ^ m) t

@@ -54,7 +54,8 @@ unfolding others withKey keep
 others-else k j d [] = refl
 others-else k j d (x ∷ xs) = at (tested (same (x .1) k)) (others-else k j d xs)
   where
-    at : Tested (same (x .1) k) → withKey j (others k xs) ≡ withKey j xs → withKey j (keep (not (same (x .1) k)) x (others k xs)) ≡ keep (same (x .1) j) x (withKey j xs)
+    at : Tested (same (x .1) k) → withKey j (others k xs) ≡ withKey j xs
+        → withKey j (keep (not (same (x .1) k)) x (others k xs)) ≡ keep (same (x .1) j) x (withKey j xs)
     at (is e) h = let q : same (x .1) j ≡ false = ap (λ i. same i j) (same→eq (x .1) k (T-of e)) ∙ d in rw (e, q) h
     at (isn't e) h = rw e (ap (keep (same (x .1) j) x) h)
 
@@ -74,7 +75,8 @@ module _ (g : Key → ℕ) where
       at (is e) ih = rw (e, ·-sum) (ap (λ z. g (x .1) · h (x .1) x +ℤ z) ih
           ∙ ap (λ i. g i · h i x +ℤ (g k · sum (h k) (withKey k xs) +ℤ weigh h (others k xs))) (same→eq (x .1) k (T-of e))
           ∙ sym (+ℤ-assoc (g k · h k x) (g k · sum (h k) (withKey k xs)) (weigh h (others k xs))))
-      at (isn't e) ih = rw e (ap (λ z. g (x .1) · h (x .1) x +ℤ z) ih ∙ +ℤ-left-comm (g (x .1) · h (x .1) x) (g k · sum (h k) (withKey k xs)) (weigh h (others k xs)))
+      at (isn't e) ih = rw e (ap (λ z. g (x .1) · h (x .1) x +ℤ z) ih ∙ +ℤ-left-comm (g (x .1) · h (x .1) x) (g k · sum (h k) (withKey k xs))
+          (weigh h (others k xs)))
 
   -- what is at most as much in each set is so in all
   module _ (p q : Key → Node → ℤ) where
@@ -95,7 +97,8 @@ module _ (g : Key → ℕ) where
     set-by-set (suc n) [] l e = ≤ℤ-refl (pos 0)
     set-by-set zero (x ∷ xs) l e = absurd (NatL.not-suc-le-zero l)
     set-by-set (suc n) (x ∷ xs) l e = rw (weigh-apart p (x .1) (x ∷ xs), weigh-apart q (x .1) (x ∷ xs))
-        (+ℤ-mono (g (x .1) · sum (p (x .1)) (withKey (x .1) (x ∷ xs))) (g (x .1) · sum (q (x .1)) (withKey (x .1) (x ∷ xs))) (weigh p (others (x .1) (x ∷ xs))) (weigh q (others (x .1) (x ∷ xs)))
+        (+ℤ-mono (g (x .1) · sum (p (x .1)) (withKey (x .1) (x ∷ xs))) (g (x .1) · sum (q (x .1)) (withKey (x .1) (x ∷ xs))) (weigh p (others (x .1) (x ∷ xs)))
+        (weigh q (others (x .1) (x ∷ xs)))
         (·-mono (g (x .1)) (sum (p (x .1)) (withKey (x .1) (x ∷ xs))) (sum (q (x .1)) (withKey (x .1) (x ∷ xs))) (e (x .1)))
         (set-by-set n (others (x .1) (x ∷ xs)) short (in-others (x .1) (x ∷ xs) e)))
       where

@@ -10,7 +10,8 @@ use lib.IntN.{_+ℤ_}
 use lib.ListN.{length}
 use Rattle.game.specs.Sums.{sum}
 use Rattle.game.specs.Tree.{Key}
-use Rattle.game.specs.Reply.{Reply, leaf, split, own, Replies, none, more, count, Choice, value, total, pick, Node, nodes, nodesAll, same, keep, withKey, members, setSum, actions, depth, depthAll, EveryOwn, EveryOwnAll}
+use Rattle.game.specs.Reply.{Reply, leaf, split, own, Replies, none, more, count, Choice, value, total, pick, Node, nodes, nodesAll, same, keep}
+use Rattle.game.specs.Reply.{withKey, members, setSum, actions, depth, depthAll, EveryOwn, EveryOwnAll}
 use Rattle.game.specs.Recall.{Path, Recalled, RecalledAll, RecalledKids}
 use Rattle.game.proofs.Tests.{Tested, is, isn't, tested, T-of, same→eq, same-self}
 use Rattle.game.proofs.Members.{withKey-none}
@@ -111,7 +112,8 @@ unfolding EachNode withKey keep
 each-member [] = tt
 each-member (x ∷ xs) = (
   rw (same-self (x .1)) (omega arith),
-  each-both (λ y. 0 < length (withKey (y .1) xs)) (λ y. 0 < length (withKey (y .1) xs)) (λ y. 0 < length (withKey (y .1) (x ∷ xs))) (λ y p q. at (same (x .1) (y .1)) (withKey (y .1) xs) p) xs (each-member xs)
+  each-both (λ y. 0 < length (withKey (y .1) xs)) (λ y. 0 < length (withKey (y .1) xs)) (λ y. 0 < length (withKey (y .1) (x ∷ xs)))
+      (λ y p q. at (same (x .1) (y .1)) (withKey (y .1) xs) p) xs (each-member xs)
       (each-member xs),
 )
   where
@@ -142,12 +144,14 @@ module _ (H : Key → Path) (n : Key → ℕ) where
   actions-are k [] h l = absurd (NatL.not-suc-le-zero l)
   actions-are k (x ∷ xs) h l = at (tested (same (x .1) k)) l (λ w. actions-are k xs (h .1) w)
     where
-      at : Tested (same (x .1) k) → 0 < length (keep (same (x .1) k) x (withKey k xs)) → (0 < length (withKey k xs) → actions (withKey k xs) ≡ n k) → actions (keep (same (x .1) k) x (withKey k xs)) ≡ n k
+      at : Tested (same (x .1) k) → 0 < length (keep (same (x .1) k) x (withKey k xs)) → (0 < length (withKey k xs) → actions (withKey k xs) ≡ n k)
+          → actions (keep (same (x .1) k) x (withKey k xs)) ≡ n k
       at (is e) w f = rw e (h .0 ∙ ap n (same→eq (x .1) k (T-of e)))
       at (isn't e) w f = rw e (f (rw e at w))
 
   pub own-actions : (r : Reply) → Recalled H n [] r → EveryOwn (λ k a. a ≡ actions (members r k)) r
-  own-actions r h = each→own (λ k a. a ≡ actions (members r k)) r (each-both (λ x. count (x .2) ≡ n (x .1)) (λ x. 0 < length (withKey (x .1) (nodes r))) (λ x. count (x .2) ≡ actions (members r (x .1)))
+  own-actions r h = each→own (λ k a. a ≡ actions (members r k)) r
+      (each-both (λ x. count (x .2) ≡ n (x .1)) (λ x. 0 < length (withKey (x .1) (nodes r))) (λ x. count (x .2) ≡ actions (members r (x .1)))
       (λ x p q. p ∙ sym (actions-are (x .1) (nodes r) counted q)) (nodes r) counted (each-member (nodes r)))
     where
       counted : EachNode (λ x. count (x .2) ≡ n (x .1)) (nodes r)
@@ -194,7 +198,8 @@ module _ (H : Key → Path) (n : Key → ℕ) where
     level-below-all none π m h l = tt
     level-below-all (more t f) π m h l = (level-below t π m (h .0) (omega arith), level-below-all f π m (h .1) (omega arith))
 
-    level-below-kids : (f : Replies) (π : Path) (j : Key) (a m : ℕ) → RecalledKids H n π j a f → depthAll f + suc (length π) ≤ m → EveryOwnAll (λ k a. length (H k) < m) f
+    level-below-kids : (f : Replies) (π : Path) (j : Key) (a m : ℕ) → RecalledKids H n π j a f → depthAll f + suc (length π) ≤ m
+        → EveryOwnAll (λ k a. length (H k) < m) f
     level-below-kids none π j a m h l = tt
     level-below-kids (more t f) π j a m h l = (level-below t ((j, a) ∷ π) m (h .0) (omega arith), level-below-kids f π j (suc a) m (h .1) (omega arith))
 
@@ -233,7 +238,8 @@ module _ (H : Key → Path) (n : Key → ℕ) where
 
       below-nodes-kids : (f : Replies) (π : Path) (k : Key) (a : ℕ) → EveryOwnAll P f → RecalledKids H n π k a f → EachNode Below (nodesAll f)
       below-nodes-kids none π k a p h = tt
-      below-nodes-kids (more t f) π k a p h = each-append Below (nodes t) (nodesAll f) (below-nodes t ((k, a) ∷ π) (p .0) (h .0)) (below-nodes-kids f π k (suc a) (p .1) (h .1))
+      below-nodes-kids (more t f) π k a p h = each-append Below (nodes t) (nodesAll f) (below-nodes t ((k, a) ∷ π) (p .0) (h .0))
+          (below-nodes-kids f π k (suc a) (p .1) (h .1))
 
   -- the sums of a set do not change where two choices are one at all deeper sets
   module _ (c e : Choice) (k : Key) (a : ℕ) where
@@ -247,7 +253,8 @@ module _ (H : Key → Path) (n : Key → ℕ) where
       where
         at : Tested (same (x .1) k) → sum (λ x. pick c (x .2) a) (withKey k xs) ≡ sum (λ x. pick e (x .2) a) (withKey k xs)
             → sum (λ x. pick c (x .2) a) (keep (same (x .1) k) x (withKey k xs)) ≡ sum (λ x. pick e (x .2) a) (keep (same (x .1) k) x (withKey k xs))
-        at (is q) ih = rw q (ap₂ _+ℤ_ (pick-agree c e (x .2) a (own-both-all Deeper (λ j b. length (H k) < length (H j)) (λ j b. c j ≡ e j) (λ j b f l. f l) (x .2) (h .0 .0)
+        at (is q) ih = rw q (ap₂ _+ℤ_ (pick-agree c e (x .2) a
+            (own-both-all Deeper (λ j b. length (H k) < length (H j)) (λ j b. c j ≡ e j) (λ j b f l. f l) (x .2) (h .0 .0)
             (level-from-kids (x .2) (H k) k 0 (suc (length (H k))) (rw (same→eq (x .1) k (T-of q)) at (h .0 .1)) (NatL.le-refl (suc (length (H k))))))) ih)
         at (isn't q) ih = rw q ih
 

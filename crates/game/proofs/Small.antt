@@ -11,7 +11,7 @@ use Rattle.game.specs.Reply.{value, withKey, highest, best, reply}
 use Rattle.game.specs.Recall.{Path, Recall, PerfectRecall}
 use Rattle.game.specs.Small.{small, given, seen}
 use Rattle.game.specs.Theorem.{SmallPremises, SmallChoices, SmallNumbers, SmallNoUnits, SmallNoRival}
-use Rattle.game.proofs.Link.{no-rival-better}
+use Rattle.game.proofs.Rival.{no-rival-better}
 
 -- seat 0 comes to set 4 by action 1 of set 1, to its other sets by no move of its own
 unfoldable before : Key → Path
@@ -24,13 +24,17 @@ small-splits = (1, refl, omega arith, omega arith)
 
 small-recall : PerfectRecall 0 small
 unfolding Recall small before
-small-recall = (before, (λ k. 2), (
-  ((λ e. (refl, refl)), (tt, (((λ e. (refl, refl)), (tt, (tt, tt))), tt))),
+small-recall = (
+  before,
+  (λ k. 2),
   (
     ((λ e. (refl, refl)), (tt, (((λ e. (refl, refl)), (tt, (tt, tt))), tt))),
-    (((λ e. absurd (omega arith)), (tt, (((λ e. (refl, refl)), (tt, (tt, tt))), tt))), tt),
+    (
+      ((λ e. (refl, refl)), (tt, (((λ e. (refl, refl)), (tt, (tt, tt))), tt))),
+      (((λ e. absurd (omega arith)), (tt, (((λ e. (refl, refl)), (tt, (tt, tt))), tt))), tt),
+    ),
   ),
-))
+)
 
 small-valid : Valid (all 2) given small
 unfolding Every small given parts
@@ -57,4 +61,5 @@ small-no-units = (refl, refl, refl)
 
 pub small-no-rival : SmallNoRival
 unfolding seen
-small-no-rival z v = subst (λ x. worth (all 2) z 0 12 small ≤ℤ x) (small-numbers .2) (no-rival-better 3 2 2 0 given z small (omega arith) small-splits small-recall v)
+small-no-rival z v = subst (λ x. worth (all 2) z 0 12 small ≤ℤ x) (small-numbers .2)
+    (no-rival-better 3 2 2 0 given z small (omega arith) small-splits small-recall v)

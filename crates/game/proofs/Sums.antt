@@ -67,7 +67,8 @@ upto-mono (suc n) p h z e = rw (·-plus (p 0) (parts n (λ a. p (suc a))) z)
     (upto-mono n (λ a. p (suc a)) (λ a. h (suc a)) z (λ a l. e (suc a) (suc-le-suc l))))
 
 -- two sums change places
-pub sum-upto : {A : Type 0} (n : ℕ) (p : ℕ → ℕ) (h : A → ℕ → ℤ) (xs : List A) → sum (λ x. upto n (λ a. p a · h x a)) xs ≡ upto n (λ a. p a · sum (λ x. h x a) xs)
+pub sum-upto : {A : Type 0} (n : ℕ) (p : ℕ → ℕ) (h : A → ℕ → ℤ) (xs : List A)
+    → sum (λ x. upto n (λ a. p a · h x a)) xs ≡ upto n (λ a. p a · sum (λ x. h x a) xs)
 unfolding sum
 sum-upto n p h [] = sym (upto-zero n p)
 sum-upto n p h (x ∷ xs) = ap (λ z. upto n (λ a. p a · h x a) +ℤ z) (sum-upto n p h xs) ∙ sym (upto-sum n p (h x) (λ a. sum (λ y. h y a) xs))
@@ -83,4 +84,5 @@ pub parts-one : (n x : ℕ) (p : ℕ → ℕ) → x < n → ((a : ℕ) → (a �
 unfolding parts
 parts-one zero x p l h = absurd (NatL.not-suc-le-zero l)
 parts-one (suc n) zero p l h = ap (λ y. p 0 + y) (parts-none n (λ a. p (suc a)) (λ a. h (suc a) (λ e. omega arith))) ∙ NatL.add-zero (p 0)
-parts-one (suc n) (suc x) p l h = ap₂ _+_ (h 0 (λ e. omega arith)) (parts-one n x (λ a. p (suc a)) (NatL.le-of-suc-le-suc l) (λ a e. h (suc a) (λ q. e (omega arith)))) ∙ NatL.zero-add (p (suc x))
+parts-one (suc n) (suc x) p l h = ap₂ _+_ (h 0 (λ e. omega arith))
+    (parts-one n x (λ a. p (suc a)) (NatL.le-of-suc-le-suc l) (λ a e. h (suc a) (λ q. e (omega arith)))) ∙ NatL.zero-add (p (suc x))

@@ -5,7 +5,8 @@ use native.Mathlib.Nat as NatL
 use native.Mathlib.Omega.{arith}
 use lib.IntN.{_+ℤ_}
 use Rattle.game.specs.Sums.{_·_, parts}
-use Rattle.game.specs.Tree.{Key, Tree, end, chance, decide, Trees, nil, cons, fan, Strategy, all, worth, worthAll, worthKids, units, unitsAll, unitsKids, Exact, ExactAll, ExactKids, Splits, SplitsAll, Every, EveryAll, Valid}
+use Rattle.game.specs.Tree.{Key, Tree, end, chance, decide, Trees, nil, cons, fan, Strategy, all, worth, worthAll, worthKids, units, unitsAll}
+use Rattle.game.specs.Tree.{unitsKids, Exact, ExactAll, ExactKids, Splits, SplitsAll, Every, EveryAll, Valid}
 use Rattle.game.specs.Theorem.{UnitsExact, UnitsAddUp}
 use Rattle.game.proofs.Integers.{·-zero, ·-sum, ·-mul}
 
@@ -67,7 +68,11 @@ module _ (D : ℕ → ℕ) (D-pos : (j : ℕ) → 0 < D j) (s : Strategy) where
 
     pub fits-exact : (t : Tree) (u : ℕ) → Fits D u t → Exact D s u t
     fits-exact (end x) u h = tt
-    fits-exact (chance f) u h = (ap (λ n. fan f * n) (of-fan u (fan f) (h .0) (h .1) (h .2)) ∙ sym (h .1), fits-exact-all f (u / fan f) (rw (of-fan u (fan f) (h .0) (h .1) (h .2)) (h .3)))
+    fits-exact (chance f) u h = (
+      ap (λ n. fan f * n) (of-fan u (fan f) (h .0) (h .1) (h .2)) ∙ sym (h .1),
+      fits-exact-all f (u / fan f)
+          (rw (of-fan u (fan f) (h .0) (h .1) (h .2)) (h .3)),
+    )
     fits-exact (decide j k f) u h = fits-exact-kids f u (h .0) j k 0 (h .1) (h .2)
 
     fits-exact-all : (f : Trees) (u : ℕ) → FitsAll D u f → ExactAll D s u f
@@ -77,7 +82,8 @@ module _ (D : ℕ → ℕ) (D-pos : (j : ℕ) → 0 < D j) (s : Strategy) where
     fits-exact-kids : (f : Trees) (u q : ℕ) (j : ℕ) (k : Key) (a : ℕ) → u ≡ D j * q → FitsAll D q f → ExactKids D s u j k a f
     fits-exact-kids nil u q j k a e h = tt
     fits-exact-kids (cons t f) u q j k a e h = (
-      ap (λ n. D j * n) (part-of (D j) u q (s j k a) (D-pos j) e) ∙ NatL.mul-left-comm (D j) (s j k a) q ∙ NatL.mul-comm (s j k a) (D j * q) ∙ ap (λ n. n * s j k a) (sym e),
+      ap (λ n. D j * n) (part-of (D j) u q (s j k a) (D-pos j) e) ∙ NatL.mul-left-comm (D j) (s j k a) q ∙ NatL.mul-comm (s j k a) (D j * q) ∙ ap
+          (λ n. n * s j k a) (sym e),
       fits-exact t (u * s j k a / D j) (rw (part-of (D j) u q (s j k a) (D-pos j) e) (fits-scale t D q (s j k a) (h .0))),
       fits-exact-kids f u q j k (suc a) e (h .1),
     )
@@ -88,20 +94,26 @@ module _ (D : ℕ → ℕ) (D-pos : (j : ℕ) → 0 < D j) (s : Strategy) where
 
     pub fits-units : (t : Tree) (u : ℕ) → Fits D u t → Valid D s t → units D s u t ≡ u
     fits-units (end x) u h g = refl
-    fits-units (chance f) u h g = fits-units-fan f (u / fan f) (rw (of-fan u (fan f) (h .0) (h .1) (h .2)) (h .3)) g ∙ ap (λ n. fan f * n) (of-fan u (fan f) (h .0) (h .1) (h .2)) ∙ sym (h .1)
-    fits-units (decide j k f) u h g = fits-units-kids f u (h .0) j k 0 (s j k) (λ a. ap (s j k) (sym (NatL.zero-add a))) (h .1) (h .2) (g .1) ∙ ap (λ n. n * h .0) (g .0) ∙ sym (h .1)
+    fits-units (chance f) u h g = fits-units-fan f (u / fan f) (rw (of-fan u (fan f) (h .0) (h .1) (h .2)) (h .3)) g ∙ ap (λ n. fan f * n)
+        (of-fan u (fan f) (h .0) (h .1) (h .2)) ∙ sym (h .1)
+    fits-units (decide j k f) u h g = fits-units-kids f u (h .0) j k 0 (s j k) (λ a. ap (s j k) (sym (NatL.zero-add a))) (h .1) (h .2) (g .1) ∙ ap
+        (λ n. n * h .0) (g .0) ∙ sym (h .1)
 
     fits-units-fan : (f : Trees) (u : ℕ) → FitsAll D u f → EveryAll (λ j k n. parts n (s j k) ≡ D j) f → unitsAll D s u f ≡ fan f * u
     fits-units-fan nil u h g = sym (NatL.zero-mul u)
-    fits-units-fan (cons t f) u h g = ap₂ _+_ (fits-units t u (h .0) (g .0)) (fits-units-fan f u (h .1) (g .1)) ∙ NatL.add-comm u (fan f * u) ∙ sym (NatL.suc-mul (fan f) u)
+    fits-units-fan (cons t f) u h g = ap₂ _+_ (fits-units t u (h .0) (g .0)) (fits-units-fan f u (h .1) (g .1)) ∙ NatL.add-comm u (fan f * u) ∙ sym
+        (NatL.suc-mul (fan f) u)
 
-    fits-units-kids : (f : Trees) (u q j : ℕ) (k : Key) (a : ℕ) (x : ℕ → ℕ) → ((b : ℕ) → x b ≡ s j k (a + b)) → u ≡ D j * q → FitsAll D q f → EveryAll (λ j k n. parts n (s j k) ≡ D j) f
+    fits-units-kids : (f : Trees) (u q j : ℕ) (k : Key) (a : ℕ) (x : ℕ → ℕ) → ((b : ℕ) → x b ≡ s j k (a + b)) → u ≡ D j * q → FitsAll D q f
+        → EveryAll (λ j k n. parts n (s j k) ≡ D j) f
         → unitsKids D s u j k a f ≡ parts (fan f) x * q
     fits-units-kids nil u q j k a x y e h g = sym (NatL.zero-mul q)
     fits-units-kids (cons t f) u q j k a x y e h g =
-        ap₂ _+_ (fits-units t (u * s j k a / D j) (rw (part-of (D j) u q (s j k a) (D-pos j) e) (fits-scale t D q (s j k a) (h .0))) (g .0) ∙ part-of (D j) u q (s j k a) (D-pos j) e
+        ap₂ _+_ (fits-units t (u * s j k a / D j) (rw (part-of (D j) u q (s j k a) (D-pos j) e) (fits-scale t D q (s j k a) (h .0))) (g .0) ∙ part-of (D j) u q
+        (s j k a) (D-pos j) e
         ∙ ap (λ n. n * q) (sym (y 0 ∙ ap (s j k) (NatL.add-zero a))))
-        (fits-units-kids f u q j k (suc a) (λ b. x (suc b)) (λ b. y (suc b) ∙ ap (s j k) (omega arith)) e (h .1) (g .1)) ∙ sym (NatL.add-mul (x 0) (parts (fan f) (λ b. x (suc b))) q)
+        (fits-units-kids f u q j k (suc a) (λ b. x (suc b)) (λ b. y (suc b) ∙ ap (s j k) (omega arith)) e (h .1) (g .1)) ∙ sym
+        (NatL.add-mul (x 0) (parts (fan f) (λ b. x (suc b))) q)
 
   -- p times the units, p times the worth
   module _ (i : ℕ) where
@@ -117,12 +129,15 @@ module _ (D : ℕ → ℕ) (D-pos : (j : ℕ) → 0 < D j) (s : Strategy) where
 
       worth-scale-all : (f : Trees) (u p : ℕ) → FitsAll D u f → worthAll D s i (p * u) f ≡ p · worthAll D s i u f
       worth-scale-all nil u p h = sym (·-zero p)
-      worth-scale-all (cons t f) u p h = ap₂ _+ℤ_ (worth-scale t u p (h .0)) (worth-scale-all f u p (h .1)) ∙ sym (·-sum p (worth D s i u t) (worthAll D s i u f))
+      worth-scale-all (cons t f) u p h = ap₂ _+ℤ_ (worth-scale t u p (h .0)) (worth-scale-all f u p (h .1)) ∙ sym
+          (·-sum p (worth D s i u t) (worthAll D s i u f))
 
-      worth-scale-kids : (f : Trees) (u q p j : ℕ) (k : Key) (a : ℕ) → u ≡ D j * q → FitsAll D q f → worthKids D s i (p * u) j k a f ≡ p · worthKids D s i u j k a f
+      worth-scale-kids : (f : Trees) (u q p j : ℕ) (k : Key) (a : ℕ) → u ≡ D j * q → FitsAll D q f
+          → worthKids D s i (p * u) j k a f ≡ p · worthKids D s i u j k a f
       worth-scale-kids nil u q p j k a e h = sym (·-zero p)
       worth-scale-kids (cons t f) u q p j k a e h = ap₂ _+ℤ_
-          (ap (λ n. worth D s i n t) (part-of (D j) (p * u) (p * q) (s j k a) (D-pos j) (ap (λ n. p * n) e ∙ NatL.mul-left-comm p (D j) q) ∙ NatL.mul-left-comm (s j k a) p q)
+          (ap (λ n. worth D s i n t) (part-of (D j) (p * u) (p * q) (s j k a) (D-pos j) (ap (λ n. p * n) e ∙ NatL.mul-left-comm p (D j) q) ∙ NatL.mul-left-comm
+          (s j k a) p q)
           ∙ worth-scale t (s j k a * q) p (fits-scale t D q (s j k a) (h .0)) ∙ ap (λ n. p · worth D s i n t) (sym (part-of (D j) u q (s j k a) (D-pos j) e)))
           (worth-scale-kids f u q p j k (suc a) e (h .1)) ∙ sym (·-sum p (worth D s i (u * s j k a / D j) t) (worthKids D s i u j k (suc a) f))
 
