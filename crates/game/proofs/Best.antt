@@ -7,24 +7,17 @@ use native.Mathlib.Nat as NatL
 use native.Mathlib.Omega.{arith}
 use lib.Dec.{eqb}
 use lib.IntN.{ℤ}
-use lib.Signed.{ltZ, _≤ℤ_, _<ℤ_, ≤ℤ-refl, ltZ-no, ltZ-yes, clashℤ}
+use lib.Signed.{ltZ, _≤ℤ_, _<ℤ_, ≤ℤ-refl, ltZ-no, ltZ-yes}
 use lib.ListN.{length}
 use Rattle.game.specs.Tree.{Key}
 use Rattle.game.specs.Reply.{Reply, Choice, members, setSum, highest, lowest, actions, depth, decided, best, EveryOwn, Decides, Optimal}
 use Rattle.game.specs.Recall.{Path, Recalled}
 use Rattle.game.specs.Theorem.{LowestOfGreatest, BestDecides, DecidesAlike, BestOptimal}
-use Rattle.game.proofs.Integers.{≤ℤ-trans, <ℤ-le}
+use Rattle.game.proofs.Integers.{≤ℤ-trans, ≤ℤ-<ℤ-trans, <ℤ-le}
 use Rattle.game.proofs.Tests.{Tested, is, isn't, tested, T-of, eqb-is, eqb-isn't}
 use Rattle.game.proofs.Own.{own-both, own-map, value-agree, level-below, own-actions, set-agree}
 
 -- ---- the lowest action with the greatest sum
-≤ℤ-<ℤ-trans : (a b c : ℤ) → a ≤ℤ b → b <ℤ c → a <ℤ c
-≤ℤ-<ℤ-trans a b c h k = at (tested (ltZ a c))
-  where
-    at : Tested (ltZ a c) → a <ℤ c
-    at (is e) = ltZ-yes (T-of e)
-    at (isn't e) = clashℤ k (≤ℤ-trans c a b (ltZ-no (rw e tt)) h)
-
 -- b is the lowest with the greatest q of the actions up to n
 abbrev Lowest : (ℕ → ℤ) → ℕ → ℕ → Type 0
 Lowest q n b = (b ≤ n) × ((a : ℕ) → a ≤ n → q a ≤ℤ q b) × ((a : ℕ) → a < b → q a <ℤ q b)

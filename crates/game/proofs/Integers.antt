@@ -7,8 +7,9 @@ use native.Mathlib.Nat as NatL
 use native.Mathlib.Omega.{arith}
 use lib.Dec.{T, ltb, ltb→lt, nltb→le, leb→le, le→leb}
 use lib.IntN.{ℤ, pos, negsuc, negℤ, _+ℤ_, +ℤ-assoc, +ℤ-comm, +ℤ-idl, +ℤ-idr, +ℤ-invr, natAbs, sucℤ-*ℤ, zero-*ℤ, *ℤ-zero}
-use lib.Signed.{leZ, ltZ, _≤ℤ_, ≤ℤ-refl}
+use lib.Signed.{leZ, ltZ, _≤ℤ_, _<ℤ_, ≤ℤ-refl, ltZ-no, ltZ-yes, clashℤ}
 use Rattle.game.specs.Sums.{_·_}
+use Rattle.game.proofs.Tests.{Tested, is, isn't, tested, T-of}
 
 pub +ℤ-left-comm : (a b c : ℤ) → a +ℤ (b +ℤ c) ≡ b +ℤ (a +ℤ c)
 +ℤ-left-comm a b c = sym (+ℤ-assoc a b c) ∙ ap (λ x. x +ℤ c) (+ℤ-comm a b) ∙ +ℤ-assoc b a c
@@ -81,6 +82,13 @@ pub ≤ℤ-trans : (a b c : ℤ) → a ≤ℤ b → b ≤ℤ c → a ≤ℤ c
     let (d, p) = below a b h in
     let (e, q) = below b c k in
     above a c (d + e) (q ∙ ap (λ x. x +ℤ pos e) p ∙ +ℤ-assoc a (pos d) (pos e))
+
+pub ≤ℤ-<ℤ-trans : (a b c : ℤ) → a ≤ℤ b → b <ℤ c → a <ℤ c
+≤ℤ-<ℤ-trans a b c h k = at (tested (ltZ a c))
+  where
+    at : Tested (ltZ a c) → a <ℤ c
+    at (is e) = ltZ-yes (T-of e)
+    at (isn't e) = clashℤ k (≤ℤ-trans c a b (ltZ-no (rw e tt)) h)
 
 pub +ℤ-mono : (a b c d : ℤ) → a ≤ℤ b → c ≤ℤ d → (a +ℤ c) ≤ℤ (b +ℤ d)
 +ℤ-mono a b c d h k =

@@ -7,7 +7,7 @@ use native.Mathlib.Omega.{arith}
 use lib.Dec.{eqb}
 use lib.Signed.{_≤ℤ_}
 use Rattle.game.specs.Sums.{_·_, parts}
-use Rattle.game.specs.Tree.{Key, Tree, Strategy, all, but, worth, Splits, Valid, Keeps, Rival}
+use Rattle.game.specs.Tree.{Key, Tree, Strategy, all, allBut, worth, Splits, Valid, Keeps, Rival}
 use Rattle.game.specs.Reply.{Reply, replyTree, setSum, lowest, best, bestValue, pure, reply, EveryOwn, scaled}
 use Rattle.game.specs.Recall.{PerfectRecall, RecallsOwn}
 use Rattle.game.specs.Theorem.{NoFinerRivalBetter, ReplyIsRival, ReplyWorth, NoRivalBetter}
@@ -31,7 +31,7 @@ parts-unbeaten C m D E i u s p t h g e = optimal-unbeaten E m p (best (replyTree
 
 pub no-finer-rival-better : NoFinerRivalBetter
 no-finer-rival-better C m D E i s z t d e h g v = rw (link C m D E i s z t d e h (v .1)) (parts-unbeaten C m D E i (C * D ^ m) s (z i) t h g
-    (rw (eqb-self i) at (every→own D i s (λ j k n. parts n (z j k) ≡ but i E D j) t (C * D ^ m) (v .0))))
+    (rw (eqb-self i) at (every→own D i s (λ j k n. parts n (z j k) ≡ allBut i E D j) t (C * D ^ m) (v .0))))
 
 pub no-rival-better : NoRivalBetter
 no-rival-better C m D i s z t d h g v = ·-cancel (D ^ m) (worth (all D) z i (C * D ^ m) t) (bestValue (replyTree D s i (C * D ^ m) t)) (NatL.one-le-pow m D d)
@@ -86,8 +86,8 @@ reply-is-rival D i u s t d h v = (reply-valid D i u s t d v h, reply-keeps D i u
 pub reply-worth : ReplyWorth
 reply-worth C m D i s t d h = ·-cancel-eq (D ^ m) (worth (all D) (reply D s i (C * D ^ m) t) i (C * D ^ m) t) (bestValue r) (NatL.one-le-pow m D d)
     (link-in-units C m D i s (reply D s i (C * D ^ m) t) t d h (reply-keeps D i (C * D ^ m) s t)
-    ∙ ap (λ p. scaled D p r m) (fun-ext (λ k. reply-own D i (C * D ^ m) s t i k (eqb-self i))) ∙ pure-worth D m (best r) r
-    (reply-depth D i s t (C * D ^ m) C m h))
+    ∙ ap (λ p. scaled D p r m) (fun-ext (λ k. reply-own D i (C * D ^ m) s t i k (eqb-self i)))
+    ∙ pure-worth D m (best r) r (reply-depth D i s t (C * D ^ m) C m h))
   where
     r : Reply
     r = replyTree D s i (C * D ^ m) t

@@ -38,7 +38,7 @@ module _ (i : ℕ) (H : Key → Path) (n : Key → ℕ) where
 abbrev pub PerfectRecall : ℕ → Tree → Type 0
 PerfectRecall i t = (H : Key → Path) × (n : Key → ℕ) × Recall i H n [] t
 
--- the same of a reply tree
+-- the same, of a reply tree
 module _ (H : Key → Path) (n : Key → ℕ) where
   unfoldable mutual
     unfolding count
@@ -56,5 +56,6 @@ module _ (H : Key → Path) (n : Key → ℕ) where
     RecalledKids π k a none = Unit {0}
     RecalledKids π k a (more t f) = Recalled ((k, a) ∷ π) t × RecalledKids π k (suc a) f
 
+-- the seat of a reply tree has perfect recall
 abbrev pub RecallsOwn : Reply → Type 0
 RecallsOwn r = (H : Key → Path) × (n : Key → ℕ) × Recalled H n [] r

@@ -9,6 +9,7 @@ use lib.Signed.{ltZ, _≤ℤ_}
 use Rattle.game.specs.Sums.{_·_, sum}
 use Rattle.game.specs.Tree.{Key, Tree, end, chance, decide, Trees, nil, cons, fan, Strategy}
 
+-- what a seat replies to: the others' moves are settled, its own are open
 mutual
   pub data Reply : Type 0 where
     leaf : ℕ → ℤ → Reply  -- an end: its units, and units × payoff
@@ -117,6 +118,7 @@ highest q (suc n) = let b : ℕ = highest q n in cond (ltZ (q b) (q (suc n))) (s
 abbrev pub lowest : ℕ → (ℕ → ℤ) → ℕ
 lowest n q = highest q (pred n)
 
+-- how many children
 unfoldable pub count : Replies → ℕ
 count none = zero
 count (more t f) = suc (count f)
@@ -138,7 +140,7 @@ unfoldable mutual
   depthAll none = 0
   depthAll (more t f) = max (depth t) (depthAll f)
 
--- the choice of each set with at most n own moves to come, asking those of the sets below
+-- the choice of each set that has at most n own moves to come, its own among them: it asks the choices of deeper sets
 unfoldable pub decided : Reply → ℕ → Choice
 unfolding sum value nodes withKey highest actions
 decided r zero = λ k. 0
@@ -183,7 +185,7 @@ Decides c r = EveryOwn (λ k n. c k ≡ lowest n (setSum c r k)) r
 abbrev pub Optimal : Choice → Reply → Type 0
 Optimal c r = EveryOwn (λ k n. (a : ℕ) → a < n → setSum c r k a ≤ℤ setSum c r k (c k)) r
 
--- what parts p of E are worth, over E to the power r: no division is left
+-- what parts p, E in each set, are worth over E to the power r: a scale in place of divisions
 unfoldable mutual
   pub scaled : ℕ → (Key → ℕ → ℕ) → Reply → ℕ → ℤ
   scaled E p (leaf u v) r = E ^ r · v

@@ -15,6 +15,7 @@ pays z = end (λ j. cond (eqb j 0) z (negℤ z))
 unfoldable pub either : ℕ → ℕ → Tree → Tree → Tree
 either j n t v = decide j (n ∷ []) (cons t (cons v nil))
 
+-- three chance children; the numbers after the seat are the keys
 unfoldable pub small : Tree
 unfolding pays either
 small = chance (cons (either 0 1 (pays (pos 1)) (either 0 4 (pays (pos 0)) (pays (negsuc 4))))

@@ -11,6 +11,7 @@ use Rattle.game.specs.Sums.{_·_, parts}
 abbrev pub Key : Type 0
 Key = List ℕ
 
+-- an end, a chance node with its children, or a decision with its children, one for each action
 mutual
   pub data Tree : Type 0 where
     end : (ℕ → ℤ) → Tree  -- the payoff of each seat
@@ -30,20 +31,21 @@ fan (cons t f) = suc (fan f)
 abbrev pub Strategy : Type 0
 Strategy = ℕ → Key → ℕ → ℕ
 
--- how many parts the sets of each seat have; document 01: D for all seats
-abbrev pub all : ℕ → ℕ → ℕ
-all D j = D
-
--- the units of the root; document 01: U = C × D^m
+-- the units of the root (document 01: U = C × D^m)
 abbrev pub U : ℕ → ℕ → ℕ → ℕ
 U C D m = C * D ^ m
 
--- E for seat i, D for the others
-abbrev pub but : ℕ → ℕ → ℕ → ℕ → ℕ
-but i E D j = cond (eqb j i) E D
+-- how many parts each seat's sets have: D for all (document 01),
+abbrev pub all : ℕ → ℕ → ℕ
+all D j = D
 
+-- or D for all but seat i, which has E
+abbrev pub allBut : ℕ → ℕ → ℕ → ℕ → ℕ
+allBut i E D j = cond (eqb j i) E D
+
+-- a chance child has its parent's units / fan, a decision child its parent's units × part / D
 module _ (D : ℕ → ℕ) (s : Strategy) where
-  -- seat i's worth of u units: the sum over ends of units × payoff
+  -- seat i's worth from u units: the sum over ends of units × payoff
   module _ (i : ℕ) where
     unfoldable mutual
       unfolding fan
@@ -61,7 +63,7 @@ module _ (D : ℕ → ℕ) (s : Strategy) where
       worthKids u j k a nil = pos 0
       worthKids u j k a (cons t f) = worth (u * s j k a / D j) t +ℤ worthKids u j k (suc a) f
 
-  -- the units of all ends, together
+  -- the units of all ends, added up
   unfoldable mutual
     unfolding fan
 
