@@ -14,3 +14,8 @@ pub mod Rival
 pub mod Bounds
 pub mod Small
 pub mod Theorem
+pub mod Order
+pub mod SmallTables
+pub mod Sets
+pub mod Tables
+pub mod TableTheorem

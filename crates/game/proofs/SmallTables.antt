@@ -1,0 +1,18 @@
+-- The tables and replies of the small tree, computed. Nothing is assumed.
+use mathlib.Core.Path.{_≡_, refl}
+use Prim.Native.Nat.{ℕ}
+use native.Mathlib.Omega.{arith}
+use Rattle.game.specs.Sums.{_·_, sum, sumℕ}
+use Rattle.game.specs.Reply.{best, value, withKey, highest}
+use Rattle.game.specs.Sets.{sets, entriesOf, before}
+use Rattle.game.specs.Table.{laidOut, addUp, tableWorth, tableBest, replyTable, nashConv}
+use Rattle.game.specs.Small.{small, given}
+use Rattle.game.specs.TableTheorem.{SmallTables, SmallReplies}
+
+pub small-tables : SmallTables
+unfolding sets small given laidOut addUp entriesOf sumℕ
+small-tables = (refl, (refl, refl), λ v. let z : _≡_ {A = ℕ} 0 1 = cc (v .1) in omega arith)
+
+pub small-replies : SmallReplies
+unfolding tableWorth tableBest replyTable nashConv small best sum withKey value highest _·_ sets sumℕ before entriesOf
+small-replies = (refl, refl, refl, refl)
