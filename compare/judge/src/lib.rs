@@ -1,0 +1,29 @@
+//! The judge: what the unchanged Rust answers, and where document 01 refuses, what document 01 says.
+//! It writes the lists that the proved programs replay. README.md has their format.
+
+pub mod kuhn;
+pub mod kuhn_lists;
+pub mod kuhn_paper;
+pub mod line;
+pub mod list;
+pub mod random;
+
+use reinfors_core::reward::Reward;
+
+/// A reward that is the event's number.
+pub struct EventNumber;
+
+impl Reward for EventNumber {
+    type Event = f64;
+
+    fn step_reward(&self, event: &f64, _: usize) -> f64 {
+        *event
+    }
+}
+
+/// A payoff as a whole number: every one that the two games make is one.
+pub fn whole(payoff: f64) -> i64 {
+    let number = payoff as i64;
+    assert_eq!(number as f64, payoff, "a payoff is a whole number");
+    number
+}
