@@ -1,4 +1,4 @@
-//! Kuhn's two lists: the rules calls, and the saved-position check.
+//! Kuhn's list: the rules calls, then the saved-position check.
 
 use crate::kuhn::{rules_line, saved_line, start_line, Position, ACTIONS, CARDS};
 use crate::kuhn_paper::{all, Hand};

@@ -16,7 +16,7 @@ pub struct Line {
 
 impl Line {
     pub fn new(shown: bool) -> Self {
-        Line { shown, text: String::new(), sum: 0 }
+        Line { shown, text: String::new(), sum: 1 }
     }
 
     /// A byte of an answer, into the checksum.

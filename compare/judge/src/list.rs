@@ -24,6 +24,14 @@ impl List {
         self.lines += 1;
     }
 
+    pub fn append(mut self, more: List) -> List {
+        self.stdin += &more.stdin;
+        self.stdout += &more.stdout;
+        self.lines += more.lines;
+        self.counts.iter_mut().zip(more.counts).for_each(|(count, n)| *count += n);
+        self
+    }
+
     pub fn count(&mut self, refusal: u64) {
         self.counts[refusal as usize] += 1;
     }
