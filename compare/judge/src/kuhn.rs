@@ -1,18 +1,15 @@
 //! Kuhn's answers: the unchanged Rust's where it is asked something that document 01 lets through, else document 01's number.
 
+use crate::answer::{tried, written, Moved, Noted, Payoffs, Written};
 use crate::kuhn_paper::{reachable, Hand};
-use crate::line::{untouched, Line, ROOM};
+use crate::line::Line;
 use crate::list::List;
-use crate::whole;
 use reinfors_core::game::{ChanceDist, Game};
 use reinfors_core::StateCodec;
 use reinfors_games::kuhn::{KuhnPoker, KuhnState};
 
 pub const CARDS: usize = 10;
 pub const ACTIONS: usize = 19;
-
-/// Numbers that every kind of call is tried with beside the small ones: 0 if cut to a byte, and the largest.
-const ODD: [u64; 2] = [256, u64::MAX];
 
 /// A position with its arrays and lengths, as the calls take it.
 #[derive(Clone, Copy, Debug, PartialEq, Eq)]
@@ -53,32 +50,23 @@ impl Position {
         next
     }
 
+}
+
+impl Noted for Position {
     fn note(&self, line: &mut Line) {
         line.bytes(&self.cards);
         line.number(self.dealt);
         line.bytes(&self.history);
         line.number(self.acted);
     }
-}
 
-/// What a deal or a step answers.
-pub struct Moved {
-    pub refusal: u64,
-    pub position: Position,
-}
-
-/// What a legal list or a key answers, with all of the output array after the call.
-pub struct Written {
-    pub refusal: u64,
-    pub count: u64,
-    pub out: [u8; ROOM],
-}
-
-/// What a payoff answers.
-pub struct Payoffs {
-    pub refusal: u64,
-    pub count: u64,
-    pub payoffs: [i64; CARDS],
+    fn say(&self, line: &mut Line) {
+        let hand = self.hand().expect("lengths of an accepted move fit");
+        line.say(self.dealt);
+        line.say_all(&hand.cards);
+        line.say(self.acted);
+        line.say_all(&hand.history);
+    }
 }
 
 /// A seat count and a position handed to the rules calls: what they refuse before they look at their other inputs.
@@ -107,22 +95,8 @@ impl Asked {
         KuhnState { cards: self.hand.cards.clone(), history: self.hand.history.clone() }
     }
 
-    fn moved(&self, refusal: u64) -> Moved {
+    fn moved(&self, refusal: u64) -> Moved<Position> {
         Moved { refusal, position: self.position }
-    }
-
-    /// The answer bytes, written if the room lent holds them.
-    fn written(&self, answer: Result<Vec<u8>, u64>, room: u64) -> Written {
-        let refused = |refusal| Written { refusal, count: 0, out: untouched() };
-        match answer {
-            Err(refusal) => refused(refusal),
-            Ok(bytes) if (room as usize) < bytes.len() => refused(9),
-            Ok(bytes) => {
-                let mut out = untouched();
-                out[..bytes.len()].copy_from_slice(&bytes);
-                Written { refusal: 0, count: bytes.len() as u64, out }
-            }
-        }
     }
 
     pub fn legal(&self, agent: u64, room: u64) -> Written {
@@ -130,10 +104,10 @@ impl Asked {
             0 => Ok(self.game.legal_actions(&self.state(), agent as usize).iter().map(|&a| a as u8).collect()),
             fault => Err(fault),
         };
-        self.written(answer, room)
+        written(answer, room)
     }
 
-    pub fn deal(&self, outcome: u64) -> Moved {
+    pub fn deal(&self, outcome: u64) -> Moved<Position> {
         if self.fault != 0 {
             return self.moved(self.fault);
         }
@@ -145,7 +119,7 @@ impl Asked {
         Moved { refusal: 0, position: self.position.with(&next.next_state) }
     }
 
-    pub fn step(&self, action: u64) -> Moved {
+    pub fn step(&self, action: u64) -> Moved<Position> {
         if self.fault != 0 {
             return self.moved(self.fault);
         }
@@ -164,27 +138,23 @@ impl Asked {
         } else {
             Ok(self.game.information_state_key(&self.state(), agent as usize))
         };
-        self.written(answer, room)
+        written(answer, room)
     }
 
     /// The events of the step that ended the hand.
     pub fn payoff(&self) -> Payoffs {
         let n = self.game.players;
-        let mut answer = Payoffs { refusal: self.fault, count: 0, payoffs: [0; CARDS] };
-        if answer.refusal == 0 && (self.hand.card_due(n) || !self.hand.ended(n)) {
-            answer.refusal = 20;
+        if self.fault != 0 {
+            return Payoffs::refused(self.fault);
         }
-        if answer.refusal == 0 {
-            let mut before = self.state();
-            let last = before.history.pop().expect("no hand ends without an action");
-            let ended = self.game.step(&before, &vec![last as usize; n]);
-            assert!(ended.terminal, "the Rust ends the hand there too");
-            answer.count = n as u64;
-            for (place, event) in ended.events.iter().enumerate() {
-                answer.payoffs[place] = whole(event.expect("every seat has a payoff at an end"));
-            }
+        if self.hand.card_due(n) || !self.hand.ended(n) {
+            return Payoffs::refused(20);
         }
-        answer
+        let mut before = self.state();
+        let last = before.history.pop().expect("no hand ends without an action");
+        let ended = self.game.step(&before, &vec![last as usize; n]);
+        assert!(ended.terminal, "the Rust ends the hand there too");
+        Payoffs::of(&ended.events)
     }
 }
 
@@ -218,29 +188,24 @@ fn number_of(text: &str, state: &KuhnState, n: usize) -> u64 {
     }
 }
 
-/// The numbers 0 to `most`, then the odd ones.
-fn tried(most: u64) -> Vec<u64> {
-    (0..=most).chain(ODD).collect()
-}
-
 /// The whole family of rules calls on one position, as one line.
 pub fn rules_line(shown: bool, room: u64, seats: u64, position: Position, list: &mut List) -> String {
     let asked = Asked::new(seats, position);
     let mut line = Line::new(shown);
     let most = seats.min(12);
     for agent in tried(most) {
-        note_written(&mut line, "L", &position, asked.legal(agent, room), list);
+        asked.legal(agent, room).note(&mut line, "L", &position, list);
     }
     for outcome in tried(most + 1) {
-        note_moved(&mut line, "D", asked.deal(outcome), list);
+        asked.deal(outcome).note(&mut line, "D", list);
     }
     for action in tried(2) {
-        note_moved(&mut line, "S", asked.step(action), list);
+        asked.step(action).note(&mut line, "S", list);
     }
     for agent in tried(most) {
-        note_written(&mut line, "K", &position, asked.key(agent, room), list);
+        asked.key(agent, room).note(&mut line, "K", &position, list);
     }
-    note_payoffs(&mut line, &position, asked.payoff(), list);
+    asked.payoff().note(&mut line, &position, list);
     line.end()
 }
 
@@ -252,62 +217,15 @@ pub fn start_line(seats: u64, list: &mut List) -> String {
         Err(_) => Moved { refusal: 2, position: Position::ZERO },
     };
     let mut line = Line::new(true);
-    note_moved(&mut line, "I", moved, list);
+    moved.note(&mut line, "I", list);
     line.end()
 }
 
-/// The saved-position check with four marks, as one line: four numbers and the checksum of the answers.
-pub fn saved_line(seats: u64, position: Position, list: &mut List) -> String {
-    let mut line = Line::new(true);
+/// The saved-position check with four marks, as one line.
+pub fn saved_line(shown: bool, seats: u64, position: Position, list: &mut List) -> String {
+    let mut line = Line::new(shown);
     for done in [0, 1, 2, u64::MAX] {
-        let refusal = validate(seats, &position, done);
-        list.count(refusal);
-        line.number(refusal);
-        position.note(&mut line);
-        line.say(refusal);
+        Moved { refusal: validate(seats, &position, done), position }.note_mark(&mut line, done, list);
     }
     line.end()
-}
-
-fn note_moved(line: &mut Line, call: &str, answer: Moved, list: &mut List) {
-    list.count(answer.refusal);
-    line.number(answer.refusal);
-    answer.position.note(line);
-    line.say(call);
-    line.say(answer.refusal);
-    if answer.refusal == 0 {
-        let hand = answer.position.hand().expect("lengths of an accepted move fit");
-        line.say(answer.position.dealt);
-        line.say_all(&hand.cards);
-        line.say(answer.position.acted);
-        line.say_all(&hand.history);
-    }
-}
-
-fn note_written(line: &mut Line, call: &str, position: &Position, answer: Written, list: &mut List) {
-    list.count(answer.refusal);
-    line.number(answer.refusal);
-    position.note(line);
-    line.number(answer.count);
-    line.bytes(&answer.out);
-    line.say(call);
-    line.say(answer.refusal);
-    if answer.refusal == 0 {
-        line.say(answer.count);
-        line.say_all(&answer.out[..answer.count as usize]);
-    }
-}
-
-fn note_payoffs(line: &mut Line, position: &Position, answer: Payoffs, list: &mut List) {
-    list.count(answer.refusal);
-    line.number(answer.refusal);
-    position.note(line);
-    line.number(answer.count);
-    answer.payoffs.iter().for_each(|&payoff| line.payoff(payoff));
-    line.say("P");
-    line.say(answer.refusal);
-    if answer.refusal == 0 {
-        line.say(answer.count);
-        answer.payoffs[..answer.count as usize].iter().for_each(|&payoff| line.say(payoff));
-    }
 }

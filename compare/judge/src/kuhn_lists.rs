@@ -3,11 +3,8 @@
 use crate::kuhn::{rules_line, saved_line, start_line, Position, ACTIONS, CARDS};
 use crate::kuhn_paper::{all, Hand};
 use crate::line::ROOM;
-use crate::list::List;
+use crate::list::{histories, List, FAR};
 use crate::random::Random;
-
-/// Lengths and seat counts that a cut to 8, 16 or 32 bits would take for small ones.
-const FAR: [u64; 8] = [20, 255, 256, 258, 300, 65_538, (1 << 32) + 2, u64::MAX];
 
 /// A position as a line gives it: bytes for the first places of each array, and a number that fills the others.
 #[derive(Clone)]
@@ -56,19 +53,19 @@ impl Given {
 }
 
 impl List {
-    fn start(&mut self, seats: u64) {
+    fn kuhn_start(&mut self, seats: u64) {
         let answer = start_line(seats, self);
         self.push(&[0, seats], &answer);
     }
 
-    fn rules(&mut self, shown: bool, room: u64, given: &Given) {
+    fn kuhn_rules(&mut self, shown: bool, room: u64, given: &Given) {
         let answer = rules_line(shown, room, given.seats, given.position(), self);
         let code = if shown { 1 } else { 2 };
         self.push(&[vec![code, room], given.words()].concat(), &answer);
     }
 
-    fn saved(&mut self, given: &Given) {
-        let answer = saved_line(given.seats, given.position(), self);
+    fn kuhn_saved(&mut self, given: &Given) {
+        let answer = saved_line(true, given.seats, given.position(), self);
         self.push(&[vec![3], given.words()].concat(), &answer);
     }
 }
@@ -135,36 +132,20 @@ fn wild(random: &mut Random) -> Given {
     }
 }
 
-/// Every list of actions below `kinds` up to the given length.
-fn histories(kinds: u8, longest: usize) -> Vec<Vec<u8>> {
-    let mut out: Vec<Vec<u8>> = vec![Vec::new()];
-    let mut at = 0;
-    while at < out.len() {
-        if out[at].len() < longest {
-            for action in 0..kinds {
-                let next = [out[at].as_slice(), &[action]].concat();
-                out.push(next);
-            }
-        }
-        at += 1;
-    }
-    out
-}
-
 const WHOLE: u64 = ROOM as u64;
 
 /// The rules calls.
 pub fn rules(seed: u64) -> List {
     let mut random = Random::new(seed);
     let mut list = List::default();
-    (0..=12).chain(FAR).for_each(|seats| list.start(seats));
+    (0..=12).chain(FAR).for_each(|seats| list.kuhn_start(seats));
     reachable_positions(&mut list, &mut random);
     random_plays(&mut list, &mut random);
     short_outputs(&mut list, &mut random);
-    wrong_seats(&mut random, |given| list.rules(true, WHOLE, given));
-    damaged_positions(1, &mut random, |given| list.rules(false, WHOLE, given));
+    wrong_seats(&mut random, |given| list.kuhn_rules(true, WHOLE, given));
+    damaged_positions(1, &mut random, |given| list.kuhn_rules(false, WHOLE, given));
     for _ in 0..1000 {
-        list.rules(false, WHOLE, &wild(&mut random));
+        list.kuhn_rules(false, WHOLE, &wild(&mut random));
     }
     list
 }
@@ -174,18 +155,18 @@ pub fn saved(seed: u64) -> List {
     let mut random = Random::new(seed);
     let mut list = List::default();
     for n in 2..=3 {
-        all(n).iter().for_each(|hand| list.saved(&Given::new(n, hand, random.pick(&[0, 7]))));
+        all(n).iter().for_each(|hand| list.kuhn_saved(&Given::new(n, hand, random.pick(&[0, 7]))));
     }
     for n in 4..=10 {
         for hand in (0..6).flat_map(|_| play(n, &mut random)).collect::<Vec<_>>() {
-            list.saved(&Given::new(n, &hand, random.pick(&[0, 7])));
+            list.kuhn_saved(&Given::new(n, &hand, random.pick(&[0, 7])));
         }
     }
     every_history(&mut list, &mut random);
-    wrong_seats(&mut random, |given| list.saved(given));
-    damaged_positions(2, &mut random, |given| list.saved(given));
+    wrong_seats(&mut random, |given| list.kuhn_saved(given));
+    damaged_positions(2, &mut random, |given| list.kuhn_saved(given));
     for _ in 0..4000 {
-        list.saved(&wild(&mut random));
+        list.kuhn_saved(&wild(&mut random));
     }
     list
 }
@@ -195,7 +176,7 @@ fn reachable_positions(list: &mut List, random: &mut Random) {
     for n in 2..=4 {
         for (at, hand) in all(n).iter().enumerate() {
             let fill = random.pick(&[0, 7]);
-            list.rules(n < 4 || at % 64 == 0, WHOLE, &Given::new(n, hand, fill));
+            list.kuhn_rules(n < 4 || at % 64 == 0, WHOLE, &Given::new(n, hand, fill));
         }
     }
 }
@@ -206,7 +187,7 @@ fn random_plays(list: &mut List, random: &mut Random) {
         for turn in 0..25 {
             for hand in play(n, random) {
                 let fill = random.pick(&[0, 7]);
-                list.rules(turn == 0, WHOLE, &Given::new(n, &hand, fill));
+                list.kuhn_rules(turn == 0, WHOLE, &Given::new(n, &hand, fill));
             }
         }
     }
@@ -219,7 +200,7 @@ fn short_outputs(list: &mut List, random: &mut Random) {
         let hands = if n == 2 { small.clone() } else { some_hands(n, 2, random) };
         for hand in hands {
             for room in 0..=hand.history.len() as u64 + 2 {
-                list.rules(n == 2, room, &Given::new(n, &hand, 7));
+                list.kuhn_rules(n == 2, room, &Given::new(n, &hand, 7));
             }
         }
     }
@@ -254,7 +235,7 @@ fn every_history(list: &mut List, random: &mut Random) {
         for (at, deal) in deals.iter().enumerate() {
             for history in histories(if at == 0 { 3 } else { 2 }, 6) {
                 let hand = Hand { cards: deal.cards.clone(), history };
-                list.saved(&Given::new(n, &hand, random.pick(&[0, 1])));
+                list.kuhn_saved(&Given::new(n, &hand, random.pick(&[0, 1])));
             }
         }
     }

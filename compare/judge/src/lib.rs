@@ -1,9 +1,13 @@
 //! The judge: what the unchanged Rust answers, and where document 01 refuses, what document 01 says.
 //! It writes the lists that the proved programs replay. README.md has their format.
 
+pub mod answer;
 pub mod kuhn;
 pub mod kuhn_lists;
 pub mod kuhn_paper;
+pub mod leduc;
+pub mod leduc_lists;
+pub mod leduc_paper;
 pub mod line;
 pub mod list;
 pub mod random;

@@ -4,8 +4,12 @@ use std::fs;
 use std::io;
 use std::path::Path;
 
-/// No file of a list is larger.
-const MOST: usize = 2_000_000;
+/// No list is larger, and no program's output: a run is cut off at 1,048,576 bytes.
+const MOST_GIVEN: usize = 2_000_000;
+const MOST_WRITTEN: usize = 1_000_000;
+
+/// Lengths and seat counts that a cut to 8, 16 or 32 bits would take for small ones.
+pub const FAR: [u64; 8] = [20, 255, 256, 258, 300, 65_538, (1 << 32) + 2, u64::MAX];
 
 #[derive(Default)]
 pub struct List {
@@ -41,7 +45,8 @@ impl List {
         for &number in numbers {
             assert!(self.counts[number] >= 20, "{program}: too few answers {number}");
         }
-        assert!(self.stdin.len() <= MOST && self.stdout.len() <= MOST, "{program}: a file is too large");
+        assert!(self.stdin.len() <= MOST_GIVEN, "{program}: too much is given");
+        assert!(self.stdout.len() <= MOST_WRITTEN, "{program}: too much is written");
         let folder = folder.join(program);
         fs::create_dir_all(&folder)?;
         fs::write(folder.join("stdin"), &self.stdin)?;
@@ -52,4 +57,20 @@ impl List {
         }
         Ok(())
     }
+}
+
+/// Every list of actions below `kinds` up to the given length.
+pub fn histories(kinds: u8, longest: usize) -> Vec<Vec<u8>> {
+    let mut out: Vec<Vec<u8>> = vec![Vec::new()];
+    let mut at = 0;
+    while at < out.len() {
+        if out[at].len() < longest {
+            for action in 0..kinds {
+                let next = [out[at].as_slice(), &[action]].concat();
+                out.push(next);
+            }
+        }
+        at += 1;
+    }
+    out
 }

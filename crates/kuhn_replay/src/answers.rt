@@ -62,11 +62,14 @@ pub fn moved(out: &mut [u8; 4096], line: Line, call: u8, answer: Moved) -> Line 
     say_history(out, dealt, &history, state.acted)
 }
 
-// The answer of a saved-position check: its number alone in the text.
-pub fn number_alone(out: &mut [u8; 4096], line: Line, answer: Moved) -> Line {
+// The answer of a saved-position check: the text has its number for the marks 0 and 1.
+pub fn checked(out: &mut [u8; 4096], line: Line, answer: Moved, done: u64) -> Line {
     let state = answer.state;
     let mixed = mix_answer(line, answer.refusal, state);
-    replay::say(out, mixed, answer.refusal)
+    if done < 2 {
+        return replay::say(out, mixed, answer.refusal);
+    }
+    mixed
 }
 
 // The answer of a legal list or a key, with all of the output array.

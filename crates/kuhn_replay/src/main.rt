@@ -18,10 +18,10 @@ fn replay_line(buf: &mut [u8; 4096], out: &mut [u8; 4096], source: Source) -> So
     if code.value == 0 {
         return start(buf, out, from);
     }
-    if code.value == 3 {
-        return saved(buf, out, from);
+    if code.value < 3 {
+        return play(buf, out, from, code.value == 1);
     }
-    play(buf, out, from, code.value == 1)
+    saved(buf, out, from, code.value == 3)
 }
 
 // Code 0: a seat count.
@@ -46,10 +46,10 @@ fn play(buf: &mut [u8; 4096], out: &mut [u8; 4096], source: Source, shown: bool)
     asked.source
 }
 
-// Code 3: a seat count and a saved position.
-fn saved(buf: &mut [u8; 4096], out: &mut [u8; 4096], source: Source) -> Source {
+// Codes 3 and 4: a seat count and a saved position.
+fn saved(buf: &mut [u8; 4096], out: &mut [u8; 4096], source: Source, shown: bool) -> Source {
     let asked = position::read(buf, source);
-    let zero = check(out, Line::new(true), asked, 0);
+    let zero = check(out, Line::new(shown), asked, 0);
     let one = check(out, zero, asked, 1);
     let two = check(out, one, asked, 2);
     let line = check(out, two, asked, 18446744073709551615);
@@ -63,7 +63,7 @@ fn check(out: &mut [u8; 4096], line: Line, asked: position::Asked, done: u64) ->
     };
     let state = asked.state;
     let answer = game.validate_decoded_state(state, done);
-    answers::number_alone(out, line, answer)
+    answers::checked(out, line, answer, done)
 }
 
 // A proved loop has to end, and nothing says that the input does: the turns are more than any list has.

@@ -21,7 +21,7 @@ element-copy-out-mix-payoff : tie.Need-element-copy-out-mix-payoff Inv-loop μ-l
 element-copy-out-mix-payoff c = search needs
 
 mix-payoff-requires : tie.Need-mix-payoff-requires Inv-loop μ-loop
-mix-payoff-requires c κs = search needs
+mix-payoff-requires c κs = tt
 
 add-i : tie.Need-add-i Inv-loop μ-loop
 add-i c = search needs
@@ -33,7 +33,7 @@ loop-again : tie.Need-loop-again Inv-loop μ-loop
 loop-again c = tt
 
 returns : tie.Need-returns Inv-loop μ-loop
-returns c = search needs
+returns c = tt
 
 pub mix-payoffs-spec : {M : Type 1} → statement M
 mix-payoffs-spec =

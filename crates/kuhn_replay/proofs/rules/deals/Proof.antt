@@ -15,7 +15,7 @@ loop-holds : tie.Need-loop-holds Inv-loop μ-loop
 loop-holds c = tt
 
 deal-requires : tie.Need-deal-requires Inv-loop μ-loop
-deal-requires c κs = search needs
+deal-requires c κs = tt
 
 add-outcome : tie.Need-add-outcome Inv-loop μ-loop
 add-outcome c = search needs
@@ -27,16 +27,16 @@ loop-again : tie.Need-loop-again Inv-loop μ-loop
 loop-again c = tt
 
 deal-requires-2 : tie.Need-deal-requires-2 Inv-loop μ-loop
-deal-requires-2 c κs = search needs
+deal-requires-2 c κs = tt
 
 deal-requires-3 : tie.Need-deal-requires-3 Inv-loop μ-loop
-deal-requires-3 c κs = search needs
+deal-requires-3 c κs = tt
 
 deal-requires-4 : tie.Need-deal-requires-4 Inv-loop μ-loop
-deal-requires-4 c κs = search needs
+deal-requires-4 c κs = tt
 
 returns : tie.Need-returns Inv-loop μ-loop
-returns c = search needs
+returns c = tt
 
 pub deals-spec : {M : Type 1} → statement M
 deals-spec =

@@ -15,7 +15,7 @@ loop-holds : tie.Need-loop-holds Inv-loop μ-loop
 loop-holds c = tt
 
 key-requires : tie.Need-key-requires Inv-loop μ-loop
-key-requires c κs = search needs
+key-requires c κs = tt
 
 add-agent : tie.Need-add-agent Inv-loop μ-loop
 add-agent c = search needs
@@ -27,13 +27,13 @@ loop-again : tie.Need-loop-again Inv-loop μ-loop
 loop-again c = tt
 
 key-requires-2 : tie.Need-key-requires-2 Inv-loop μ-loop
-key-requires-2 c κs = search needs
+key-requires-2 c κs = tt
 
 key-requires-3 : tie.Need-key-requires-3 Inv-loop μ-loop
-key-requires-3 c κs = search needs
+key-requires-3 c κs = tt
 
 returns : tie.Need-returns Inv-loop μ-loop
-returns c = search needs
+returns c = tt
 
 pub keys-spec : {M : Type 1} → statement M
 keys-spec =

@@ -15,7 +15,7 @@ loop-holds : tie.Need-loop-holds Inv-loop μ-loop
 loop-holds c = tt
 
 legal-requires : tie.Need-legal-requires Inv-loop μ-loop
-legal-requires c κs = search needs
+legal-requires c κs = tt
 
 add-agent : tie.Need-add-agent Inv-loop μ-loop
 add-agent c = search needs
@@ -27,13 +27,13 @@ loop-again : tie.Need-loop-again Inv-loop μ-loop
 loop-again c = tt
 
 legal-requires-2 : tie.Need-legal-requires-2 Inv-loop μ-loop
-legal-requires-2 c κs = search needs
+legal-requires-2 c κs = tt
 
 legal-requires-3 : tie.Need-legal-requires-3 Inv-loop μ-loop
-legal-requires-3 c κs = search needs
+legal-requires-3 c κs = tt
 
 returns : tie.Need-returns Inv-loop μ-loop
-returns c = search needs
+returns c = tt
 
 pub legals-spec : {M : Type 1} → statement M
 legals-spec =

@@ -19,7 +19,7 @@ shared-slice-read-mix : tie.Need-shared-slice-read-mix Inv-loop μ-loop
 shared-slice-read-mix c = search needs
 
 mix-requires : tie.Need-mix-requires Inv-loop μ-loop
-mix-requires c κs = search needs
+mix-requires c κs = tt
 
 add-i : tie.Need-add-i Inv-loop μ-loop
 add-i c = search needs
@@ -31,7 +31,7 @@ loop-again : tie.Need-loop-again Inv-loop μ-loop
 loop-again c = tt
 
 returns : tie.Need-returns Inv-loop μ-loop
-returns c = search needs
+returns c = tt
 
 pub mix-all-spec : {M : Type 1} → statement M
 mix-all-spec =

@@ -17,7 +17,7 @@ cast-mix : tie.Need-cast-mix Inv-loop μ-loop
 cast-mix c = search needs
 
 mix-requires : tie.Need-mix-requires Inv-loop μ-loop
-mix-requires c κs = search needs
+mix-requires c κs = tt
 
 sub-turns : tie.Need-sub-turns Inv-loop μ-loop
 sub-turns c = search needs
@@ -29,7 +29,7 @@ loop-again : tie.Need-loop-again Inv-loop μ-loop
 loop-again c = tt
 
 returns : tie.Need-returns Inv-loop μ-loop
-returns c = search needs
+returns c = tt
 
 pub mix-number-spec : {M : Type 1} → statement M
 mix-number-spec =

@@ -14,7 +14,7 @@ loop-holds : tie.Need-loop-holds Inv-loop μ-loop
 loop-holds c = tt
 
 next-requires : tie.Need-next-requires Inv-loop μ-loop
-next-requires c κs = search needs
+next-requires c κs = tt
 
 loop-less : tie.Need-loop-less Inv-loop μ-loop
 loop-less c = search needs
@@ -26,7 +26,7 @@ cast-longer : tie.Need-cast-longer Inv-loop μ-loop
 cast-longer c = search needs
 
 longer-requires : tie.Need-longer-requires Inv-loop μ-loop
-longer-requires c κs = search needs
+longer-requires c κs = tt
 
 sub-turns : tie.Need-sub-turns Inv-loop μ-loop
 sub-turns c = search needs
@@ -38,7 +38,7 @@ loop-again-2 : tie.Need-loop-again-2 Inv-loop μ-loop
 loop-again-2 c = tt
 
 returns : tie.Need-returns Inv-loop μ-loop
-returns c = search needs
+returns c = tt
 
 pub number-spec : {M : Type 1} → statement M
 number-spec =
