@@ -1,4 +1,4 @@
-//! Kuhn's answers: the unchanged Rust's where it is asked something that document 01 lets through, else document 01's number.
+//! Kuhn's answers: the unchanged Rust's where document 01 lets the question through, else document 01's number.
 
 use crate::answer::{tried, written, Moved, Noted, Payoffs, Written};
 use crate::kuhn_paper::{reachable, Hand};
@@ -49,7 +49,6 @@ impl Position {
         next.acted = state.history.len() as u64;
         next
     }
-
 }
 
 impl Noted for Position {

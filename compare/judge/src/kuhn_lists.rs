@@ -134,8 +134,13 @@ fn wild(random: &mut Random) -> Given {
 
 const WHOLE: u64 = ROOM as u64;
 
+/// The whole list.
+pub fn list(seed: u64) -> List {
+    rules(seed).append(saved(seed))
+}
+
 /// The rules calls.
-pub fn rules(seed: u64) -> List {
+fn rules(seed: u64) -> List {
     let mut random = Random::new(seed);
     let mut list = List::default();
     (0..=12).chain(FAR).for_each(|seats| list.kuhn_start(seats));
@@ -151,7 +156,7 @@ pub fn rules(seed: u64) -> List {
 }
 
 /// The saved-position check.
-pub fn saved(seed: u64) -> List {
+fn saved(seed: u64) -> List {
     let mut random = Random::new(seed);
     let mut list = List::default();
     for n in 2..=3 {
@@ -228,7 +233,7 @@ fn damaged_positions(plays: usize, random: &mut Random, mut put: impl FnMut(&Giv
     }
 }
 
-/// Every history of passes and bets up to length 6 on every deal of 2 and 3 seats, and with unknown actions on one deal.
+/// Every history of passes and bets up to length 6 on every deal of 2 and 3 seats; on the first deal with unknown ones.
 fn every_history(list: &mut List, random: &mut Random) {
     for n in 2..=3 {
         let deals: Vec<Hand> = all(n).into_iter().filter(|h| h.cards.len() == n && h.history.is_empty()).collect();

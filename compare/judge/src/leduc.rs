@@ -1,4 +1,4 @@
-//! Leduc's answers: the unchanged Rust's where it is asked something that document 01 lets through, else document 01's number.
+//! Leduc's answers: the unchanged Rust's where document 01 lets the question through, else document 01's number.
 
 use crate::answer::{tried, written, Moved, Noted, Payoffs, Written};
 use crate::leduc_paper::{reachable, Hand};

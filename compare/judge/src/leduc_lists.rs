@@ -46,7 +46,8 @@ impl Given {
     }
 
     fn words(&self) -> Vec<u64> {
-        let mut words = vec![self.dealt, number_of_public(self.public), self.acted[0], self.acted[1], u64::from(self.fill)];
+        let mut words =
+            vec![self.dealt, number_of_public(self.public), self.acted[0], self.acted[1], u64::from(self.fill)];
         for bytes in [&self.cards, &self.rounds[0], &self.rounds[1]] {
             words.push(bytes.len() as u64);
             words.extend(bytes.iter().map(|&byte| u64::from(byte)));
@@ -118,8 +119,13 @@ fn wild(random: &mut Random) -> Given {
     }
 }
 
+/// The whole list.
+pub fn list(seed: u64) -> List {
+    rules(seed).append(saved(seed))
+}
+
 /// The rules calls.
-pub fn rules(seed: u64) -> List {
+fn rules(seed: u64) -> List {
     let mut random = Random::new(seed);
     let mut list = List::default();
     let answer = start_line(&mut list);
@@ -147,7 +153,7 @@ pub fn rules(seed: u64) -> List {
 }
 
 /// The saved-position check.
-pub fn saved(seed: u64) -> List {
+fn saved(seed: u64) -> List {
     let mut random = Random::new(seed);
     let mut list = List::default();
     let hands = all();
@@ -171,7 +177,7 @@ pub fn saved(seed: u64) -> List {
     list
 }
 
-/// Every pair of histories up to length 4: all on two deals, in full text on the first, and a sample of them on the others.
+/// Every pair of histories up to length 4: all on two deals, the first in text, and a sample on two others.
 fn every_history(list: &mut List, random: &mut Random) {
     let every = histories(3, HALF);
     for (at, cards, public) in [(0, [0, 5], 1), (1, [3, 2], 4), (2, [1, 0], 2), (3, [4, 1], 5)] {

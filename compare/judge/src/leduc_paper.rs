@@ -55,7 +55,7 @@ impl Hand {
         paid
     }
 
-    /// What the seat whose turn it is may do: FOLD only when behind, CALL always, RAISE while the round has fewer than two.
+    /// What the acting seat may do: FOLD only when behind, CALL always, RAISE while the round has fewer than two.
     pub fn legal(&self) -> Vec<u8> {
         let round = &self.rounds[usize::from(closed(&self.rounds[0]))];
         let (seat, paid) = (round.len() % 2, self.paid());

@@ -14,6 +14,9 @@ pub mod random;
 
 use reinfors_core::reward::Reward;
 
+/// The seed of the committed lists.
+pub const SEED: u64 = 2026;
+
 /// A reward that is the event's number.
 pub struct EventNumber;
 

@@ -14,6 +14,6 @@ fn main() -> io::Result<()> {
     let [_, seed, folder] = arguments.as_slice() else { panic!("usage: lists SEED FOLDER") };
     let seed = seed.parse().expect("the seed is a number");
     let folder = Path::new(folder);
-    kuhn_lists::rules(seed).append(kuhn_lists::saved(seed)).write(folder, "kuhn_replay", &KUHN)?;
-    leduc_lists::rules(seed).append(leduc_lists::saved(seed)).write(folder, "leduc_replay", &LEDUC)
+    kuhn_lists::list(seed).write(folder, "kuhn_replay", &KUHN)?;
+    leduc_lists::list(seed).write(folder, "leduc_replay", &LEDUC)
 }
