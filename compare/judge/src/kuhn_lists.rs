@@ -3,7 +3,7 @@
 use crate::kuhn::{rules_line, saved_line, start_line, Position, ACTIONS, CARDS};
 use crate::kuhn_paper::{all, Hand};
 use crate::line::ROOM;
-use crate::list::{histories, List, FAR};
+use crate::list::{histories, List, Words, FAR};
 use crate::random::Random;
 
 /// A position as a line gives it: bytes for the first places of each array, and a number that fills the others.
@@ -26,6 +26,17 @@ impl Given {
             fill,
             cards: hand.cards.clone(),
             history: hand.history.clone(),
+        }
+    }
+
+    fn read(record: &mut Words) -> Self {
+        Given {
+            seats: record.number(),
+            dealt: record.number(),
+            acted: record.number(),
+            fill: record.number() as u8,
+            cards: record.bytes(),
+            history: record.bytes(),
         }
     }
 
@@ -52,6 +63,21 @@ impl Given {
     }
 }
 
+/// The answer to one record of a list.
+pub fn answer(record: &str) -> String {
+    let mut record = Words::new(record);
+    let mut list = List::default();
+    match record.number() {
+        0 => list.kuhn_start(record.number()),
+        code @ (1 | 2) => {
+            let room = record.number();
+            list.kuhn_rules(code == 1, room, &Given::read(&mut record));
+        }
+        code => list.kuhn_saved(code == 3, &Given::read(&mut record)),
+    }
+    list.stdout
+}
+
 impl List {
     fn kuhn_start(&mut self, seats: u64) {
         let answer = start_line(seats, self);
@@ -64,9 +90,10 @@ impl List {
         self.push(&[vec![code, room], given.words()].concat(), &answer);
     }
 
-    fn kuhn_saved(&mut self, given: &Given) {
-        let answer = saved_line(true, given.seats, given.position(), self);
-        self.push(&[vec![3], given.words()].concat(), &answer);
+    fn kuhn_saved(&mut self, shown: bool, given: &Given) {
+        let answer = saved_line(shown, given.seats, given.position(), self);
+        let code = if shown { 3 } else { 4 };
+        self.push(&[vec![code], given.words()].concat(), &answer);
     }
 }
 
@@ -160,18 +187,18 @@ fn saved(seed: u64) -> List {
     let mut random = Random::new(seed);
     let mut list = List::default();
     for n in 2..=3 {
-        all(n).iter().for_each(|hand| list.kuhn_saved(&Given::new(n, hand, random.pick(&[0, 7]))));
+        all(n).iter().for_each(|hand| list.kuhn_saved(true, &Given::new(n, hand, random.pick(&[0, 7]))));
     }
     for n in 4..=10 {
         for hand in (0..6).flat_map(|_| play(n, &mut random)).collect::<Vec<_>>() {
-            list.kuhn_saved(&Given::new(n, &hand, random.pick(&[0, 7])));
+            list.kuhn_saved(true, &Given::new(n, &hand, random.pick(&[0, 7])));
         }
     }
     every_history(&mut list, &mut random);
-    wrong_seats(&mut random, |given| list.kuhn_saved(given));
-    damaged_positions(2, &mut random, |given| list.kuhn_saved(given));
+    wrong_seats(&mut random, |given| list.kuhn_saved(true, given));
+    damaged_positions(2, &mut random, |given| list.kuhn_saved(true, given));
     for _ in 0..4000 {
-        list.kuhn_saved(&wild(&mut random));
+        list.kuhn_saved(true, &wild(&mut random));
     }
     list
 }
@@ -240,7 +267,7 @@ fn every_history(list: &mut List, random: &mut Random) {
         for (at, deal) in deals.iter().enumerate() {
             for history in histories(if at == 0 { 3 } else { 2 }, 6) {
                 let hand = Hand { cards: deal.cards.clone(), history };
-                list.kuhn_saved(&Given::new(n, &hand, random.pick(&[0, 1])));
+                list.kuhn_saved(true, &Given::new(n, &hand, random.pick(&[0, 1])));
             }
         }
     }

@@ -3,7 +3,7 @@
 use crate::leduc::{number_of_public, rules_line, saved_line, start_line, Position, CARDS, HALF};
 use crate::leduc_paper::{all, Hand};
 use crate::line::ROOM;
-use crate::list::{histories, List, FAR};
+use crate::list::{histories, List, Words, FAR};
 use crate::random::Random;
 
 const WHOLE: u64 = ROOM as u64;
@@ -28,6 +28,17 @@ impl Given {
             fill,
             cards: hand.cards.clone(),
             rounds: hand.rounds.clone(),
+        }
+    }
+
+    fn read(record: &mut Words) -> Self {
+        Given {
+            dealt: record.number(),
+            public: record.number().checked_sub(1).map(|card| card as u8),
+            acted: [record.number(), record.number()],
+            fill: record.number() as u8,
+            cards: record.bytes(),
+            rounds: [record.bytes(), record.bytes()],
         }
     }
 
@@ -56,7 +67,27 @@ impl Given {
     }
 }
 
+/// The answer to one record of a list.
+pub fn answer(record: &str) -> String {
+    let mut record = Words::new(record);
+    let mut list = List::default();
+    match record.number() {
+        0 => list.leduc_start(),
+        code @ (1 | 2) => {
+            let room = record.number();
+            list.leduc_rules(code == 1, room, &Given::read(&mut record));
+        }
+        code => list.leduc_saved(code == 3, &Given::read(&mut record)),
+    }
+    list.stdout
+}
+
 impl List {
+    fn leduc_start(&mut self) {
+        let answer = start_line(self);
+        self.push(&[0], &answer);
+    }
+
     fn leduc_rules(&mut self, shown: bool, room: u64, given: &Given) {
         let answer = rules_line(shown, room, given.position(), self);
         let code = if shown { 1 } else { 2 };
@@ -128,8 +159,7 @@ pub fn list(seed: u64) -> List {
 fn rules(seed: u64) -> List {
     let mut random = Random::new(seed);
     let mut list = List::default();
-    let answer = start_line(&mut list);
-    list.push(&[0], &answer);
+    list.leduc_start();
     let hands = all();
     for (at, hand) in hands.iter().enumerate() {
         list.leduc_rules(at % 32 == 0, WHOLE, &Given::new(hand, random.pick(&[0, 7])));

@@ -4,7 +4,7 @@ use std::fs;
 use std::io;
 use std::path::Path;
 
-/// No list is larger, and no program's output: a run is cut off at 1,048,576 bytes.
+/// No list is larger, and no program's output: `rt try` cuts a run off at 1,048,576 bytes.
 const MOST_GIVEN: usize = 2_000_000;
 const MOST_WRITTEN: usize = 1_000_000;
 
@@ -56,6 +56,26 @@ impl List {
             println!("  {number}: {count} answers");
         }
         Ok(())
+    }
+}
+
+/// The numbers of a record, one after the other.
+pub struct Words<'a>(std::str::SplitWhitespace<'a>);
+
+impl<'a> Words<'a> {
+    pub fn new(record: &'a str) -> Self {
+        Words(record.split_whitespace())
+    }
+
+    pub fn number(&mut self) -> u64 {
+        let word = self.0.next().expect("the record has a number more");
+        word.parse().expect("a record holds decimal numbers")
+    }
+
+    /// A count and as many bytes.
+    pub fn bytes(&mut self) -> Vec<u8> {
+        let count = self.number();
+        (0..count).map(|_| self.number() as u8).collect()
     }
 }
 

@@ -1,5 +1,6 @@
 //! The lists themselves: what the paper's moves reach, and that the committed files are what the seed makes.
 
+use judge::list::List;
 use judge::{kuhn_lists, kuhn_paper, leduc_lists, leduc_paper};
 use reinfors_core::game::{Actor, Game};
 use reinfors_games::leduc::{LeducPoker, LeducState};
@@ -75,4 +76,13 @@ fn committed_lists_are_the_seeds() {
         assert!(list.stdin == committed(program, "stdin"), "{program}: stdin is another list");
         assert!(list.stdout == committed(program, "stdout"), "{program}: stdout has other answers");
     }
+}
+
+/// Every record says all that its answer rests on.
+#[test]
+fn records_can_be_answered_alone() {
+    let answered = |list: &List, answer: fn(&str) -> String| list.stdin.lines().map(answer).collect::<String>();
+    let (kuhn, leduc) = (kuhn_lists::list(judge::SEED), leduc_lists::list(judge::SEED));
+    assert!(answered(&kuhn, kuhn_lists::answer) == kuhn.stdout);
+    assert!(answered(&leduc, leduc_lists::answer) == leduc.stdout);
 }

@@ -30,7 +30,7 @@ pub mod space {
 
 /// The largest fan that is enumerated: far above the eleven and six cards of the two games' decks.
 pub mod policy {
-    pub const MAX_ENUMERATED_OUTCOMES: usize = 1 << 20;
+    pub const MAX_ENUMERATED_OUTCOMES: usize = 1_048_576;
 }
 
 /// Saved positions. Only `validate_decoded_state` is called.

@@ -36,7 +36,7 @@ impl Source {
 fn refill(buf: &mut [u8; 4096]) -> Byte {
     let got = libc::read(0, buf);
     let n = io::count(got, buf);
-    let byte = buf[0];
+    let byte = if n == 0 { 0 } else { buf[0] };
     let source = Source {
         at: 1,
         end: n,
