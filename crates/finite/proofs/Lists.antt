@@ -19,6 +19,12 @@ use Rattle.finite.proofs.Tests.{Tested, holds, fails, tested, true≢fa
 pub some-take : (P : ℕ → ℕ → Bool) (a : ℕ) (l : List ℕ) (d : ℕ) → a ≤ length l → some (length (take a l)) (λ i. P i (getD (take a l) i d)) ≡ some a (λ i. P i (getD l i d))
 some-take P a l d h = ap (λ n. some n (λ i. P i (getD (take a l) i d))) (length-take-le a l h) ∙ some-same a (λ i. P i (getD (take a l) i d)) (λ i. P i (getD l i d)) (λ i w. ap (P i) (getD-take a l i d w))
 
+-- what stands within a list does not depend on what is given past its end
+pub getD-within : (l : List ℕ) (i d e : ℕ) → i < length l → getD l i d ≡ getD l i e
+getD-within [] i d e h = absurd (omega arith)
+getD-within (x ∷ l) zero d e h = refl
+getD-within (x ∷ l) (suc i) d e h = getD-within l i d e (omega arith)
+
 -- ---- what stands in a list
 
 pub has-append : (c : ℕ) (xs ys : List ℕ) → has c (xs ++ ys) ≡ or (has c xs) (has c ys)

@@ -5,3 +5,4 @@ pub mod Winner
 pub mod Amounts
 pub mod Positions
 pub mod Answers
+pub mod Outputs
