@@ -17,5 +17,6 @@ pub mod Theorem
 pub mod Order
 pub mod SmallTables
 pub mod Sets
+pub mod Counting
 pub mod Tables
 pub mod TableTheorem

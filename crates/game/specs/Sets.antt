@@ -137,3 +137,20 @@ setMembers t j k = numbers j k 0 (preorder t)
 -- decisions of one seat with equal keys have equally many actions
 abbrev pub SameActions : Tree → Type 0
 SameActions t = (A : ℕ → Key → ℕ) × Every (λ j k n. n ≡ A j k) t
+
+-- d gives, by seat and key, the most decisions still to come at each decision, its own among them
+unfoldable mutual
+  unfolding height
+
+  pub Heights : (ℕ → Key → ℕ) → Tree → Type 0
+  Heights d (end p) = Unit {0}
+  Heights d (chance f) = HeightsAll d f
+  Heights d (decide j k f) = (height (decide j k f) ≡ d j k) × HeightsAll d f
+
+  pub HeightsAll : (ℕ → Key → ℕ) → Trees → Type 0
+  HeightsAll d nil = Unit {0}
+  HeightsAll d (cons t f) = Heights d t × HeightsAll d f
+
+-- decisions of one seat with equal keys have the same remaining depth
+abbrev pub SameHeights : Tree → Type 0
+SameHeights t = (d : ℕ → Key → ℕ) × Heights d t

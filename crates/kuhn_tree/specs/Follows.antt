@@ -1,0 +1,36 @@
+-- What it is for a tree to follow Kuhn's rules from a position, without fuel. Definitions only; nothing is assumed.
+use mathlib.Core.Path.{_≡_}
+use mathlib.Core.Bool.{true}
+use mathlib.Core.List.{List, [], _∷_, _++_, map}
+use Prim.Native.Nat.{ℕ}
+use Rattle.game.specs.Tree.{Tree, end, chance, decide, Trees, nil, cons}
+use Rattle.kuhn.specs.Rules.{due, live, over, remaining, turn, key, legal, payoff}
+use Rattle.kuhn.specs.Reached.{Reached}
+
+-- the cards dealt and the actions made
+abbrev pub Position : Type 0
+Position = List ℕ × List ℕ
+
+-- the positions after a deal, one for each card left, ascending
+unfoldable pub dealt : ℕ → List ℕ → List ℕ → List Position
+dealt n cs h = map (λ c. (cs ++ (c ∷ []), h)) (remaining n cs)
+
+-- the positions after an action, one for each legal one, in legal order
+unfoldable pub acted : ℕ → List ℕ → List ℕ → List Position
+acted n cs h = map (λ a. (cs, h ++ (a ∷ []))) (legal n cs h (turn n h))
+
+-- each node stands for a reachable position: an end where the hand is over, with its payoffs; a chance node where a card is due; a decision where a seat acts, with its key
+module _ (ante bet n : ℕ) where
+  unfoldable mutual
+    unfolding dealt acted
+
+    pub Follows : Tree → List ℕ → List ℕ → Type 0
+    Follows (end p) cs h = Reached n cs h × (over n cs h ≡ true) × (p ≡ payoff ante bet n cs h)
+    Follows (chance f) cs h = Reached n cs h × (due n cs ≡ true) × FollowsAll f (dealt n cs h)
+    Follows (decide j k f) cs h = Reached n cs h × (live n cs h ≡ true) × (j ≡ turn n h) × (k ≡ key cs h j) × FollowsAll f (acted n cs h)
+
+    pub FollowsAll : Trees → List Position → Type 0
+    FollowsAll nil [] = Unit {0}
+    FollowsAll nil (q ∷ qs) = ⊥
+    FollowsAll (cons t f) [] = ⊥
+    FollowsAll (cons t f) (q ∷ qs) = Follows t (q .0) (q .1) × FollowsAll f qs
