@@ -14,8 +14,7 @@ pub mod Rival
 pub mod Bounds
 pub mod Small
 pub mod Theorem
-pub mod Order
-pub mod SmallTables
+pub mod Computed
 pub mod Sets
 pub mod Counting
 pub mod Tables

@@ -17,11 +17,10 @@ use Rattle.game.proofs.Integers.{+ℤ-mono, +ℤ-cancel}
 use Rattle.game.proofs.Against.{every-both, own-entries-free}
 use Rattle.game.proofs.Rival.{no-rival-better, reply-is-rival, reply-worth}
 use Rattle.game.proofs.Small.{small-premises}
-use Rattle.game.proofs.SmallTables.{small-replies}
+use Rattle.game.proofs.Computed.{small-replies}
 use Rattle.game.proofs.Sets.{preorder-length, every→sets, sets-distinct, Stands, sets-stand}
 use Rattle.game.proofs.Tables.{Same, worth-same, laidOut-length, laidOut-at, laidOut-adds, adds-at, laidOut-back, seats-at, laidOut-keeps}
-pub use Rattle.game.proofs.Order.{first-nodes, small-sets}
-pub use Rattle.game.proofs.SmallTables.{small-tables}
+pub use Rattle.game.proofs.Computed.{first-nodes, small-sets, small-tables}
 
 pub nodes-counted : NodesCounted
 nodes-counted t = preorder-length t

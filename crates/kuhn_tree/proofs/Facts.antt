@@ -11,7 +11,7 @@ use Rattle.kuhn_tree.proofs.Recall.{kuhn-recall}
 use Rattle.kuhn_tree.proofs.Payoffs.{kuhn-pays}
 use Rattle.kuhn_tree.proofs.Sets.{kuhn-same-actions}
 pub use Rattle.kuhn_tree.proofs.Cases.{keys-in-order, case-k, case-k-reply, case-l}
-pub use Rattle.kuhn_tree.proofs.Counts.{counts, too-large}
+pub use Rattle.kuhn_tree.proofs.Counts.{counted, counts, too-large}
 
 pub follows-rules : FollowsRules
 follows-rules ante bet n l = kuhn-follows n l ante bet

@@ -12,6 +12,7 @@ use Rattle.game.specs.Sets.{size, sizes}
 use Rattle.game.proofs.Counting.{In}
 use Rattle.kuhn.specs.Rules.{PASS, BET, ended, remaining}
 use Rattle.kuhn_tree.specs.Tree.{each, m, kuhnTree}
+use Rattle.kuhn_tree.specs.Counts.{dealNodes}
 use Rattle.kuhn_tree.proofs.Cards.{remaining-less, remaining-all}
 use Rattle.kuhn_tree.proofs.Shape.{hand, deals, kuhn-deals}
 
@@ -19,11 +20,6 @@ each-size : (l : List ℕ) (g : ℕ → Tree) (S : ℕ) → ((c : ℕ) → In c 
 unfolding each size In
 each-size [] g S h = sym (NatL.zero-mul S)
 each-size (c ∷ l) g S h = ap₂ _+_ (h c (inl refl)) (each-size l g S (λ x w. h x (inr w))) ∙ NatL.add-comm S (length l * S) ∙ sym (NatL.suc-mul (length l) S)
-
--- nodes with k of L cards to deal, above hands of B nodes
-unfoldable pub dealSize : ℕ → ℕ → ℕ → ℕ
-dealSize B L zero = B
-dealSize B L (suc k) = suc (L * dealSize B (pred L) k)
 
 module _ (ante bet n : ℕ) where
   hand-size : (cs ds : List ℕ) (r : ℕ) (b : Bool) (h : List ℕ) → size (hand ante bet n cs r b h) ≡ size (hand ante bet n ds r b h)
@@ -36,11 +32,11 @@ module _ (ante bet n : ℕ) where
   unfolding hand size
   handSize = size (hand ante bet n [] (m n) (ended n []) [])
 
-  deals-size : (k L : ℕ) (cs : List ℕ) → length (remaining n cs) ≡ L → size (deals ante bet n k cs) ≡ dealSize handSize L k
-  unfolding deals size dealSize handSize
+  deals-size : (k L : ℕ) (cs : List ℕ) → length (remaining n cs) ≡ L → size (deals ante bet n k cs) ≡ dealNodes handSize L k
+  unfolding deals size dealNodes handSize
   deals-size zero L cs e = hand-size cs [] (m n) (ended n []) []
-  deals-size (suc k) L cs e = ap suc (each-size (remaining n cs) (λ c. deals ante bet n k (cs ++ (c ∷ []))) (dealSize handSize (pred L) k)
-      (λ c w. deals-size k (pred L) (cs ++ (c ∷ [])) (omega (arith, remaining-less n cs c w))) ∙ ap (λ l. l * dealSize handSize (pred L) k) e)
+  deals-size (suc k) L cs e = ap suc (each-size (remaining n cs) (λ c. deals ante bet n k (cs ++ (c ∷ []))) (dealNodes handSize (pred L) k)
+      (λ c w. deals-size k (pred L) (cs ++ (c ∷ [])) (omega (arith, remaining-less n cs c w))) ∙ ap (λ l. l * dealNodes handSize (pred L) k) e)
 
-  pub kuhn-size : size (kuhnTree ante bet n) ≡ dealSize handSize (suc n) n
+  pub kuhn-size : size (kuhnTree ante bet n) ≡ dealNodes handSize (suc n) n
   kuhn-size = ap size (kuhn-deals ante bet n) ∙ deals-size n (suc n) [] (remaining-all n)

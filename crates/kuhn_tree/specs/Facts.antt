@@ -11,6 +11,7 @@ use Rattle.game.specs.Sets.{size, sets, setCount, entries, SameActions, SameHei
 use Rattle.game.specs.Table.{Table, ValidTable, RivalTable, tableWorth, tableBest, replyTable, nashConv}
 use Rattle.kuhn_tree.specs.Tree.{next, below, m, fuel, kuhnTree, C, largestPayoff}
 use Rattle.kuhn_tree.specs.Follows.{Follows}
+use Rattle.kuhn_tree.specs.Counts.{nodes, setsOf, entriesOf}
 
 -- 1. The tree follows the rules from the start: every node stands for a reachable position, ends just where the hand is over.
 abbrev pub FollowsRules : Type 0
@@ -20,10 +21,14 @@ FollowsRules = (ante bet n : ℕ) → 1 ≤ n → Follows ante bet n (kuhnTree a
 abbrev pub FuelEnough : Type 0
 FuelEnough = (ante bet n x : ℕ) → 1 ≤ n → below ante bet n (x + fuel n) (next n [] []) [] [] ≡ kuhnTree ante bet n
 
--- 2. Document 01's table of counts, Kuhn's five rows: nodes, sets, entries.
+-- 2. The nodes, sets and entries of the tree are as many as Counts says.
 abbrev pub Row : Tree → ℕ → ℕ → ℕ → Type 0
 Row t a b c = (size t ≡ a) × (setCount t ≡ b) × (entries t ≡ c)
 
+abbrev pub Counted : Type 0
+Counted = (ante bet n : ℕ) → 1 ≤ n → Row (kuhnTree ante bet n) (nodes n) (setsOf n) (entriesOf n)
+
+-- Document 01's table of counts, Kuhn's five rows.
 abbrev pub Counts : Type 0
 Counts = (ante bet : ℕ) → Row (kuhnTree ante bet 2) 58 12 24 × Row (kuhnTree ante bet 3) 617 48 96 × Row (kuhnTree ante bet 4) 7886 160 320
     × Row (kuhnTree ante bet 5) 116437 480 960 × Row (kuhnTree ante bet 6) 1944020 1344 2688
