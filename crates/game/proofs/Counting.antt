@@ -102,7 +102,7 @@ each-in P [] h x m = absurd m
 each-in P (y ∷ xs) h x (inl e) = rw e at (h .0)
 each-in P (y ∷ xs) h x (inr m) = each-in P xs (h .1) x m
 
-in-met : (x : Decision) (xs : List Decision) → In x xs → met (x .0) (x .1) xs ≡ true
+pub in-met : (x : Decision) (xs : List Decision) → In x xs → met (x .0) (x .1) xs ≡ true
 unfolding In
 in-met x [] m = absurd m
 in-met x (y ∷ xs) (inl e) = met-here (x .0) (x .1) y xs (ap (isOf (x .0) (x .1)) e ∙ isOf-self x)

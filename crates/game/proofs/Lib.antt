@@ -17,5 +17,6 @@ pub mod Theorem
 pub mod Computed
 pub mod Sets
 pub mod Counting
+pub mod Walk
 pub mod Tables
 pub mod TableTheorem

@@ -150,7 +150,7 @@ module _ (j : ℕ) (k : Key) where
   unfolding met
   met-past x xs e = rw e
 
-  not-here : (x : Decision) (xs : List Decision) → met j k (x ∷ xs) ≡ false → isOf j k x ≡ false
+  pub not-here : (x : Decision) (xs : List Decision) → met j k (x ∷ xs) ≡ false → isOf j k x ≡ false
   not-here x xs e = at (tested (isOf j k x))
     where
       at : Tested (isOf j k x) → isOf j k x ≡ false

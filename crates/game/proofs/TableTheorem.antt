@@ -7,14 +7,16 @@ use lib.ListN.{getD}
 use lib.Signed.{_≤ℤ_, ≤ℤ-refl}
 use Rattle.game.specs.Sums.{parts}
 use Rattle.game.specs.Tree.{Key, Tree, Strategy, all, Every, Keeps}
-use Rattle.game.specs.Reply.{reply}
+use Rattle.game.specs.Reply.{replyTree, best, reply}
 use Rattle.game.specs.Sets.{sets, entriesOf, before, SameActions}
 use Rattle.game.specs.Table.{Table, strategyOf, tableOf, KeepsTable, tableWorth, tableBest, replyTable, nashConv}
 use Rattle.game.specs.Small.{small}
 use Rattle.game.specs.TableTheorem.{NodesCounted, TableBack, StrategyBack, TableValid, StrategyValid, TableRival, ReplyTableRival, ReplyTableWorth, NoRivalTableBetter}
-use Rattle.game.specs.TableTheorem.{OwnTableEntriesFree, NashConvNotBelow, smallTable, SmallNoRivalTable}
+use Rattle.game.specs.TableTheorem.{ReplyTableEntries, OwnTableEntriesFree, TableUnitsAddUp, TableBounds, NashConvNotBelow, smallTable, SmallNoRivalTable}
 use Rattle.game.proofs.Integers.{+ℤ-mono, +ℤ-cancel}
 use Rattle.game.proofs.Against.{every-both, own-entries-free}
+use Rattle.game.proofs.Units.{units-add-up}
+use Rattle.game.proofs.Bounds.{value-bound, worth-bound}
 use Rattle.game.proofs.Rival.{no-rival-better, reply-is-rival, reply-worth}
 use Rattle.game.proofs.Small.{small-premises}
 use Rattle.game.proofs.Computed.{small-replies}
@@ -68,6 +70,10 @@ reply-table-rival t D u i table d p h v = let (x, y) = reply-is-rival D i u s t 
     kept y e l f = laidOut-keeps i s r (sets t) (every→sets (λ j k n. (j ≡ i → ⊥) → (a : ℕ) → a < n → r j k a ≡ s j k a) t y) e l f
         ∙ ap (λ z. getD z e 0) (table-back t table (v .0))
 
+pub reply-table-entries : ReplyTableEntries
+unfolding replyTable
+reply-table-entries t D u i table h = strategy-back t (reply D (strategyOf t table) i u t) h
+
 pub reply-table-worth : ReplyTableWorth
 unfolding tableWorth tableBest replyTable
 reply-table-worth t C m D i table d h g =
@@ -84,6 +90,17 @@ no-rival-table-better t C m D i table z d h p g v = no-rival-better C m D i (str
 pub own-table-entries-free : OwnTableEntriesFree
 unfolding tableBest
 own-table-entries-free t D u i table z h g = own-entries-free D i u (strategyOf t table) (strategyOf t z) t (table-keeps t i table z h g) .1
+
+-- ---- units and bounds
+pub table-units-add-up : TableUnitsAddUp
+table-units-add-up t C m D table d h g v = units-add-up C m D (strategyOf t table) t d h (table-valid t D table g v)
+
+pub table-bounds : TableBounds
+unfolding tableWorth tableBest
+table-bounds t D u B i table d h v p = (
+  worth-bound D i u B (strategyOf t table) t d (table-valid t D table h v) p,
+  value-bound D i u B (strategyOf t table) t (best (replyTree D (strategyOf t table) i u t)) d (table-valid t D table h v) p,
+)
 
 -- ---- NashConv
 difference : (a b : ℤ) → a ≤ℤ b → pos 0 ≤ℤ (b -ℤ a)

@@ -1,12 +1,13 @@
 -- The reply theorem for tables, statement by statement, of the definitions in Sets and Table (document 01, "Whole units"). Each is proved in proofs/TableTheorem.antt, which assumes nothing.
 -- Throughout: t is a tree, table a table with D parts in each set, i a seat, z a rival table; the root has U = C × D^m units.
 use mathlib.Core.Path.{_≡_}
-use mathlib.Core.List.{List, [], _∷_}
-use Prim.Native.Nat.{ℕ, _<_}
-use lib.IntN.{ℤ, pos}
+use mathlib.Core.List.{[], _∷_}
+use Prim.Native.Nat.{ℕ, _*_, _≤_, _<_}
+use lib.IntN.{pos, natAbs}
 use lib.ListN.{length}
 use lib.Signed.{_≤ℤ_}
-use Rattle.game.specs.Tree.{Tree, Strategy, all, U, Splits, Every, Valid, Rival}
+use Rattle.game.specs.Tree.{Tree, Strategy, all, U, units, Splits, Pays, Every, Valid, Rival}
+use Rattle.game.specs.Reply.{reply}
 use Rattle.game.specs.Recall.{PerfectRecall}
 use Rattle.game.specs.Sets.{size, preorder, firsts, sets, setCount, setNumber, setMembers, entries, firstEntry, SameActions}
 use Rattle.game.specs.Table.{Table, strategyOf, tableOf, ValidTable, KeepsTable, RivalTable, tableWorth, tableBest, replyTable, nashConv}
@@ -40,6 +41,11 @@ abbrev pub ReplyTableRival : Type 0
 ReplyTableRival = (t : Tree) (D u i : ℕ) (table : Table) → 0 < D → PerfectRecall i t → SameActions t → ValidTable t D table
     → RivalTable t D i table (replyTable t D u table i)
 
+-- Its entries are the reply's: D on each chosen action of the seat, 0 on its others, the table's for the other seats.
+abbrev pub ReplyTableEntries : Type 0
+ReplyTableEntries = (t : Tree) (D u i : ℕ) (table : Table) → SameActions t
+    → Every (λ j k n. (a : ℕ) → a < n → strategyOf t (replyTable t D u table i) j k a ≡ reply D (strategyOf t table) i u t j k a) t
+
 -- Its worth is the best value.
 abbrev pub ReplyTableWorth : Type 0
 ReplyTableWorth = (t : Tree) (C m D i : ℕ) (table : Table) → 0 < D → Splits C m t → SameActions t
@@ -53,6 +59,15 @@ NoRivalTableBetter = (t : Tree) (C m D i : ℕ) (table z : Table) → 0 < D → 
 -- 5. Two tables that differ only in the seat's entries have the same best value.
 abbrev pub OwnTableEntriesFree : Type 0
 OwnTableEntriesFree = (t : Tree) (D u i : ℕ) (table z : Table) → SameActions t → KeepsTable t i table z → tableBest t D u z i ≡ tableBest t D u table i
+
+-- Under a valid table the units of all ends add up to U, and neither a worth nor a best value is more than u × the largest payoff B in size.
+abbrev pub TableUnitsAddUp : Type 0
+TableUnitsAddUp = (t : Tree) (C m D : ℕ) (table : Table) → 0 < D → Splits C m t → SameActions t → ValidTable t D table
+    → units (all D) (strategyOf t table) (U C D m) t ≡ U C D m
+
+abbrev pub TableBounds : Type 0
+TableBounds = (t : Tree) (D u B i : ℕ) (table : Table) → 0 < D → SameActions t → ValidTable t D table → Pays B i t
+    → (natAbs (tableWorth t D u table i) ≤ u * B) × (natAbs (tableBest t D u table i) ≤ u * B)
 
 -- NashConv of a valid table is never below 0.
 abbrev pub NashConvNotBelow : Type 0

@@ -8,11 +8,12 @@ use Rattle.finite.specs.Finite as Finite
 use Rattle.finite.specs.Finite.{and, or, some, every, those, has}
 use Rattle.kuhn.specs.Rules.{bet-made, after-bet, ended, bets, stands, left, remaining, legal, contribution, wins, paid-by-others, payoff}
 use Rattle.kuhn_tree.specs.Tree.{next, each, below, kuhnTree, C}
+use Rattle.kuhn_tree.specs.Order.{inOrder}
 use Rattle.kuhn_tree.specs.Facts.{KeysInOrder, CaseK, CaseKReply, CaseL}
 
 pub keys-in-order : KeysInOrder
-unfolding sets kuhnTree below next each and or some those has bet-made after-bet ended left remaining legal
-keys-in-order = refl
+unfolding sets kuhnTree below next each and or some those has bet-made after-bet ended left remaining legal every inOrder
+keys-in-order = (refl, refl)
 
 pub case-k : CaseK
 unfolding tableWorth tableBest nashConv best sum withKey value highest _·_ sets sumℕ before entriesOf addUp C kuhnTree below next each and or some those has bet-made after-bet ended left remaining legal every Finite.sum bets stands contribution wins paid-by-others payoff

@@ -15,10 +15,11 @@ use Rattle.game.specs.Sets.{size, setCount}
 use Rattle.kuhn.specs.Rules.{PASS, BET, bet-made, after-bet, ended}
 use Rattle.kuhn_tree.specs.Tree.{m, kuhnTree}
 use Rattle.kuhn_tree.specs.Counts.{turnCount, dealNodes, nodes, setsOf}
+use Rattle.kuhn_tree.specs.Order.{turns, histories}
 use Rattle.kuhn_tree.specs.Facts.{Counted, Counts, TooLarge}
 use Rattle.kuhn_tree.proofs.Shape.{hand}
 use Rattle.kuhn_tree.proofs.Sizes.{handSize, kuhn-size}
-use Rattle.kuhn_tree.proofs.Sets.{turns, histories, kuhn-set-count, kuhn-entries}
+use Rattle.kuhn_tree.proofs.Sets.{kuhn-set-count, kuhn-entries}
 
 -- ---- one action more
 bet-more : (h : List ℕ) (a : ℕ) → bet-made h ≡ true → bet-made (h ++ (a ∷ [])) ≡ true

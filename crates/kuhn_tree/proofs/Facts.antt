@@ -1,16 +1,21 @@
 -- The statements of specs/Facts.antt, each by its proof: what other crates cite. Assumes nothing.
-use mathlib.Core.Path.{_≡_, refl}
+use mathlib.Core.Path.{_≡_, refl, subst}
 use mathlib.Core.List.{[], _∷_}
+use native.Mathlib.Omega.{arith}
 use lib.ListN.{getD, drop}
+use lib.Signed.{_≤ℤ_}
+use Rattle.game.specs.Table.{tableWorth}
 use Rattle.game.proofs.TableTheorem.{reply-table-rival, reply-table-worth, no-rival-table-better}
 use Rattle.kuhn_tree.specs.Tree.{m, kuhnTree, C}
-use Rattle.kuhn_tree.specs.Facts.{units, FollowsRules, FuelEnough, SeatByKey, ActionsByKey, DepthByKey, Recalls, FansDivide, PayoffsBounded, ReplyBest}
+use Rattle.kuhn_tree.specs.Facts.{units, FollowsRules, FuelEnough, SeatByKey, ActionsByKey, DepthByKey, Recalls, FansDivide, PayoffsBounded, ReplyBest, CaseKUnbeaten, kuhn2, passes}
 use Rattle.kuhn_tree.proofs.Growth.{kuhn-follows, kuhn-fuel}
 use Rattle.kuhn_tree.proofs.Units.{kuhn-splits, kuhn-every, depthAt, kuhn-heights}
 use Rattle.kuhn_tree.proofs.Recall.{kuhn-recall}
 use Rattle.kuhn_tree.proofs.Payoffs.{kuhn-pays}
 use Rattle.kuhn_tree.proofs.Sets.{kuhn-same-actions}
 pub use Rattle.kuhn_tree.proofs.Cases.{keys-in-order, case-k, case-k-reply, case-l}
+pub use Rattle.kuhn_tree.proofs.Order.{sets-in-order}
+pub use Rattle.kuhn_tree.proofs.Positions.{nodes-reached}
 pub use Rattle.kuhn_tree.proofs.Counts.{counted, counts, too-large}
 
 pub follows-rules : FollowsRules
@@ -43,3 +48,6 @@ reply-best ante bet n D i table d v = (
   reply-table-worth (kuhnTree ante bet n) (C n) (m n) D i table d (fans-divide ante bet n) (actions-by-key ante bet n),
   λ z w. no-rival-table-better (kuhnTree ante bet n) (C n) (m n) D i table z d (fans-divide ante bet n) (recalls ante bet n i) (actions-by-key ante bet n) w,
 )
+
+pub case-k-unbeaten : CaseKUnbeaten
+case-k-unbeaten z v = subst (λ x. tableWorth kuhn2 1 (units 2 1) z 0 ≤ℤ x) (case-k .3) (reply-best 1 1 2 1 0 passes (omega arith) (case-k .0) .2 z v)

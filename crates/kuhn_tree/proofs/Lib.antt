@@ -9,4 +9,6 @@ pub mod Sizes
 pub mod Sets
 pub mod Cases
 pub mod Counts
+pub mod Order
+pub mod Positions
 pub mod Facts

@@ -19,21 +19,12 @@ use Rattle.game.proofs.Sets.{Each, every→sets}
 use Rattle.game.proofs.Counting.{In, in-left, in-right, in-append, Once, once-append, once-length, sets-once, sets-in, in-sets}
 use Rattle.kuhn.specs.Rules.{PASS, BET, ended, turn, key, left, remaining}
 use Rattle.kuhn_tree.specs.Tree.{each, m, kuhnTree}
+use Rattle.kuhn_tree.specs.Order.{turns, histories, decisionAt}
 use Rattle.kuhn_tree.proofs.Cards.{in-those, those-once, left-of-in, in-of-left, left-other, left-itself, remaining-less, remaining-all}
 use Rattle.kuhn_tree.proofs.Shape.{hand, deals, kuhn-deals}
 use Rattle.kuhn_tree.proofs.Units.{kuhn-every}
 
--- ---- the histories at which a seat acts, from h on
-unfoldable pub turns : ℕ → ℕ → Bool → List ℕ → List (List ℕ)
-unfolding ended
-turns n zero b h = []
-turns n (suc r) true h = []
-turns n (suc r) false h = h ∷ (turns n r (ended n (h ++ (PASS ∷ []))) (h ++ (PASS ∷ [])) ++ (turns n r (ended n (h ++ (BET ∷ []))) (h ++ (BET ∷ [])) ++ []))
-
-unfoldable pub histories : ℕ → List (List ℕ)
-unfolding turns
-histories n = turns n (m n) (ended n []) []
-
+-- ---- the histories at which a seat acts
 -- a history from h on begins with h
 Begins : List ℕ → List ℕ → Type 0
 Begins h x = (t : List ℕ) × (x ≡ h ++ t)
@@ -56,7 +47,7 @@ turns-begin n (suc r) false h x (inr w) = at (in-append x (ts PASS) (ts BET ++ [
     at (inr v) f g = longer BET (g (rw (append-nil (ts BET)) at v))
 
 -- no history twice: the longer ones differ from h in length, and from one another in the action after h
-turns-once : (n r : ℕ) (b : Bool) (h : List ℕ) → Once (turns n r b h)
+pub turns-once : (n r : ℕ) (b : Bool) (h : List ℕ) → Once (turns n r b h)
 unfolding turns Once In Begins
 turns-once n zero b h = tt
 turns-once n (suc r) true h = tt
@@ -86,9 +77,6 @@ turns-once n (suc r) false h = (
     apart x v w = let q : _≡_ {A = ℕ} 0 1 = sym (after PASS x (begins PASS x v)) ∙ after BET x (begins BET x (rw (append-nil (ts BET)) at w)) in omega arith
 
 -- ---- the decision at a history
-abbrev pub decisionAt : ℕ → List ℕ → List ℕ → Decision
-decisionAt n cs h = (turn n h, key cs h (turn n h), 2)
-
 module _ (ante bet n : ℕ) where
   hand-has : (cs : List ℕ) (r : ℕ) (b : Bool) (h x : List ℕ) → In x (turns n r b h) → In (decisionAt n cs x) (decisions (hand ante bet n cs r b h))
   unfolding hand turns decisions In fan
@@ -107,10 +95,10 @@ module _ (ante bet n : ℕ) where
       at (inl v) f g = in-left (decisionAt n cs x) (ds PASS) (ds BET ++ []) (f v)
       at (inr v) f g = in-right (decisionAt n cs x) (ds PASS) (ds BET ++ []) (in-left (decisionAt n cs x) (ds BET) [] (g (rw (append-nil (ts BET)) at v)))
 
-  abbrev Found : List ℕ → Decision → List (List ℕ) → Type 0
+  abbrev pub Found : List ℕ → Decision → List (List ℕ) → Type 0
   Found cs d hs = (x : List ℕ) × In x hs × (decisionAt n cs x ≡ d)
 
-  has-hand : (cs : List ℕ) (r : ℕ) (b : Bool) (h : List ℕ) (d : Decision) → In d (decisions (hand ante bet n cs r b h)) → Found cs d (turns n r b h)
+  pub has-hand : (cs : List ℕ) (r : ℕ) (b : Bool) (h : List ℕ) (d : Decision) → In d (decisions (hand ante bet n cs r b h)) → Found cs d (turns n r b h)
   unfolding hand turns decisions In fan
   has-hand cs zero b h d w = absurd w
   has-hand cs (suc r) true h d w = absurd w
@@ -128,13 +116,13 @@ module _ (ante bet n : ℕ) where
       at (inr v) f g = let (x, y, z) = g (rw (append-nil (ds BET)) at v) in (x, inr (in-right x (ts PASS) (ts BET ++ []) (in-left x (ts BET) [] y)), z)
 
 -- ---- the decisions below a chance node
-each-has : (d : Decision) (l : List ℕ) (g : ℕ → Tree) (c : ℕ) → In c l → In d (decisions (g c)) → In d (decisionsAll (each l g))
+pub each-has : (d : Decision) (l : List ℕ) (g : ℕ → Tree) (c : ℕ) → In c l → In d (decisions (g c)) → In d (decisionsAll (each l g))
 unfolding each decisions In
 each-has d [] g c w v = absurd w
 each-has d (x ∷ l) g c (inl e) v = in-left d (decisions (g x)) (decisionsAll (each l g)) (rw e v)
 each-has d (x ∷ l) g c (inr w) v = in-right d (decisions (g x)) (decisionsAll (each l g)) (each-has d l g c w v)
 
-has-each : (d : Decision) (l : List ℕ) (g : ℕ → Tree) → In d (decisionsAll (each l g)) → (c : ℕ) × In c l × In d (decisions (g c))
+pub has-each : (d : Decision) (l : List ℕ) (g : ℕ → Tree) → In d (decisionsAll (each l g)) → (c : ℕ) × In c l × In d (decisions (g c))
 unfolding each decisions In
 has-each d [] g w = absurd w
 has-each d (x ∷ l) g w = at (in-append d (decisions (g x)) (decisionsAll (each l g)) w) (λ v. has-each d l g v)
@@ -193,7 +181,7 @@ module _ (n : ℕ) where
   same-card : (h : List ℕ) (a b : ℕ) → _≡_ {A = Decision} (turn n h, turn n h ∷ a ∷ h, 2) (turn n h, turn n h ∷ b ∷ h, 2) → a ≡ b
   same-card h a b e = ap (λ d. getD (d .1) 1 0) e
 
-  same-history : (g h : List ℕ) (a b : ℕ) → _≡_ {A = Decision} (turn n g, turn n g ∷ a ∷ g, 2) (turn n h, turn n h ∷ b ∷ h, 2) → g ≡ h
+  pub same-history : (g h : List ℕ) (a b : ℕ) → _≡_ {A = Decision} (turn n g, turn n g ∷ a ∷ g, 2) (turn n h, turn n h ∷ b ∷ h, 2) → g ≡ h
   same-history g h a b e = ap (λ d. lib.ListN.drop 2 (d .1)) e
 
   cards-once : (h : List ℕ) (l : List ℕ) → Once l → Once (withCards n h l)
@@ -232,7 +220,7 @@ module _ (n : ℕ) where
   card-in-deck cs c w = in-of-left n [] c (both (and-left (leb c n) (not (has c cs)) (left-of-in n cs c w)) refl)
 
   -- c is seat j's card, or may become it
-  abbrev May : List ℕ → ℕ → ℕ → Type 0
+  abbrev pub May : List ℕ → ℕ → ℕ → Type 0
   May cs j c = ((j < length cs) × (getD cs j 0 ≡ c)) ⊎ ((length cs ≤ j) × In c (remaining n cs))
 
   head-in : (xs : List ℕ) → 1 ≤ length xs → (x : ℕ) × In x xs
@@ -274,7 +262,7 @@ module _ (ante bet n : ℕ) where
   deals-grid (suc k) cs d e w = let (c, y, z) = has-each d (remaining n cs) (λ c. deals ante bet n k (cs ++ (c ∷ []))) w in
       deals-grid k (cs ++ (c ∷ [])) d (dealt-more n c cs e (card-in-deck n cs c y)) z
 
-  grid-deals : (k : ℕ) (cs : List ℕ) (c : ℕ) (h : List ℕ) → length (remaining n cs) ≡ suc k → length cs + k ≡ n → turn n h < n → In h (histories n) → May n cs (turn n h) c
+  pub grid-deals : (k : ℕ) (cs : List ℕ) (c : ℕ) (h : List ℕ) → length (remaining n cs) ≡ suc k → length cs + k ≡ n → turn n h < n → In h (histories n) → May n cs (turn n h) c
       → In (turn n h, turn n h ∷ c ∷ h, 2) (decisions (deals ante bet n k cs))
   unfolding deals decisions histories
   grid-deals zero cs c h e f s w (inl (v, q)) = rw (← q) (hand-has ante bet n cs (m n) (ended n []) [] h w)

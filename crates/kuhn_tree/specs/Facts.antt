@@ -4,18 +4,27 @@ use mathlib.Core.Path.{_≡_}
 use mathlib.Core.List.{List, [], _∷_, _++_, map}
 use Prim.Native.Nat.{ℕ, _+_, _≤_, _<_}
 use lib.IntN.{ℤ, pos, negℤ}
+use lib.ListN.{length}
 use lib.Signed.{_≤ℤ_}
 use Rattle.game.specs.Tree.{Key, Tree, U, Splits, Pays, Every}
 use Rattle.game.specs.Recall.{PerfectRecall}
 use Rattle.game.specs.Sets.{size, sets, setCount, entries, SameActions, SameHeights}
 use Rattle.game.specs.Table.{Table, ValidTable, RivalTable, tableWorth, tableBest, replyTable, nashConv}
 use Rattle.kuhn_tree.specs.Tree.{next, below, m, fuel, kuhnTree, C, largestPayoff}
-use Rattle.kuhn_tree.specs.Follows.{Follows}
+use Rattle.kuhn.specs.Reached.{Reached}
+use Rattle.kuhn_tree.specs.Follows.{Follows, positions, positionOf}
+use Rattle.kuhn_tree.specs.Order.{inOrder}
 use Rattle.kuhn_tree.specs.Counts.{nodes, setsOf, entriesOf}
 
 -- 1. The tree follows the rules from the start: every node stands for a reachable position, ends just where the hand is over.
 abbrev pub FollowsRules : Type 0
 FollowsRules = (ante bet n : ℕ) → 1 ≤ n → Follows ante bet n (kuhnTree ante bet n) [] []
+
+-- Its nodes, in order, stand for the reachable positions: each for one, and each of these has its node.
+abbrev pub NodesReached : Type 0
+NodesReached = (ante bet n : ℕ) → 1 ≤ n → (length (positions n (kuhnTree ante bet n) [] []) ≡ size (kuhnTree ante bet n))
+    × ((a : ℕ) → a < size (kuhnTree ante bet n) → Reached n (positionOf (kuhnTree ante bet n) n a .0) (positionOf (kuhnTree ante bet n) n a .1))
+    × ((cs h : List ℕ) → Reached n cs h → (a : ℕ) × (a < size (kuhnTree ante bet n)) × (positionOf (kuhnTree ante bet n) n a ≡ (cs, h)))
 
 -- More fuel changes nothing.
 abbrev pub FuelEnough : Type 0
@@ -38,11 +47,17 @@ abbrev pub TooLarge : Type 0
 TooLarge = (ante bet : ℕ) → (size (kuhnTree ante bet 7) ≡ 36196001) × (4000000 < size (kuhnTree ante bet 7)) × (4000000 < size (kuhnTree ante bet 8))
     × (4000000 < size (kuhnTree ante bet 9)) × (4000000 < size (kuhnTree ante bet 10))
 
--- 3. Kuhn 2 keys in order.
-abbrev pub KeysInOrder : Type 0
-KeysInOrder = map (λ x. x .1) (sets (kuhnTree 1 1 2))
-    ≡ (0 ∷ 0 ∷ []) ∷ (1 ∷ 1 ∷ 0 ∷ []) ∷ (0 ∷ 0 ∷ 0 ∷ 1 ∷ []) ∷ (1 ∷ 1 ∷ 1 ∷ []) ∷ (1 ∷ 2 ∷ 0 ∷ []) ∷ (1 ∷ 2 ∷ 1 ∷ []) ∷ (0 ∷ 1 ∷ []) ∷ (1 ∷ 0 ∷ 0 ∷ [])
+-- 3. The sets, numbered at their first nodes, are those of the rule in Order.
+abbrev pub SetsInOrder : Type 0
+SetsInOrder = (ante bet n : ℕ) → 1 ≤ n → sets (kuhnTree ante bet n) ≡ inOrder n n []
+
+-- Kuhn 2 keys in order, from the tree and from the rule.
+abbrev pub keys2 : List Key
+keys2 = (0 ∷ 0 ∷ []) ∷ (1 ∷ 1 ∷ 0 ∷ []) ∷ (0 ∷ 0 ∷ 0 ∷ 1 ∷ []) ∷ (1 ∷ 1 ∷ 1 ∷ []) ∷ (1 ∷ 2 ∷ 0 ∷ []) ∷ (1 ∷ 2 ∷ 1 ∷ []) ∷ (0 ∷ 1 ∷ []) ∷ (1 ∷ 0 ∷ 0 ∷ [])
     ∷ (0 ∷ 1 ∷ 0 ∷ 1 ∷ []) ∷ (1 ∷ 0 ∷ 1 ∷ []) ∷ (0 ∷ 2 ∷ []) ∷ (0 ∷ 2 ∷ 0 ∷ 1 ∷ []) ∷ []
+
+abbrev pub KeysInOrder : Type 0
+KeysInOrder = (map (λ x. x .1) (sets (kuhnTree 1 1 2)) ≡ keys2) × (map (λ x. x .1) (inOrder 2 2 []) ≡ keys2)
 
 -- 4. Nodes with equal keys have the same seat, the same number of actions, the same remaining depth.
 abbrev pub SeatByKey : Type 0
@@ -101,3 +116,7 @@ CaseKReply = replyTable kuhn2 1 (units 2 1) passes 0
 abbrev pub CaseL : Type 0
 CaseL = Case 3 (3 ∷ 0 ∷ 3 ∷ 0 ∷ 3 ∷ 0 ∷ 2 ∷ 1 ∷ 0 ∷ 3 ∷ 0 ∷ 3 ∷ 3 ∷ 0 ∷ 2 ∷ 1 ∷ 2 ∷ 1 ∷ 3 ∷ 0 ∷ 3 ∷ 0 ∷ 0 ∷ 3 ∷ [])
     (negℤ (pos 9)) (pos 9) (negℤ (pos 9)) (pos 9) (pos 0)
+
+-- The theorem tried on case k: no rival table of seat 0 is worth more than 6.
+abbrev pub CaseKUnbeaten : Type 0
+CaseKUnbeaten = (z : Table) → RivalTable kuhn2 1 0 passes z → tableWorth kuhn2 1 (units 2 1) z 0 ≤ℤ pos 6

@@ -2,4 +2,5 @@
 pub mod Tree
 pub mod Follows
 pub mod Counts
+pub mod Order
 pub mod Facts
