@@ -6,3 +6,4 @@ pub mod Amounts
 pub mod Positions
 pub mod Answers
 pub mod Outputs
+pub mod Moves
