@@ -7,3 +7,5 @@ pub mod Positions
 pub mod Answers
 pub mod Outputs
 pub mod Moves
+pub mod Balance
+pub mod Facts
