@@ -9,6 +9,7 @@ CARGO_FLAGS := --offline --locked
 # Plays a hand through the proved calls.
 run:
 	mkdir -p build
+	test -x target/bin/sample || echo 'proving the calls first; build/run.log has what rt says' >&2
 	rt check sample >build/run.log 2>&1 || { cat build/run.log; exit 1; }
 	target/bin/sample
 
