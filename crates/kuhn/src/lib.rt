@@ -167,7 +167,7 @@ impl KuhnPoker {
         let actions = legal.actions;
         finite::copy_at(out, 0, &actions, count);
         Written {
-            refusal: refusals::ACCEPTED,
+            refusal,
             state,
             count,
         }
@@ -226,7 +226,7 @@ impl KuhnPoker {
         out[1] = cards[agent];
         finite::copy_at(out, 2, &history, acted);
         Written {
-            refusal: refusals::ACCEPTED,
+            refusal,
             state,
             count,
         }
