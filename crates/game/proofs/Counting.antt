@@ -1,5 +1,5 @@
 -- Lists in which nothing stands twice: two with the same members are as long as one another; the sets of a tree are such a list, with the decisions for members. Nothing is assumed.
-use mathlib.Core.Path.{_≡_, refl, sym, ap, ap₂, _∙_}
+use mathlib.Core.Path.{_≡_, refl, sym, ap, _∙_}
 use mathlib.Core.Logic.{_⊎_, inl, inr}
 use mathlib.Core.Bool.{Bool, true, false, cond}
 use mathlib.Core.List.{List, [], _∷_, _++_}
@@ -7,7 +7,7 @@ use Prim.Native.Nat.{ℕ, suc, _≤_, zero-le}
 use native.Mathlib.Nat as NatL
 use native.Mathlib.Omega.{arith}
 use lib.ListN.{length}
-use Rattle.game.specs.Tree.{Key, Tree, Every}
+use Rattle.game.specs.Tree.{Key, Tree}
 use Rattle.game.specs.Sets.{Decision, decisions, isOf, met, firsts, sets, SameActions}
 use Rattle.game.proofs.Tests.{Tested, is, isn't, tested}
 use Rattle.game.proofs.Sets.{Property, Each, every→each, clash, isOf-seat, isOf-key, isOf-self, met-here, met-later, Distinct, sets-distinct, Stands, sets-stand}

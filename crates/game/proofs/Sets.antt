@@ -6,7 +6,7 @@ use Prim.Native.Nat.{ℕ, suc, _+_}
 use native.Mathlib.Omega.{arith}
 use lib.Dec.{eqb}
 use lib.ListN.{length, length-append}
-use Rattle.game.specs.Tree.{Key, Tree, end, chance, decide, Trees, nil, cons, fan, Every, EveryAll}
+use Rattle.game.specs.Tree.{Key, Tree, end, chance, decide, Trees, nil, cons, Every, EveryAll}
 use Rattle.game.specs.Reply.{same}
 use Rattle.game.specs.Sets.{size, sizes, preorder, preorderAll, Decision, decisions, decisionsAll, isOf, met, firsts, sets, SameActions}
 use Rattle.game.proofs.Tests.{Tested, is, isn't, tested, T-of, same→eq, same-self, eqb-is, eqb-self}

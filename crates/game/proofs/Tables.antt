@@ -12,10 +12,10 @@ use lib.Seq.{length-take-le, getD-append-add, getD-drop, getD-take, drop-at, ext
 use borrow.Author.Tests.{ltb-true, ltb-false}
 use Rattle.game.specs.Sums.{sumℕ, parts}
 use Rattle.game.specs.Tree.{Key, Tree, end, chance, decide, Trees, nil, cons, fan, Strategy, worth, worthAll, worthKids, Every, EveryAll}
-use Rattle.game.specs.Sets.{Decision, isOf, met, entriesOf, before, seatsOf}
+use Rattle.game.specs.Sets.{Decision, isOf, entriesOf, before, seatsOf}
 use Rattle.game.specs.Table.{Table, listed, laidOut, addUp}
 use Rattle.game.proofs.Tests.{Tested, is, isn't, tested, eqb-is, eqb-self}
-use Rattle.game.proofs.Sets.{Property, Each, each-map, each-both, clash, isOf-seat, isOf-key, isOf-self, unmet, Distinct, Either, Stands}
+use Rattle.game.proofs.Sets.{Property, Each, each-map, clash, isOf-seat, isOf-key, isOf-self, unmet, Distinct, Stands}
 
 -- ---- a strategy counts only where the tree has a decision
 -- s and z have the same parts

@@ -9,7 +9,7 @@ use lib.ListN.{length}
 use Rattle.game.specs.Tree.{Key, Tree}
 use Rattle.game.specs.Sets.{Decision, isOf, met, firsts, before, decides, numbers}
 use Rattle.game.proofs.Tests.{Tested, is, isn't, tested}
-use Rattle.game.proofs.Sets.{clash, isOf-self, met-here, met-past, not-here}
+use Rattle.game.proofs.Sets.{clash, isOf-self, met-past, not-here}
 use Rattle.game.proofs.Counting.{In}
 
 -- ---- the first decisions of two lists, one after the other

@@ -2,8 +2,9 @@
 use mathlib.Core.Path.{_≡_}
 use mathlib.Core.Bool.{Bool, true, false, cond}
 use mathlib.Core.List.{List, [], _∷_, _++_, map}
-use Prim.Native.Nat.{ℕ, zero, suc, _+_, max}
+use Prim.Native.Nat.{ℕ, suc, _+_, max}
 use lib.Dec.{eqb}
+use lib.IntN.{ℤ}
 use lib.ListN.{length, replicate}
 use Rattle.game.specs.Sums.{sumℕ}
 use Rattle.game.specs.Tree.{Key, Tree, end, chance, decide, Trees, nil, cons, fan, Every}
@@ -154,3 +155,14 @@ unfoldable mutual
 -- decisions of one seat with equal keys have the same remaining depth
 abbrev pub SameHeights : Tree → Type 0
 SameHeights t = (d : ℕ → Key → ℕ) × Heights d t
+
+-- P holds of the payoffs of every end
+unfoldable mutual
+  pub EveryEnd : ((ℕ → ℤ) → Type 0) → Tree → Type 0
+  EveryEnd P (end p) = P p
+  EveryEnd P (chance f) = EveryEndAll P f
+  EveryEnd P (decide j k f) = EveryEndAll P f
+
+  pub EveryEndAll : ((ℕ → ℤ) → Type 0) → Trees → Type 0
+  EveryEndAll P nil = Unit {0}
+  EveryEndAll P (cons t f) = EveryEnd P t × EveryEndAll P f

@@ -9,7 +9,7 @@ use lib.Signed.{_≤ℤ_}
 use Rattle.game.specs.Tree.{Tree, Strategy, all, U, units, Splits, Pays, Every, Valid, Rival}
 use Rattle.game.specs.Reply.{reply}
 use Rattle.game.specs.Recall.{PerfectRecall}
-use Rattle.game.specs.Sets.{size, preorder, firsts, sets, setCount, setNumber, setMembers, entries, firstEntry, SameActions}
+use Rattle.game.specs.Sets.{size, preorder, firsts, sets, setNumber, setMembers, entries, firstEntry, SameActions}
 use Rattle.game.specs.Table.{Table, strategyOf, tableOf, ValidTable, KeepsTable, RivalTable, tableWorth, tableBest, replyTable, nashConv}
 use Rattle.game.specs.Small.{small, given}
 

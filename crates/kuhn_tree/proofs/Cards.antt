@@ -1,18 +1,18 @@
 -- The cards left: which they are, and how many. Assumes nothing.
-use mathlib.Core.Path.{_≡_, refl, sym, ap, ap₂, _∙_}
+use mathlib.Core.Path.{_≡_, refl, sym, ap, _∙_}
 use mathlib.Core.Logic.{_⊎_, inl, inr}
 use mathlib.Core.Bool.{Bool, true, false, not}
 use mathlib.Core.List.{List, [], _∷_, _++_}
-use Prim.Native.Nat.{ℕ, zero, suc, pred, _+_, _≤_, _<_}
+use Prim.Native.Nat.{ℕ, zero, suc, _+_, _≤_, _<_}
 use native.Mathlib.Nat as NatL
 use native.Mathlib.Numerals.{add-one}
 use native.Mathlib.Omega.{arith}
 use lib.Dec.{eqb, leb}
 use lib.ListN.{length, length-append}
-use borrow.Author.Tests.{eqb-true, eqb-false, eq-eqb, ne-eqb, leb-true, le-leb, not-true}
+use borrow.Author.Tests.{eqb-true, eqb-false, eq-eqb, ne-eqb, leb-true, le-leb}
 use Rattle.finite.specs.Finite.{and, or, those, has}
-use Rattle.finite.proofs.Tests.{Tested, holds, fails, tested, true≢false, iff, both, and-left, and-right, and-right-fails, or-left, or-right, neither, or-false-left, or-false-right}
-use Rattle.finite.proofs.Lists.{has-append, those-kept, those-passed, those-below}
+use Rattle.finite.proofs.Tests.{Tested, holds, fails, tested, true≢false, both, and-left, and-right-fails, or-right}
+use Rattle.finite.proofs.Lists.{has-append, those-kept, those-passed}
 use Rattle.game.proofs.Counting.{In, in-left, in-right, in-append, Once, once-append}
 use Rattle.kuhn.specs.Rules.{left, remaining}
 

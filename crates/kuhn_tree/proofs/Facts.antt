@@ -1,17 +1,16 @@
 -- The statements of specs/Facts.antt, each by its proof: what other crates cite. Assumes nothing.
 use mathlib.Core.Path.{_≡_, refl, subst}
-use mathlib.Core.List.{[], _∷_}
 use native.Mathlib.Omega.{arith}
 use lib.ListN.{getD, drop}
 use lib.Signed.{_≤ℤ_}
 use Rattle.game.specs.Table.{tableWorth}
 use Rattle.game.proofs.TableTheorem.{reply-table-rival, reply-table-worth, no-rival-table-better}
 use Rattle.kuhn_tree.specs.Tree.{m, kuhnTree, C}
-use Rattle.kuhn_tree.specs.Facts.{units, FollowsRules, FuelEnough, SeatByKey, ActionsByKey, DepthByKey, Recalls, FansDivide, PayoffsBounded, ReplyBest, CaseKUnbeaten, kuhn2, passes}
+use Rattle.kuhn_tree.specs.Facts.{units, FollowsRules, FuelEnough, SeatByKey, ActionsByKey, DepthByKey, Recalls, FansDivide, PayoffsBounded, PayoffsBalance, ReplyBest, CaseKUnbeaten, kuhn2, passes}
 use Rattle.kuhn_tree.proofs.Growth.{kuhn-follows, kuhn-fuel}
 use Rattle.kuhn_tree.proofs.Units.{kuhn-splits, kuhn-every, depthAt, kuhn-heights}
 use Rattle.kuhn_tree.proofs.Recall.{kuhn-recall}
-use Rattle.kuhn_tree.proofs.Payoffs.{kuhn-pays}
+use Rattle.kuhn_tree.proofs.Payoffs.{kuhn-pays, kuhn-balance}
 use Rattle.kuhn_tree.proofs.Sets.{kuhn-same-actions}
 pub use Rattle.kuhn_tree.proofs.Cases.{keys-in-order, case-k, case-k-reply, case-l}
 pub use Rattle.kuhn_tree.proofs.Order.{sets-in-order}
@@ -41,6 +40,9 @@ fans-divide ante bet n = kuhn-splits ante bet n
 
 pub payoffs-bounded : PayoffsBounded
 payoffs-bounded ante bet n i two l = kuhn-pays ante bet n two i l
+
+pub payoffs-balance : PayoffsBalance
+payoffs-balance ante bet n l = kuhn-balance ante bet n l
 
 pub reply-best : ReplyBest
 reply-best ante bet n D i table d v = (

@@ -1,21 +1,21 @@
 -- Kuhn's tree follows the rules from the start, and more fuel changes nothing. Assumes nothing.
 use mathlib.Core.Path.{_≡_, refl, sym, ap, ap₂, _∙_}
-use mathlib.Core.Logic.{_⊎_, inl, inr}
+use mathlib.Core.Logic.{inl, inr}
 use mathlib.Core.Bool.{Bool, true, false, not, cond}
 use mathlib.Core.List.{List, [], _∷_, _++_, map}
 use Prim.Native.Nat.{ℕ, zero, suc, _+_, _*_, _-_, _≤_, _<_}
 use native.Mathlib.Nat as NatL
 use native.Mathlib.Numerals.{add-one}
 use native.Mathlib.Omega.{arith}
-use lib.Dec.{eqb, leb, ltb}
+use lib.Dec.{eqb, leb}
 use lib.ListN.{length, take, length-append}
 use lib.Seq.{take-append-le, take-length}
-use borrow.Author.Tests.{ltb-true, ltb-false, lt-ltb, le-ltb, eqb-true, eqb-false, eq-eqb, ne-eqb, not-true}
+use borrow.Author.Tests.{ltb-true, ltb-false, eqb-true, eq-eqb, not-true}
 use Rattle.finite.specs.Finite.{and, or, some}
-use Rattle.finite.proofs.Tests.{Tested, holds, fails, tested, true≢false, both, and-left, and-right, and-rest, neither, some-same}
+use Rattle.finite.proofs.Tests.{Tested, holds, fails, tested, both, and-left, and-right, neither, some-same}
 use Rattle.game.proofs.Counting.{In}
-use Rattle.game.specs.Tree.{Tree, end, chance, decide, Trees, nil, cons}
-use Rattle.kuhn.specs.Rules.{PASS, BET, ended, overrun, turn, due, live, over, left, remaining, legal, key, payoff}
+use Rattle.game.specs.Tree.{Tree, chance, decide, cons}
+use Rattle.kuhn.specs.Rules.{PASS, BET, ended, overrun, turn, due, live, over, remaining, legal, key}
 use Rattle.kuhn.specs.Reached.{Reached, start, deal, act}
 use Rattle.kuhn.proofs.Histories.{hand-lasts}
 use Rattle.kuhn_tree.specs.Tree.{Next, card, action, nothing, next, each, below, m, fuel, kuhnTree}

@@ -1,6 +1,6 @@
 -- The sets of Kuhn's tree in order: a node is first of its set if every other seat was dealt the lowest card left, but for the acting seat's own. Assumes nothing.
 use mathlib.Core.Path.{_≡_, refl, sym, ap, ap₂, _∙_}
-use mathlib.Core.Logic.{_⊎_, inl, inr}
+use mathlib.Core.Logic.{inl, inr}
 use mathlib.Core.Bool.{Bool, true, false, not, cond}
 use mathlib.Core.List.{List, [], _∷_, _++_, append-nil, append-assoc, map}
 use Prim.Native.Nat.{ℕ, zero, suc, _+_, _≤_, _<_}
@@ -10,17 +10,17 @@ use native.Mathlib.Omega.{arith}
 use lib.Dec.{eqb, ltb}
 use lib.ListN.{length, getD, take, length-append, List·getD-append}
 use lib.Seq.{getD-append-seam, take-append-le, take-append-seam}
-use borrow.Author.Tests.{eqb-true, eqb-false, eq-eqb, ne-eqb, ltb-true, ltb-false, not-true}
+use borrow.Author.Tests.{eqb-false, eq-eqb, ne-eqb, ltb-true, ltb-false, not-true}
 use Rattle.finite.specs.Finite.{and, or, some, every, those, has}
-use Rattle.finite.proofs.Tests.{Tested, holds, fails, tested, true≢false, iff, both, and-left, and-right, and-left-fails, or-left, or-right, or-rest, some-here, some-at, some-same}
-use Rattle.finite.proofs.Lists.{those-kept, those-passed, has-append}
-use Rattle.game.specs.Tree.{Key, Tree, fan}
+use Rattle.finite.proofs.Tests.{Tested, holds, fails, tested, true≢false, iff, both, and-left, and-right, or-left, or-right, some-here, some-at}
+use Rattle.finite.proofs.Lists.{those-kept, those-passed}
+use Rattle.game.specs.Tree.{Tree, fan}
 use Rattle.game.specs.Sets.{Decision, decisions, decisionsAll, isOf, met, firsts, sets}
 use Rattle.game.proofs.Sets.{isOf-key, isOf-seat, met-past}
 use Rattle.game.proofs.Walk.{passed, firsts-append, met-passed, met-in}
-use Rattle.game.proofs.Counting.{In, in-left, in-right, in-append, Once, in-met}
+use Rattle.game.proofs.Counting.{In, Once, in-met}
 use Rattle.kuhn.specs.Rules.{PASS, BET, ended, turn, key, left, remaining}
-use Rattle.kuhn_tree.specs.Tree.{each, m, kuhnTree}
+use Rattle.kuhn_tree.specs.Tree.{each, m}
 use Rattle.kuhn_tree.specs.Order.{turns, histories, decisionAt, lowestBut, lowest, first, firstOf, joined, inOrder}
 use Rattle.kuhn_tree.specs.Facts.{SetsInOrder}
 use Rattle.kuhn_tree.proofs.Cards.{in-those, those-in, left-of-in, in-of-left, left-other, left-itself, remaining-less, remaining-all}

@@ -1,17 +1,21 @@
--- No payoff of Kuhn is more than (n - 1) × (ante + bet) in size. Assumes nothing.
-use mathlib.Core.Path.{_≡_, refl, sym, ap, ap₂, _∙_}
+-- No payoff of Kuhn is more than (n - 1) × (ante + bet) in size, and those of an end add up to 0. Assumes nothing.
+use mathlib.Core.Path.{_≡_, refl, sym, ap, _∙_}
 use mathlib.Core.Bool.{Bool, true, false, cond}
 use mathlib.Core.List.{List, [], _∷_, _++_}
 use Prim.Native.Nat.{ℕ, zero, suc, _+_, _*_, _-_, _≤_, _<_, zero-le}
 use native.Mathlib.Nat as NatL
 use native.Mathlib.Omega.{arith}
 use lib.Dec.{eqb}
-use lib.IntN.{ℤ, pos, negsuc, negℤ, natAbs}
-use Rattle.finite.specs.Finite.{sum}
+use lib.IntN.{pos, negℤ, natAbs}
+use Rattle.finite.specs.Finite.{sum, sumℤ}
 use Rattle.finite.proofs.Lists.{sum-without}
-use Rattle.game.specs.Tree.{Tree, Pays, PaysAll}
+use Rattle.game.specs.Tree.{Tree, end, chance, decide, Trees, nil, cons, Pays, PaysAll}
+use Rattle.game.specs.Sets.{EveryEnd, EveryEndAll}
 use Rattle.kuhn.specs.Rules.{PASS, BET, ended, bets, remaining, contribution, wins, paid-by-others, payoff}
+use Rattle.kuhn.proofs.Facts.{zero-sum}
+use Rattle.kuhn_tree.specs.Follows.{Position, dealt, acted, Follows, FollowsAll}
 use Rattle.kuhn_tree.specs.Tree.{each, m, kuhnTree, largestPayoff}
+use Rattle.kuhn_tree.proofs.Growth.{kuhn-follows}
 use Rattle.kuhn_tree.proofs.Shape.{hand, deals, kuhn-deals}
 
 sum-mono : (n : ℕ) (f g : ℕ → ℕ) → ((q : ℕ) → f q ≤ g q) → sum n f ≤ sum n g
@@ -88,3 +92,21 @@ module _ (ante bet n : ℕ) where
 
     pub kuhn-pays : Pays (largestPayoff ante bet n) i (kuhnTree ante bet n)
     kuhn-pays = rw (kuhn-deals ante bet n) (deals-pay n [])
+
+-- ---- they add up to 0 at every end
+module _ (ante bet n : ℕ) (one : 1 ≤ n) where
+  mutual
+    unfolding Follows EveryEnd
+
+    follows-balance : (t : Tree) (cs h : List ℕ) → Follows ante bet n t cs h → EveryEnd (λ p. sumℤ n p ≡ pos 0) t
+    follows-balance (end p) cs h (r, o, e) = ap (sumℤ n) e ∙ zero-sum ante bet n cs h one r o
+    follows-balance (chance f) cs h g = follows-balance-all f (dealt n cs h) (g .2)
+    follows-balance (decide j k f) cs h g = follows-balance-all f (acted n cs h) (g .4)
+
+    follows-balance-all : (f : Trees) (qs : List Position) → FollowsAll ante bet n f qs → EveryEndAll (λ p. sumℤ n p ≡ pos 0) f
+    follows-balance-all nil qs g = tt
+    follows-balance-all (cons t f) [] g = absurd g
+    follows-balance-all (cons t f) (q ∷ qs) g = (follows-balance t (q .0) (q .1) (g .0), follows-balance-all f qs (g .1))
+
+  pub kuhn-balance : EveryEnd (λ p. sumℤ n p ≡ pos 0) (kuhnTree ante bet n)
+  kuhn-balance = follows-balance (kuhnTree ante bet n) [] [] (kuhn-follows n one ante bet)

@@ -1,12 +1,12 @@
 -- The nodes of Kuhn's tree stand for the reachable positions, and each of these has its node. Assumes nothing.
-use mathlib.Core.Path.{_≡_, refl, sym, ap, ap₂, _∙_}
+use mathlib.Core.Path.{_≡_, refl, ap, ap₂, _∙_}
 use mathlib.Core.Logic.{_⊎_, inl, inr}
-use mathlib.Core.Bool.{Bool, true, false, not}
+use mathlib.Core.Bool.{Bool, true, not}
 use mathlib.Core.List.{List, [], _∷_, _++_, map}
 use Prim.Native.Nat.{ℕ, zero, suc, _+_, _≤_, _<_, zero-le, suc-le-suc}
 use native.Mathlib.Nat as NatL
 use native.Mathlib.Omega.{arith}
-use lib.Dec.{eqb, leb, ltb}
+use lib.Dec.{eqb, leb}
 use lib.ListN.{length, getD, length-append}
 use borrow.Author.Tests.{ltb-true, eqb-true, leb-true, not-true}
 use Rattle.finite.specs.Finite.{and}
@@ -14,7 +14,7 @@ use Rattle.finite.proofs.Tests.{true≢false, and-left, and-right}
 use Rattle.game.specs.Tree.{Tree, end, chance, decide, Trees, nil, cons}
 use Rattle.game.specs.Sets.{size, sizes}
 use Rattle.game.proofs.Counting.{In, in-left, in-right, in-append}
-use Rattle.kuhn.specs.Rules.{PASS, BET, ended, turn, due, live, over, left, remaining, legal}
+use Rattle.kuhn.specs.Rules.{PASS, BET, ended, turn, due, live, over, remaining, legal}
 use Rattle.kuhn.specs.Reached.{Reached, start, deal, act}
 use Rattle.kuhn_tree.specs.Tree.{kuhnTree}
 use Rattle.kuhn_tree.specs.Follows.{Position, dealt, acted, positions, positionsAll, Follows, FollowsAll}

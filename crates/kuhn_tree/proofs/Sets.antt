@@ -3,24 +3,23 @@ use mathlib.Core.Path.{_≡_, refl, sym, ap, ap₂, _∙_}
 use mathlib.Core.Logic.{_⊎_, inl, inr}
 use mathlib.Core.Bool.{Bool, true, false, not}
 use mathlib.Core.List.{List, [], _∷_, _++_, append-nil, append-assoc}
-use Prim.Native.Nat.{ℕ, zero, suc, pred, _+_, _*_, _%_, _≤_, _<_, zero-le}
+use Prim.Native.Nat.{ℕ, zero, suc, _+_, _*_, _≤_, _<_, zero-le}
 use native.Mathlib.Nat as NatL
 use native.Mathlib.Omega.{arith}
 use lib.Dec.{eqb, leb}
 use lib.ListN.{length, getD, length-append, List·getD-append}
-use lib.Seq.{getD-append-seam, getD-append-add}
+use lib.Seq.{getD-append-seam}
 use borrow.Author.Tests.{eqb-true, eqb-false, le-leb}
-use Rattle.finite.specs.Finite.{and, those, has}
+use Rattle.finite.specs.Finite.{and, has}
 use Rattle.finite.proofs.Tests.{Tested, holds, fails, tested, true≢false, both, and-left}
-use Rattle.game.specs.Tree.{Key, Tree, fan}
+use Rattle.game.specs.Tree.{Tree, fan}
 use Rattle.game.specs.Sets.{Decision, decisions, decisionsAll, sets, setCount, entries, entriesOf, SameActions}
-use Rattle.game.specs.Sums.{sumℕ}
 use Rattle.game.proofs.Sets.{Each, every→sets}
 use Rattle.game.proofs.Counting.{In, in-left, in-right, in-append, Once, once-append, once-length, sets-once, sets-in, in-sets}
-use Rattle.kuhn.specs.Rules.{PASS, BET, ended, turn, key, left, remaining}
+use Rattle.kuhn.specs.Rules.{PASS, BET, ended, turn, left, remaining}
 use Rattle.kuhn_tree.specs.Tree.{each, m, kuhnTree}
 use Rattle.kuhn_tree.specs.Order.{turns, histories, decisionAt}
-use Rattle.kuhn_tree.proofs.Cards.{in-those, those-once, left-of-in, in-of-left, left-other, left-itself, remaining-less, remaining-all}
+use Rattle.kuhn_tree.proofs.Cards.{those-once, left-of-in, in-of-left, left-other, left-itself, remaining-less, remaining-all}
 use Rattle.kuhn_tree.proofs.Shape.{hand, deals, kuhn-deals}
 use Rattle.kuhn_tree.proofs.Units.{kuhn-every}
 

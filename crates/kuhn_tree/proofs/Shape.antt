@@ -1,18 +1,17 @@
 -- Kuhn's tree in two parts: the deals, and below each full deal one hand, whose shape does not depend on the cards. Assumes nothing.
 use mathlib.Core.Path.{_≡_, refl, sym, ap, ap₂, _∙_, fun-ext}
-use mathlib.Core.Bool.{Bool, true, false, not, cond}
+use mathlib.Core.Bool.{Bool, true, false, not}
 use mathlib.Core.List.{List, [], _∷_, _++_}
-use Prim.Native.Nat.{ℕ, zero, suc, _+_, _*_, _-_, _≤_, _<_}
+use Prim.Native.Nat.{ℕ, zero, suc, _+_, _<_}
 use native.Mathlib.Nat as NatL
 use native.Mathlib.Omega.{arith}
-use lib.Dec.{eqb}
 use lib.ListN.{length, length-append}
 use borrow.Author.Tests.{eq-eqb, lt-ltb, le-ltb}
 use Rattle.finite.specs.Finite.{and}
 use Rattle.finite.proofs.Tests.{Tested, holds, fails, tested, both}
 use Rattle.game.specs.Tree.{Tree, end, chance, decide, cons, nil}
-use Rattle.kuhn.specs.Rules.{PASS, BET, ended, turn, live, remaining, legal, key, payoff}
-use Rattle.kuhn_tree.specs.Tree.{card, action, nothing, next, each, below, m, fuel, kuhnTree}
+use Rattle.kuhn.specs.Rules.{PASS, BET, ended, turn, live, remaining, key, payoff}
+use Rattle.kuhn_tree.specs.Tree.{card, action, nothing, next, each, below, m, kuhnTree}
 use Rattle.kuhn_tree.proofs.Growth.{legal-acts}
 
 module _ (ante bet n : ℕ) where

@@ -3,15 +3,15 @@ use mathlib.Core.Path.{_≡_, refl, sym, ap, ap₂, _∙_}
 use mathlib.Core.Logic.{inl, inr}
 use mathlib.Core.Bool.{Bool, true, false}
 use mathlib.Core.List.{List, [], _∷_, _++_}
-use Prim.Native.Nat.{ℕ, zero, suc, pred, _+_, _*_, _-_, _≤_, _<_, max, zero-le, suc-le-suc}
+use Prim.Native.Nat.{ℕ, zero, suc, _+_, _*_, _-_, _≤_, max, zero-le, suc-le-suc}
 use native.Mathlib.Nat as NatL
 use native.Mathlib.Numerals.{add-one}
 use native.Mathlib.Omega.{arith}
 use lib.ListN.{length, drop, length-append}
 use Rattle.game.proofs.Counting.{In}
-use Rattle.game.specs.Tree.{Key, Tree, Trees, nil, cons, fan, Splits, SplitsAll, Every, EveryAll}
-use Rattle.game.specs.Sets.{height, heightAll, Heights, HeightsAll}
-use Rattle.kuhn.specs.Rules.{PASS, BET, ended, turn, key, remaining}
+use Rattle.game.specs.Tree.{Key, Tree, fan, Splits, SplitsAll, Every, EveryAll}
+use Rattle.game.specs.Sets.{height, Heights, HeightsAll}
+use Rattle.kuhn.specs.Rules.{PASS, BET, ended, key, remaining}
 use Rattle.kuhn_tree.specs.Tree.{each, m, kuhnTree, factorial, C}
 use Rattle.kuhn_tree.proofs.Cards.{remaining-less, remaining-all}
 use Rattle.kuhn_tree.proofs.Shape.{hand, deals, kuhn-deals}

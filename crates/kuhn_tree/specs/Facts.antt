@@ -1,14 +1,15 @@
 -- The facts about Kuhn's tree, statement by statement (document 01, "The tree and its sets" and "Whole units"). Each is proved in proofs/Facts.antt, which assumes nothing.
 -- Throughout: n seats, any ante and bet; table a table with D parts in each set, i a seat, z a rival table.
 use mathlib.Core.Path.{_≡_}
-use mathlib.Core.List.{List, [], _∷_, _++_, map}
+use mathlib.Core.List.{List, [], _∷_, map}
 use Prim.Native.Nat.{ℕ, _+_, _≤_, _<_}
 use lib.IntN.{ℤ, pos, negℤ}
 use lib.ListN.{length}
 use lib.Signed.{_≤ℤ_}
+use Rattle.finite.specs.Finite.{sumℤ}
 use Rattle.game.specs.Tree.{Key, Tree, U, Splits, Pays, Every}
 use Rattle.game.specs.Recall.{PerfectRecall}
-use Rattle.game.specs.Sets.{size, sets, setCount, entries, SameActions, SameHeights}
+use Rattle.game.specs.Sets.{size, sets, setCount, entries, SameActions, SameHeights, EveryEnd}
 use Rattle.game.specs.Table.{Table, ValidTable, RivalTable, tableWorth, tableBest, replyTable, nashConv}
 use Rattle.kuhn_tree.specs.Tree.{next, below, m, fuel, kuhnTree, C, largestPayoff}
 use Rattle.kuhn.specs.Reached.{Reached}
@@ -80,6 +81,10 @@ FansDivide = (ante bet n : ℕ) → Splits (C n) (m n) (kuhnTree ante bet n)
 -- No payoff of a seat is more than the largest in size.
 abbrev pub PayoffsBounded : Type 0
 PayoffsBounded = (ante bet n i : ℕ) → 2 ≤ n → i < n → Pays (largestPayoff ante bet n) i (kuhnTree ante bet n)
+
+-- The payoffs of the n seats add up to 0 at every end.
+abbrev pub PayoffsBalance : Type 0
+PayoffsBalance = (ante bet n : ℕ) → 1 ≤ n → EveryEnd (λ p. sumℤ n p ≡ pos 0) (kuhnTree ante bet n)
 
 -- 6. The reply to a valid table is a rival table, its worth is the best value, and no rival table is worth more.
 abbrev pub units : ℕ → ℕ → ℕ
