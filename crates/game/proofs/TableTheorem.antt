@@ -9,9 +9,9 @@ use Rattle.game.specs.Sums.{parts}
 use Rattle.game.specs.Tree.{Key, Tree, Strategy, all, Every, Keeps}
 use Rattle.game.specs.Reply.{replyTree, best, reply}
 use Rattle.game.specs.Sets.{sets, entriesOf, before, SameActions}
-use Rattle.game.specs.Table.{Table, strategyOf, tableOf, KeepsTable, tableWorth, tableBest, replyTable, nashConv}
+use Rattle.game.specs.Table.{Table, strategyOf, tableOf, ValidTable, KeepsTable, tableWorth, tableBest, replyTable, nashConv}
 use Rattle.game.specs.Small.{small}
-use Rattle.game.specs.TableTheorem.{NodesCounted, TableBack, StrategyBack, TableValid, StrategyValid, TableRival, ReplyTableRival, ReplyTableWorth, NoRivalTableBetter}
+use Rattle.game.specs.TableTheorem.{NodesCounted, TableBack, StrategyBack, TableValid, StrategyValid, ValidMeans, TableRival, ReplyTableRival, ReplyTableWorth, NoRivalTableBetter}
 use Rattle.game.specs.TableTheorem.{ReplyTableEntries, OwnTableEntriesFree, TableUnitsAddUp, TableBounds, NashConvNotBelow, smallTable, SmallNoRivalTable}
 use Rattle.game.proofs.Integers.{+ℤ-mono, +ℤ-cancel}
 use Rattle.game.proofs.Against.{every-both, own-entries-free}
@@ -46,6 +46,9 @@ table-valid t D table h v = at-sets t h (λ j k n. parts n (strategyOf t table j
 
 pub strategy-valid : StrategyValid
 strategy-valid t D s v = (laidOut-length s (sets t), laidOut-adds s D (sets t) (every→sets (λ j k n. parts n (s j k) ≡ D) t v))
+
+pub valid-means : ValidMeans
+valid-means t D table h = ((λ v. (v .0, table-valid t D table h v)), λ (e, v). subst (ValidTable t D) (table-back t table e) (strategy-valid t D (strategyOf t table) v))
 
 table-keeps : (t : Tree) (i : ℕ) (table z : Table) → SameActions t → KeepsTable t i table z → Keeps i (strategyOf t table) (strategyOf t z) t
 unfolding strategyOf

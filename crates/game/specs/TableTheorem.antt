@@ -1,6 +1,7 @@
 -- The reply theorem for tables, statement by statement, of the definitions in Sets and Table (document 01, "Whole units"). Each is proved in proofs/TableTheorem.antt, which assumes nothing.
 -- Throughout: t is a tree, table a table with D parts in each set, i a seat, z a rival table; the root has U = C × D^m units.
 use mathlib.Core.Path.{_≡_}
+use mathlib.Core.Logic.{_↔_}
 use mathlib.Core.List.{[], _∷_}
 use Prim.Native.Nat.{ℕ, _*_, _≤_, _<_}
 use lib.IntN.{pos, natAbs}
@@ -31,6 +32,10 @@ TableValid = (t : Tree) (D : ℕ) (table : Table) → SameActions t → ValidTab
 
 abbrev pub StrategyValid : Type 0
 StrategyValid = (t : Tree) (D : ℕ) (s : Strategy) → Valid (all D) s t → ValidTable t D (tableOf t s)
+
+-- So a table is valid exactly if its length is the entry count and its strategy is valid.
+abbrev pub ValidMeans : Type 0
+ValidMeans = (t : Tree) (D : ℕ) (table : Table) → SameActions t → ValidTable t D table ↔ ((length table ≡ entries t) × Valid (all D) (strategyOf t table) t)
 
 -- The strategy of a rival table is a rival.
 abbrev pub TableRival : Type 0

@@ -14,7 +14,7 @@ use Rattle.finite.proofs.Tests.{true≢false}
 use Rattle.game.specs.Sets.{size, setCount}
 use Rattle.kuhn.specs.Rules.{PASS, BET, bet-made, after-bet, ended}
 use Rattle.kuhn_tree.specs.Tree.{m, kuhnTree}
-use Rattle.kuhn_tree.specs.Counts.{turnCount, dealNodes, nodes, setsOf}
+use Rattle.kuhn_tree.specs.Counts.{turnCount, dealNodes, kuhnNodes, kuhnSets}
 use Rattle.kuhn_tree.specs.Order.{turns, histories}
 use Rattle.kuhn_tree.specs.Facts.{Counted, Counts, TooLarge}
 use Rattle.kuhn_tree.proofs.Shape.{hand}
@@ -124,11 +124,11 @@ pub counted : Counted
 unfolding handSize histories
 counted ante bet n l = (node-count, set-count, kuhn-entries ante bet n ∙ ap (λ s. s * 2) set-count)
   where
-    node-count : size (kuhnTree ante bet n) ≡ nodes n
+    node-count : size (kuhnTree ante bet n) ≡ kuhnNodes n
     node-count = kuhn-size ante bet n
         ∙ ap₂ (λ B L. dealNodes B L n) (hand-nodes n ante bet [] (m n) (ended n []) [] ∙ ap (λ t. t * 2 + 1) (history-count n l)) (sym (add-one n))
 
-    set-count : setCount (kuhnTree ante bet n) ≡ setsOf n
+    set-count : setCount (kuhnTree ante bet n) ≡ kuhnSets n
     set-count = kuhn-set-count ante bet n l ∙ ap₂ (λ t c. t * c) (history-count n l) (sym (add-one n))
 
 -- ---- document 01's rows
@@ -142,7 +142,7 @@ counts ante bet = (
   counted ante bet 6 (omega arith),
 )
 
-above : (ante bet n : ℕ) → 1 ≤ n → 4000000 < nodes n → 4000000 < size (kuhnTree ante bet n)
+above : (ante bet n : ℕ) → 1 ≤ n → 4000000 < kuhnNodes n → 4000000 < size (kuhnTree ante bet n)
 above ante bet n l w = rw (counted ante bet n l .0) w
 
 pub too-large : TooLarge

@@ -5,7 +5,7 @@ use Prim.Native.Nat.{ℕ, zero, suc, pred, _+_, _*_, _-_, _^_}
 abbrev pub turnCount : ℕ → ℕ
 turnCount n = n * 2 ^ (n - 1)
 
--- the nodes of a hand: these, and one end more
+-- the nodes of a hand: its decisions, with two children each
 abbrev pub handNodes : ℕ → ℕ
 handNodes n = turnCount n * 2 + 1
 
@@ -15,13 +15,13 @@ dealNodes B L zero = B
 dealNodes B L (suc k) = suc (L * dealNodes B (pred L) k)
 
 -- the nodes of the tree: n of n + 1 cards are dealt
-abbrev pub nodes : ℕ → ℕ
-nodes n = dealNodes (handNodes n) (n + 1) n
+abbrev pub kuhnNodes : ℕ → ℕ
+kuhnNodes n = dealNodes (handNodes n) (n + 1) n
 
 -- the sets: one for each of these histories and each card
-abbrev pub setsOf : ℕ → ℕ
-setsOf n = turnCount n * (n + 1)
+abbrev pub kuhnSets : ℕ → ℕ
+kuhnSets n = turnCount n * (n + 1)
 
 -- the entries: two actions a set
-abbrev pub entriesOf : ℕ → ℕ
-entriesOf n = setsOf n * 2
+abbrev pub kuhnEntries : ℕ → ℕ
+kuhnEntries n = kuhnSets n * 2

@@ -11,11 +11,11 @@ use Rattle.game.specs.Tree.{Key, Tree, U, Splits, Pays, Every}
 use Rattle.game.specs.Recall.{PerfectRecall}
 use Rattle.game.specs.Sets.{size, sets, setCount, entries, SameActions, SameHeights, EveryEnd}
 use Rattle.game.specs.Table.{Table, ValidTable, RivalTable, tableWorth, tableBest, replyTable, nashConv}
-use Rattle.kuhn_tree.specs.Tree.{next, below, m, fuel, kuhnTree, C, largestPayoff}
 use Rattle.kuhn.specs.Reached.{Reached}
+use Rattle.kuhn_tree.specs.Tree.{next, below, m, fuel, kuhnTree, C, largestPayoff}
 use Rattle.kuhn_tree.specs.Follows.{Follows, positions, positionOf}
 use Rattle.kuhn_tree.specs.Order.{inOrder}
-use Rattle.kuhn_tree.specs.Counts.{nodes, setsOf, entriesOf}
+use Rattle.kuhn_tree.specs.Counts.{kuhnNodes, kuhnSets, kuhnEntries}
 
 -- 1. The tree follows the rules from the start: every node stands for a reachable position, ends just where the hand is over.
 abbrev pub FollowsRules : Type 0
@@ -36,7 +36,7 @@ abbrev pub Row : Tree → ℕ → ℕ → ℕ → Type 0
 Row t a b c = (size t ≡ a) × (setCount t ≡ b) × (entries t ≡ c)
 
 abbrev pub Counted : Type 0
-Counted = (ante bet n : ℕ) → 1 ≤ n → Row (kuhnTree ante bet n) (nodes n) (setsOf n) (entriesOf n)
+Counted = (ante bet n : ℕ) → 1 ≤ n → Row (kuhnTree ante bet n) (kuhnNodes n) (kuhnSets n) (kuhnEntries n)
 
 -- Document 01's table of counts, Kuhn's five rows.
 abbrev pub Counts : Type 0
@@ -86,24 +86,25 @@ PayoffsBounded = (ante bet n i : ℕ) → 2 ≤ n → i < n → Pays (largestPay
 abbrev pub PayoffsBalance : Type 0
 PayoffsBalance = (ante bet n : ℕ) → 1 ≤ n → EveryEnd (λ p. sumℤ n p ≡ pos 0) (kuhnTree ante bet n)
 
--- 6. The reply to a valid table is a rival table, its worth is the best value, and no rival table is worth more.
-abbrev pub units : ℕ → ℕ → ℕ
-units n D = U (C n) D (m n)
+-- U, for n seats and D parts
+abbrev pub rootUnits : ℕ → ℕ → ℕ
+rootUnits n D = U (C n) D (m n)
 
+-- 6. The reply to a valid table is a rival table, its worth is the best value, and no rival table is worth more.
 abbrev pub ReplyBest : Type 0
 ReplyBest = (ante bet n D i : ℕ) (table : Table) → 0 < D → ValidTable (kuhnTree ante bet n) D table
-    → RivalTable (kuhnTree ante bet n) D i table (replyTable (kuhnTree ante bet n) D (units n D) table i)
-    × (tableWorth (kuhnTree ante bet n) D (units n D) (replyTable (kuhnTree ante bet n) D (units n D) table i) i ≡ tableBest (kuhnTree ante bet n) D (units n D) table i)
-    × ((z : Table) → RivalTable (kuhnTree ante bet n) D i table z → tableWorth (kuhnTree ante bet n) D (units n D) z i ≤ℤ tableBest (kuhnTree ante bet n) D (units n D) table i)
+    → RivalTable (kuhnTree ante bet n) D i table (replyTable (kuhnTree ante bet n) D (rootUnits n D) table i)
+    × (tableWorth (kuhnTree ante bet n) D (rootUnits n D) (replyTable (kuhnTree ante bet n) D (rootUnits n D) table i) i ≡ tableBest (kuhnTree ante bet n) D (rootUnits n D) table i)
+    × ((z : Table) → RivalTable (kuhnTree ante bet n) D i table z → tableWorth (kuhnTree ante bet n) D (rootUnits n D) z i ≤ℤ tableBest (kuhnTree ante bet n) D (rootUnits n D) table i)
 
--- 7. Document 01's cases k and l: the units, seat 0's and seat 1's worth, their best values, NashConv.
+-- 7. Document 01's cases k and l: of a valid table the worths of both seats, their best values, NashConv.
 abbrev pub kuhn2 : Tree
 kuhn2 = kuhnTree 1 1 2
 
 abbrev pub Case : ℕ → Table → (w₀ w₁ b₀ b₁ conv : ℤ) → Type 0
 Case D table w₀ w₁ b₀ b₁ conv = ValidTable kuhn2 D table
-    × (tableWorth kuhn2 D (units 2 D) table 0 ≡ w₀) × (tableWorth kuhn2 D (units 2 D) table 1 ≡ w₁)
-    × (tableBest kuhn2 D (units 2 D) table 0 ≡ b₀) × (tableBest kuhn2 D (units 2 D) table 1 ≡ b₁) × (nashConv kuhn2 D (units 2 D) table 2 ≡ conv)
+    × (tableWorth kuhn2 D (rootUnits 2 D) table 0 ≡ w₀) × (tableWorth kuhn2 D (rootUnits 2 D) table 1 ≡ w₁)
+    × (tableBest kuhn2 D (rootUnits 2 D) table 0 ≡ b₀) × (tableBest kuhn2 D (rootUnits 2 D) table 1 ≡ b₁) × (nashConv kuhn2 D (rootUnits 2 D) table 2 ≡ conv)
 
 -- k. Always PASS.
 abbrev pub passes : Table
@@ -114,7 +115,7 @@ CaseK = Case 1 passes (pos 0) (pos 0) (pos 6) (pos 6) (pos 12)
 
 -- The reply of seat 0: BET as the hand's first action on 0 and 1, which are its first and seventh sets, PASS in its other four.
 abbrev pub CaseKReply : Type 0
-CaseKReply = replyTable kuhn2 1 (units 2 1) passes 0
+CaseKReply = replyTable kuhn2 1 (rootUnits 2 1) passes 0
     ≡ 0 ∷ 1 ∷ 1 ∷ 0 ∷ 1 ∷ 0 ∷ 1 ∷ 0 ∷ 1 ∷ 0 ∷ 1 ∷ 0 ∷ 0 ∷ 1 ∷ 1 ∷ 0 ∷ 1 ∷ 0 ∷ 1 ∷ 0 ∷ 1 ∷ 0 ∷ 1 ∷ 0 ∷ []
 
 -- l. An equilibrium.
@@ -124,4 +125,4 @@ CaseL = Case 3 (3 ∷ 0 ∷ 3 ∷ 0 ∷ 3 ∷ 0 ∷ 2 ∷ 1 ∷ 0 ∷ 3 ∷ 0 �
 
 -- The theorem tried on case k: no rival table of seat 0 is worth more than 6.
 abbrev pub CaseKUnbeaten : Type 0
-CaseKUnbeaten = (z : Table) → RivalTable kuhn2 1 0 passes z → tableWorth kuhn2 1 (units 2 1) z 0 ≤ℤ pos 6
+CaseKUnbeaten = (z : Table) → RivalTable kuhn2 1 0 passes z → tableWorth kuhn2 1 (rootUnits 2 1) z 0 ≤ℤ pos 6
