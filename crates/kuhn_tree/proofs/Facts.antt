@@ -15,6 +15,7 @@ use Rattle.kuhn_tree.proofs.Sets.{kuhn-same-actions}
 pub use Rattle.kuhn_tree.proofs.Cases.{keys-in-order, case-k, case-k-reply, case-l}
 pub use Rattle.kuhn_tree.proofs.Order.{sets-in-order}
 pub use Rattle.kuhn_tree.proofs.Positions.{nodes-reached}
+pub use Rattle.kuhn_tree.proofs.Range.{units-fit}
 pub use Rattle.kuhn_tree.proofs.Counts.{counted, counts, too-large}
 
 pub follows-rules : FollowsRules

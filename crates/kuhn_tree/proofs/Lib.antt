@@ -11,4 +11,5 @@ pub mod Cases
 pub mod Counts
 pub mod Order
 pub mod Positions
+pub mod Range
 pub mod Facts

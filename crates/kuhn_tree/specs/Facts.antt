@@ -2,7 +2,7 @@
 -- Throughout: n seats, any ante and bet; table a table with D parts in each set, i a seat, z a rival table.
 use mathlib.Core.Path.{_≡_}
 use mathlib.Core.List.{List, [], _∷_, map}
-use Prim.Native.Nat.{ℕ, _+_, _≤_, _<_}
+use Prim.Native.Nat.{ℕ, _+_, _*_, _^_, _≤_, _<_}
 use lib.IntN.{ℤ, pos, negℤ}
 use lib.ListN.{length}
 use lib.Signed.{_≤ℤ_}
@@ -12,7 +12,7 @@ use Rattle.game.specs.Recall.{PerfectRecall}
 use Rattle.game.specs.Sets.{size, sets, setCount, entries, SameActions, SameHeights, EveryEnd}
 use Rattle.game.specs.Table.{Table, ValidTable, RivalTable, tableWorth, tableBest, replyTable, nashConv}
 use Rattle.kuhn.specs.Reached.{Reached}
-use Rattle.kuhn_tree.specs.Tree.{next, below, m, fuel, kuhnTree, C, largestPayoff}
+use Rattle.kuhn_tree.specs.Tree.{next, below, m, fuel, kuhnTree, C, largestParts, largestPayoff}
 use Rattle.kuhn_tree.specs.Follows.{Follows, positions, positionOf}
 use Rattle.kuhn_tree.specs.Order.{inOrder}
 use Rattle.kuhn_tree.specs.Counts.{kuhnNodes, kuhnSets, kuhnEntries}
@@ -96,6 +96,11 @@ ReplyBest = (ante bet n D i : ℕ) (table : Table) → 0 < D → ValidTable (kuh
     → RivalTable (kuhnTree ante bet n) D i table (replyTable (kuhnTree ante bet n) D (rootUnits n D) table i)
     × (tableWorth (kuhnTree ante bet n) D (rootUnits n D) (replyTable (kuhnTree ante bet n) D (rootUnits n D) table i) i ≡ tableBest (kuhnTree ante bet n) D (rootUnits n D) table i)
     × ((z : Table) → RivalTable (kuhnTree ante bet n) D i table z → tableWorth (kuhnTree ante bet n) D (rootUnits n D) z i ≤ℤ tableBest (kuhnTree ante bet n) D (rootUnits n D) table i)
+
+-- At stakes 1 and 1 a worth and a best value fit a signed number of 64 bits, and NashConv an unsigned one: all that these can be, added up, is below 2^64.
+abbrev pub UnitsFit : Type 0
+UnitsFit = (n D : ℕ) → 2 ≤ n → n ≤ 6 → D ≤ largestParts n
+    → (rootUnits n D * largestPayoff 1 1 n < 2 ^ 63) × (n * (2 * (rootUnits n D * largestPayoff 1 1 n)) < 2 ^ 64)
 
 -- 7. Document 01's cases k and l: of a valid table the worths of both seats, their best values, NashConv.
 abbrev pub kuhn2 : Tree

@@ -3,6 +3,7 @@
 use mathlib.Core.Bool.{cond}
 use mathlib.Core.List.{List, [], _∷_, _++_}
 use Prim.Native.Nat.{ℕ, zero, suc, _+_, _*_, _-_}
+use lib.Dec.{leb}
 use Rattle.game.specs.Tree.{Tree, end, chance, decide, Trees, nil, cons}
 use Rattle.kuhn.specs.Rules.{due, live, remaining, turn, key, legal, payoff}
 
@@ -49,6 +50,10 @@ factorial (suc n) = suc n * factorial n
 unfoldable pub C : ℕ → ℕ
 unfolding factorial
 C n = factorial (n + 1)
+
+-- the most parts that a set may have, with up to 6 seats (document 01, number 6)
+abbrev pub largestParts : ℕ → ℕ
+largestParts n = cond (leb n 4) 64 16
 
 -- no seat gains or loses more: what the n - 1 others can have paid
 abbrev pub largestPayoff : (ante bet n : ℕ) → ℕ
