@@ -5,7 +5,7 @@ use Prim.Native.Nat.{ℕ, _-_}
 use Prim.Native.String.{String}
 use lib.IntN.{ℤ, pos, negℤ}
 use lib.ListN.{length, take, replicate}
-use Rattle.kuhn.specs.Rules.{PASS, BET}
+use Rattle.kuhn_rules.specs.Rules.{PASS, BET}
 use Rattle.kuhn.specs.Calls.{paid, saved-refusal}
 use Rattle.kuhn.specs.declared.KuhnPoker.{KuhnPoker}
 use Rattle.kuhn.specs.declared.KuhnState.{KuhnState}

@@ -14,7 +14,7 @@ use Rattle.finite.specs.Finite.{and, or, those, has}
 use Rattle.finite.proofs.Tests.{Tested, holds, fails, tested, true≢false, both, and-left, and-right-fails, or-right}
 use Rattle.finite.proofs.Lists.{has-append, those-kept, those-passed}
 use Rattle.game.proofs.Counting.{In, in-left, in-right, in-append, Once, once-append}
-use Rattle.kuhn.specs.Rules.{left, remaining}
+use Rattle.kuhn_rules.specs.Rules.{left, remaining}
 
 -- ---- the numbers below a bound of which a test holds
 module _ (p : ℕ → Bool) where

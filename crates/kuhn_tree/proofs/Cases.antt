@@ -6,7 +6,7 @@ use Rattle.game.specs.Sets.{sets, entriesOf, before}
 use Rattle.game.specs.Table.{addUp, tableWorth, tableBest, replyTable, nashConv}
 use Rattle.finite.specs.Finite as Finite
 use Rattle.finite.specs.Finite.{and, or, some, every, those, has}
-use Rattle.kuhn.specs.Rules.{bet-made, after-bet, ended, bets, stands, left, remaining, legal, contribution, wins, paid-by-others, payoff}
+use Rattle.kuhn_rules.specs.Rules.{bet-made, after-bet, ended, bets, stands, left, remaining, legal, contribution, wins, paid-by-others, payoff}
 use Rattle.kuhn_tree.specs.Tree.{next, each, below, kuhnTree, C}
 use Rattle.kuhn_tree.specs.Order.{inOrder}
 use Rattle.kuhn_tree.specs.Facts.{KeysInOrder, CaseK, CaseKReply, CaseL}

@@ -12,7 +12,7 @@ use borrow.Author.Tests.{eq-eqb, ne-eqb}
 use Rattle.finite.specs.Finite.{or}
 use Rattle.finite.proofs.Tests.{true≢false}
 use Rattle.game.specs.Sets.{size, setCount}
-use Rattle.kuhn.specs.Rules.{PASS, BET, bet-made, after-bet, ended}
+use Rattle.kuhn_rules.specs.Rules.{PASS, BET, bet-made, after-bet, ended}
 use Rattle.kuhn_tree.specs.Tree.{m, kuhnTree}
 use Rattle.kuhn_tree.specs.Counts.{turnCount, dealNodes, kuhnNodes, kuhnSets}
 use Rattle.kuhn_tree.specs.Order.{turns, histories}

@@ -15,9 +15,9 @@ use Rattle.finite.specs.Finite.{and, or, some}
 use Rattle.finite.proofs.Tests.{Tested, holds, fails, tested, both, and-left, and-right, neither, some-same}
 use Rattle.game.proofs.Counting.{In}
 use Rattle.game.specs.Tree.{Tree, chance, decide, cons}
-use Rattle.kuhn.specs.Rules.{PASS, BET, ended, overrun, turn, due, live, over, remaining, legal, key}
-use Rattle.kuhn.specs.Reached.{Reached, start, deal, act}
-use Rattle.kuhn.proofs.Histories.{hand-lasts}
+use Rattle.kuhn_rules.specs.Rules.{PASS, BET, ended, overrun, turn, due, live, over, remaining, legal, key}
+use Rattle.kuhn_rules.specs.Reached.{Reached, start, deal, act}
+use Rattle.kuhn_rules.proofs.Histories.{hand-lasts}
 use Rattle.kuhn_tree.specs.Tree.{Next, card, action, nothing, next, each, below, m, fuel, kuhnTree}
 use Rattle.kuhn_tree.specs.Follows.{Position, dealt, acted, Follows, FollowsAll}
 use Rattle.kuhn_tree.proofs.Cards.{left-of-in}

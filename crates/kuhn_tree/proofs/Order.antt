@@ -19,7 +19,7 @@ use Rattle.game.specs.Sets.{Decision, decisions, decisionsAll, isOf, met, first
 use Rattle.game.proofs.Sets.{isOf-key, isOf-seat, met-past}
 use Rattle.game.proofs.Walk.{passed, firsts-append, met-passed, met-in}
 use Rattle.game.proofs.Counting.{In, Once, in-met}
-use Rattle.kuhn.specs.Rules.{PASS, BET, ended, turn, key, left, remaining}
+use Rattle.kuhn_rules.specs.Rules.{PASS, BET, ended, turn, key, left, remaining}
 use Rattle.kuhn_tree.specs.Tree.{each, m}
 use Rattle.kuhn_tree.specs.Order.{turns, histories, decisionAt, lowestBut, lowest, first, firstOf, joined, inOrder}
 use Rattle.kuhn_tree.specs.Facts.{SetsInOrder}

@@ -11,8 +11,8 @@ use Rattle.finite.specs.Finite.{sum, sumℤ}
 use Rattle.finite.proofs.Lists.{sum-without}
 use Rattle.game.specs.Tree.{Tree, end, chance, decide, Trees, nil, cons, Pays, PaysAll}
 use Rattle.game.specs.Sets.{EveryEnd, EveryEndAll}
-use Rattle.kuhn.specs.Rules.{PASS, BET, ended, bets, remaining, contribution, wins, paid-by-others, payoff}
-use Rattle.kuhn.proofs.Facts.{zero-sum}
+use Rattle.kuhn_rules.specs.Rules.{PASS, BET, ended, bets, remaining, contribution, wins, paid-by-others, payoff}
+use Rattle.kuhn_rules.proofs.Facts.{zero-sum}
 use Rattle.kuhn_tree.specs.Follows.{Position, dealt, acted, Follows, FollowsAll}
 use Rattle.kuhn_tree.specs.Tree.{each, m, kuhnTree, largestPayoff}
 use Rattle.kuhn_tree.proofs.Growth.{kuhn-follows}

@@ -14,8 +14,8 @@ use Rattle.finite.proofs.Tests.{true≢false, and-left, and-right}
 use Rattle.game.specs.Tree.{Tree, end, chance, decide, Trees, nil, cons}
 use Rattle.game.specs.Sets.{size, sizes}
 use Rattle.game.proofs.Counting.{In, in-left, in-right, in-append}
-use Rattle.kuhn.specs.Rules.{PASS, BET, ended, turn, due, live, over, remaining, legal}
-use Rattle.kuhn.specs.Reached.{Reached, start, deal, act}
+use Rattle.kuhn_rules.specs.Rules.{PASS, BET, ended, turn, due, live, over, remaining, legal}
+use Rattle.kuhn_rules.specs.Reached.{Reached, start, deal, act}
 use Rattle.kuhn_tree.specs.Tree.{kuhnTree}
 use Rattle.kuhn_tree.specs.Follows.{Position, dealt, acted, positions, positionsAll, Follows, FollowsAll}
 use Rattle.kuhn_tree.specs.Facts.{NodesReached}

@@ -9,7 +9,7 @@ use borrow.Author.Tests.{eqb-true}
 use Rattle.finite.proofs.Tests.{Tested, holds, fails, tested}
 use Rattle.game.specs.Tree.{Key, Tree, fan}
 use Rattle.game.specs.Recall.{Path, moved, Recall, RecallAll, PerfectRecall}
-use Rattle.kuhn.specs.Rules.{PASS, BET, ended, turn, key, remaining}
+use Rattle.kuhn_rules.specs.Rules.{PASS, BET, ended, turn, key, remaining}
 use Rattle.kuhn_tree.specs.Tree.{each, m, kuhnTree}
 use Rattle.kuhn_tree.proofs.Shape.{hand, deals, kuhn-deals}
 

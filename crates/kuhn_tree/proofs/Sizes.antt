@@ -10,7 +10,7 @@ use lib.ListN.{length}
 use Rattle.game.specs.Tree.{Tree}
 use Rattle.game.specs.Sets.{size, sizes}
 use Rattle.game.proofs.Counting.{In}
-use Rattle.kuhn.specs.Rules.{PASS, BET, ended, remaining}
+use Rattle.kuhn_rules.specs.Rules.{PASS, BET, ended, remaining}
 use Rattle.kuhn_tree.specs.Tree.{each, m, kuhnTree}
 use Rattle.kuhn_tree.specs.Counts.{dealNodes}
 use Rattle.kuhn_tree.proofs.Cards.{remaining-less, remaining-all}

@@ -11,7 +11,7 @@ use Rattle.game.specs.Tree.{Key, Tree, U, Splits, Pays, Every}
 use Rattle.game.specs.Recall.{PerfectRecall}
 use Rattle.game.specs.Sets.{size, sets, setCount, entries, SameActions, SameHeights, EveryEnd}
 use Rattle.game.specs.Table.{Table, ValidTable, RivalTable, tableWorth, tableBest, replyTable, nashConv}
-use Rattle.kuhn.specs.Reached.{Reached}
+use Rattle.kuhn_rules.specs.Reached.{Reached}
 use Rattle.kuhn_tree.specs.Tree.{next, below, m, fuel, kuhnTree, C, largestParts, largestPayoff}
 use Rattle.kuhn_tree.specs.Follows.{Follows, positions, positionOf}
 use Rattle.kuhn_tree.specs.Order.{inOrder}

@@ -5,8 +5,8 @@ use mathlib.Core.List.{List, [], _∷_, _++_, map}
 use Prim.Native.Nat.{ℕ}
 use lib.ListN.{getD}
 use Rattle.game.specs.Tree.{Tree, end, chance, decide, Trees, nil, cons}
-use Rattle.kuhn.specs.Rules.{due, live, over, remaining, turn, key, legal, payoff}
-use Rattle.kuhn.specs.Reached.{Reached}
+use Rattle.kuhn_rules.specs.Rules.{due, live, over, remaining, turn, key, legal, payoff}
+use Rattle.kuhn_rules.specs.Reached.{Reached}
 
 -- the cards dealt and the actions made
 abbrev pub Position : Type 0

@@ -6,7 +6,7 @@ use lib.Dec.{eqb}
 use lib.ListN.{length, getD, take}
 use Rattle.finite.specs.Finite.{and, or, some, every}
 use Rattle.game.specs.Sets.{Decision}
-use Rattle.kuhn.specs.Rules.{PASS, BET, ended, turn, key, left, remaining}
+use Rattle.kuhn_rules.specs.Rules.{PASS, BET, ended, turn, key, left, remaining}
 use Rattle.kuhn_tree.specs.Tree.{m}
 
 -- the histories from h on at which a seat acts, each before its longer ones; b says whether the hand has ended, r how many actions it may still have
