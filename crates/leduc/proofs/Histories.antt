@@ -8,10 +8,11 @@ use native.Mathlib.Numerals.{add-one}
 use lib.Dec.{eqb, ltb, leb}
 use lib.ListN.{length, getD, take, drop, drop-of-length-le}
 use lib.Seq.{drop-cons, take-suc}
-use Rattle.finite.specs.Finite.{and, or, some}
-use borrow.Author.Tests.{eq-eqb, ne-eqb, ltb-true, ltb-false}
+use Rattle.finite.specs.Finite.{and, or, those}
+use Rattle.finite.proofs.Lists.{those-kept, those-passed}
+use borrow.Author.Tests.{eq-eqb, ne-eqb, ltb-true, ltb-false, lt-ltb}
 use Rattle.finite.proofs.Tests.{Tested, holds, fails, tested, true≢false}
-use Rattle.leduc.specs.Rules.{FOLD, CALL, RAISE, ends-with, behind, raises, may, counted}
+use Rattle.leduc.specs.Rules.{FOLD, CALL, RAISE, ends-with, behind, raises, may, options}
 
 -- what a place adds to the raises, as a loop counts
 pub raises-step : (h : List ℕ) (i : ℕ) → i < length h → raises (drop i h) ≡ cond (eqb (getD h i 0) RAISE) 1 0 + raises (drop (i + 1) h)
@@ -64,3 +65,35 @@ may-small h a e = go (tested (ltb 2 a))
         let w : 2 < a = ltb-true 2 a p in
         true≢false (may h a) e (may-other h a (omega arith) (omega arith) ∙ ne-eqb a 1 (omega arith))
     go (fails p) = ltb-false 2 a p
+
+pub positive : (n : ℕ) → ltb 0 n ≡ not (eqb n 0)
+positive zero = refl
+positive (suc n) = lt-ltb 0 (suc n) (omega arith) ∙ ap not (sym (ne-eqb (suc n) 0 (omega arith)))
+
+pub and-true : (b : Bool) → and b true ≡ b
+unfolding and
+and-true true = refl
+and-true false = refl
+
+-- ---- the legal actions
+
+those-none : (p : ℕ → Bool) → those 0 p ≡ []
+unfolding those
+those-none p = refl
+
+module _ (h : List ℕ) (x y : Bool) (f : ends-with RAISE h ≡ x) (r : ltb (raises h) 2 ≡ y) where
+  pub options-as : options h ≡ cond x (FOLD ∷ []) [] ++ (CALL ∷ []) ++ cond y (RAISE ∷ []) []
+  unfolding options
+  options-as = third y r ∙ ap (λ l. l ++ cond y (RAISE ∷ []) []) (those-kept (may h) 1 (may-call h) ∙ ap (λ l. l ++ (CALL ∷ [])) (first x f))
+    where
+      none : (l : List ℕ) → l ≡ l ++ []
+      none [] = refl
+      none (a ∷ l) = ap (λ t. a ∷ t) (none l)
+
+      first : (b : Bool) → ends-with RAISE h ≡ b → those 1 (may h) ≡ cond b (FOLD ∷ []) []
+      first true e = those-kept (may h) 0 (may-fold h ∙ e) ∙ ap (λ l. l ++ (FOLD ∷ [])) (those-none (may h))
+      first false e = those-passed (may h) 0 (may-fold h ∙ e) ∙ those-none (may h)
+
+      third : (b : Bool) → ltb (raises h) 2 ≡ b → those 3 (may h) ≡ those 2 (may h) ++ cond b (RAISE ∷ []) []
+      third true e = those-kept (may h) 2 (may-raise h ∙ e)
+      third false e = those-passed (may h) 2 (may-raise h ∙ e) ∙ none (those 2 (may h))

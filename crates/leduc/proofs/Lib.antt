@@ -4,3 +4,4 @@ pub mod Deals
 pub mod Amounts
 pub mod Pots
 pub mod Checks
+pub mod Positions

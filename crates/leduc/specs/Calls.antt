@@ -166,7 +166,7 @@ paid zero s = record { refusal = zero; state = s; count = 2; payoffs = payoff-of
 paid (suc r) s = record { refusal = suc r; state = s; count = 0; payoffs = replicate 10 (pos 0) }
 
 -- the checks of a round's actions, each after those made before it: 14, then 15
--- barred: no action may stand in the round; blind: none is legal there
+-- barred: no action may stand in the round; blind: none is legal there, for lack of the public card
 unfoldable pub action-checks : (barred blind : Bool) (before h : List ℕ) → List Check
 action-checks barred blind before [] = []
 action-checks barred blind before (a ∷ h) =
@@ -182,19 +182,29 @@ barred-by h₁ = or (folded h₁) (not (closes h₁))
 unfoldable pub malformed : ℕ → List ℕ → Bool
 malformed n h = or (ltb 4 n) (unknown h)
 
+-- numbers 11 and 12
+abbrev pub card-checks : List ℕ → List Check
+card-checks cs = (strange cs refuses Refusals.card) ∷ (twice cs refuses Refusals.card-twice) ∷ []
+
+-- numbers 13 to 15 of a round of n actions
+abbrev pub round-checks : (barred blind : Bool) (n : ℕ) (h : List ℕ) → List Check
+round-checks barred blind n h = (malformed n h refuses Refusals.history) ∷ action-checks barred blind [] h
+
+-- numbers 16 and 17: a live second round is blind; a public card lies there before round 1 closed
+abbrev pub public-checks : (blind : Bool) (h₁ h₂ : List ℕ) → List Check
+public-checks blind h₁ h₂ =
+    (and blind (and (closes h₁) (not (ended h₁ h₂))) refuses Refusals.no-public)
+    ∷ (and (not blind) (not (closes h₁)) refuses Refusals.early-public)
+    ∷ []
+
 -- numbers 10 to 17 of a saved position; without the public card no action of round 2 is legal
 unfoldable pub saved-checks : LeducState → List Check
 saved-checks s =
     (not (eqb (s .dealt) 2) refuses Refusals.card-count)
-    ∷ (strange (seenOf s) refuses Refusals.card)
-    ∷ (twice (seenOf s) refuses Refusals.card-twice)
-    ∷ (malformed (s .acted1) (roundOne s) refuses Refusals.history)
-    ∷ action-checks false false [] (roundOne s)
-    ++ ((malformed (s .acted2) (roundTwo s) refuses Refusals.history)
-    ∷ action-checks (barred-by (roundOne s)) (hidden (s .public)) [] (roundTwo s)
-    ++ ((and (closes (roundOne s)) (and (hidden (s .public)) (not (ended (roundOne s) (roundTwo s)))) refuses Refusals.no-public)
-    ∷ (and (not (hidden (s .public))) (not (closes (roundOne s))) refuses Refusals.early-public)
-    ∷ []))
+    ∷ card-checks (seenOf s)
+    ++ (round-checks false false (s .acted1) (roundOne s)
+    ++ (round-checks (barred-by (roundOne s)) (hidden (s .public)) (s .acted2) (roundTwo s)
+    ++ public-checks (hidden (s .public)) (roundOne s) (roundTwo s)))
 
 -- saved position with its end mark: 0 for a live hand, 1 for one that has ended
 abbrev pub mark : Bool → ℕ

@@ -155,14 +155,14 @@ fn action_refusal(before: &[u8], a: usize, barred: bool, blind: bool) -> u64
 }
 
 // Whether the hand has ended: a seat has folded, or round 2 has closed.
-pub fn is_terminal(first: &[u8], second: &[u8]) -> bool
-    ensures { λ r. ⌜ r ≡ ended (now (first .entry)) (now (second .entry)) ⌝ }
+pub fn is_terminal(round1: &[u8], round2: &[u8]) -> bool
+    ensures { λ r. ⌜ r ≡ ended (now (round1 .entry)) (now (round2 .entry)) ⌝ }
 {
-    if has_fold(first) {
+    if has_fold(round1) {
         return true;
     }
-    if has_fold(second) {
+    if has_fold(round2) {
         return true;
     }
-    round_over(second)
+    round_over(round2)
 }

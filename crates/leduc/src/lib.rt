@@ -4,6 +4,10 @@
 mod betting;
 mod cards;
 mod money;
+mod output;
+mod position;
+mod saved;
+mod state;
 
 ghost use mathlib.Core.Path.{_≡_};
 ghost use Rattle.leduc.specs.Calls.{initial};

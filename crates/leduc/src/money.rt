@@ -55,16 +55,16 @@ pub fn round_pot(pot: Pot, size: usize, h: &[u8]) -> Pot
 }
 
 // What both seats have paid, seat 0 first.
-pub fn contributions(first: &[u8], second: &[u8]) -> Pot
-    requires { ⌜ (length (now first) ≤ 4) × (length (now second) ≤ 4) ⌝ }
-    ensures { λ r. ⌜ r ≡ after-round 4 (after-round 2 (record { acting = 1; other = 1 }) (now (first .entry))) (now (second .entry)) ⌝ }
+pub fn contributions(round1: &[u8], round2: &[u8]) -> Pot
+    requires { ⌜ (length (now round1) ≤ 4) × (length (now round2) ≤ 4) ⌝ }
+    ensures { λ r. ⌜ r ≡ after-round 4 (after-round 2 (record { acting = 1; other = 1 }) (now (round1 .entry))) (now (round2 .entry)) ⌝ }
 {
     let start = Pot {
         acting: crate::LeducPoker::ANTE,
         other: crate::LeducPoker::ANTE,
     };
-    let middle = round_pot(start, crate::LeducPoker::RAISE_ONE, first);
-    round_pot(middle, crate::LeducPoker::RAISE_TWO, second)
+    let middle = round_pot(start, crate::LeducPoker::RAISE_ONE, round1);
+    round_pot(middle, crate::LeducPoker::RAISE_TWO, round2)
 }
 
 // Whether a seat has folded in a round.
@@ -111,31 +111,31 @@ pub fn is_stronger(cards: [u8; 2], public: Public, seat: usize, other: usize) ->
 pub fn is_winner(
     cards: [u8; 2],
     public: Public,
-    first: &[u8],
-    second: &[u8],
+    round1: &[u8],
+    round2: &[u8],
     seat: usize,
     other: usize,
 ) -> bool
     requires { ⌜ (seat ≤ 1) × (other ≤ 1) ⌝ }
-    ensures { λ r. ⌜ r ≡ wins cards public (now (first .entry)) (now (second .entry)) seat other ⌝ }
+    ensures { λ r. ⌜ r ≡ wins cards public (now (round1 .entry)) (now (round2 .entry)) seat other ⌝ }
 {
-    if has_fold(first) {
-        return folded_in(first, second, other);
+    if has_fold(round1) {
+        return folded_in(round1, round2, other);
     }
-    if has_fold(second) {
-        return folded_in(first, second, other);
+    if has_fold(round2) {
+        return folded_in(round1, round2, other);
     }
     is_stronger(cards, public, seat, other)
 }
 
 // Whether a seat has folded in either round.
-fn folded_in(first: &[u8], second: &[u8], seat: usize) -> bool
-    ensures { λ r. ⌜ r ≡ or (folds (now (first .entry)) seat) (folds (now (second .entry)) seat) ⌝ }
+fn folded_in(round1: &[u8], round2: &[u8], seat: usize) -> bool
+    ensures { λ r. ⌜ r ≡ or (folds (now (round1 .entry)) seat) (folds (now (round2 .entry)) seat) ⌝ }
 {
-    if folded_by(first, seat) {
+    if folded_by(round1, seat) {
         return true;
     }
-    folded_by(second, seat)
+    folded_by(round2, seat)
 }
 
 // What a seat gains: the other's contribution if it wins; it loses its own if the other wins.
