@@ -6,12 +6,12 @@ use Prim.Native.Nat.{ℕ, zero, suc, _+_, _-_, _≤_, _<_}
 use native.Mathlib.Nat as NatL
 use native.Mathlib.Numerals.{add-one}
 use native.Mathlib.Omega.{arith}
-use lib.Dec.{eqb}
-use lib.ListN.{length, getD, take, length-append, List·getD-append, List·getD-eq-default}
-use lib.Seq.{length-take-le, getD-take, take-suc, getD-at}
-use borrow.Author.Tests.{eq-eqb, ne-eqb}
+use lib.Dec.{eqb, ltb}
+use lib.ListN.{length, getD, take, set, replicate, length-append, length-set, length-replicate, getD-replicate, List·getD-append, List·getD-eq-default}
+use lib.Seq.{length-take-le, getD-take, take-suc, getD-at, getD-set-same, getD-set-other, ext-getD}
+use borrow.Author.Tests.{eq-eqb, ne-eqb, eqb-true, eqb-false, lt-ltb, le-ltb, ltb-true}
 use Rattle.finite.specs.Finite.{and, or, some, every, sum, those, has, places}
-use Rattle.finite.proofs.Tests.{Tested, holds, fails, tested, true≢false, or-left, or-right, neither, below-cases, some-same, none, some-here}
+use Rattle.finite.proofs.Tests.{Tested, holds, fails, tested, true≢false, iff, or-left, or-right, neither, below-cases, some-same, none, some-here}
 
 -- ---- a front part
 
@@ -143,3 +143,44 @@ sum-without (suc n) p f h =
     below-cases p n h
     (λ w. rw (ne-eqb n p (λ q. omega arith)) (let e = sum-without n p f w in omega arith))
     (λ w. rw w (rw (eq-eqb n n refl, sum-same n (λ q. cond (eqb q n) 0 (f q)) f (λ i v. ap (λ b. cond b 0 (f i)) (ne-eqb i n (λ q. omega arith)))) (omega arith)))
+
+-- ---- a value at each number below a bound
+
+module _ {A : Type 0} where
+  pub length-places : (n : ℕ) (f : ℕ → A) → length (places n f) ≡ n
+  unfolding places
+  length-places zero f = refl
+  length-places (suc n) f = length-append (places n f) (f n ∷ []) ∙ ap (λ k. k + 1) (length-places n f) ∙ add-one n
+
+  pub getD-places : (n : ℕ) (f : ℕ → A) (i : ℕ) (d : A) → i < n → getD (places n f) i d ≡ f i
+  unfolding places
+  getD-places zero f i d h = absurd (omega arith)
+  getD-places (suc n) f i d h =
+      below-cases i n h
+      (λ w. List·getD-append (places n f) (f n ∷ []) d i (rw (length-places n f) w) ∙ getD-places n f i d w)
+      (λ w. getD-at (places n f) (f n) [] d i (length-places n f ∙ sym w) ∙ ap f (sym w))
+
+  pub places-same : (n : ℕ) (f g : ℕ → A) → ((i : ℕ) → i < n → f i ≡ g i) → places n f ≡ places n g
+  unfolding places
+  places-same zero f g h = refl
+  places-same (suc n) f g h = ap₂ (λ xs x. xs ++ (x ∷ [])) (places-same n f g (λ i w. h i (omega arith))) (h n (omega arith))
+
+  -- a list that holds f at each of its places
+  pub places-of : (n : ℕ) (f : ℕ → A) (d : A) (l : List A) → length l ≡ n → ((i : ℕ) → i < n → getD l i d ≡ f i) → l ≡ places n f
+  places-of n f d l e h = ext-getD d l (places n f) (e ∙ sym (length-places n f)) (λ i w. let v : i < n = rw e at w in h i v ∙ sym (getD-places n f i d v))
+
+  pub places-set : (n : ℕ) (f g : ℕ → A) (i : ℕ) (x : A) → i < n → g i ≡ x → ((j : ℕ) → (j ≡ i → ⊥) → g j ≡ f j) → set (places n f) i x ≡ places n g
+  places-set n f g i x h e k = places-of n g x (set (places n f) i x) (length-set (places n f) i x ∙ length-places n f) (λ j w. at j w (tested (eqb j i)))
+    where
+      at : (j : ℕ) → j < n → Tested (eqb j i) → getD (set (places n f) i x) j x ≡ g j
+      at j w (holds t) = let q : j ≡ i = eqb-true j i t in ap (λ m. getD (set (places n f) i x) m x) q ∙ getD-set-same (places n f) i x x (rw (length-places n f) h) ∙ sym e ∙ ap g (sym q)
+      at j w (fails t) = let q : j ≡ i → ⊥ = eqb-false j i t in getD-set-other (places n f) i j x x q ∙ getD-places n f j x w ∙ sym (k j q)
+
+  -- places filled from the front, as a loop fills them
+  pub filled-none : (n : ℕ) (f : ℕ → A) (z : A) → replicate n z ≡ places n (λ p. cond (ltb p 0) (f p) z)
+  filled-none n f z = places-of n (λ p. cond (ltb p 0) (f p) z) z (replicate n z) (length-replicate n z) (λ i w. getD-replicate n i z z w ∙ ap (λ b. cond b (f i) z) (sym (le-ltb i 0 (omega arith))))
+
+  pub filled-more : (n : ℕ) (f : ℕ → A) (z : A) (k : ℕ) → k < n → set (places n (λ p. cond (ltb p k) (f p) z)) k (f k) ≡ places n (λ p. cond (ltb p (k + 1)) (f p) z)
+  filled-more n f z k h =
+      places-set n (λ p. cond (ltb p k) (f p) z) (λ p. cond (ltb p (k + 1)) (f p) z) k (f k) h (ap (λ b. cond b (f k) z) (lt-ltb k (k + 1) (omega arith)))
+      (λ j q. ap (λ b. cond b (f j) z) (iff (λ t. lt-ltb j k (let w : j < k + 1 = ltb-true j (k + 1) t in omega arith)) (λ t. lt-ltb j (k + 1) (let w : j < k = ltb-true j k t in omega arith))))

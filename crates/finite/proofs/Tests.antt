@@ -61,6 +61,15 @@ unfolding and
 and-right-fails true q = q
 and-right-fails false q = refl
 
+-- the first test is settled, and the second decides
+pub and-rest : {a : Bool} (b : Bool) → a ≡ true → and a b ≡ b
+unfolding and
+and-rest b p = rw p
+
+pub or-rest : {a : Bool} (b : Bool) → a ≡ false → or a b ≡ b
+unfolding or
+or-rest b p = rw p
+
 pub or-left : {a : Bool} (b : Bool) → a ≡ true → or a b ≡ true
 unfolding or
 or-left b p = rw p

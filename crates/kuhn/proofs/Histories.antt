@@ -2,12 +2,12 @@
 use mathlib.Core.Path.{_≡_, refl, sym, ap, ap₂, _∙_}
 use mathlib.Core.Bool.{Bool, true, false, not, cond}
 use mathlib.Core.List.{List, [], _∷_, _++_}
-use Prim.Native.Nat.{ℕ, zero, suc, _+_, _-_, _%_, _≤_, _<_}
+use Prim.Native.Nat.{ℕ, zero, suc, _+_, _*_, _-_, _%_, _≤_, _<_}
 use native.Mathlib.Omega.{arith}
 use lib.Dec.{eqb, ltb, leb}
-use borrow.Author.Tests.{lt-ltb, le-ltb, ltb-true, ltb-false, eq-eqb, ne-eqb, eqb-true}
+use borrow.Author.Tests.{lt-ltb, le-ltb, ltb-true, ltb-false, eq-eqb, ne-eqb, eqb-true, eqb-false}
 use lib.ListN.{length, getD, take}
-use lib.Seq.{length-take-le, getD-take, take-take}
+use lib.Seq.{length-take-le, getD-take, take-take, take-length}
 use Rattle.finite.specs.Finite.{and, or, some}
 use Rattle.finite.proofs.Tests.{Tested, holds, fails, tested, true≢false, iff, eqb-iff, none, some-here, some-at, some-same}
 use Rattle.finite.proofs.Lists.{some-take}
@@ -121,3 +121,53 @@ all-stand n k l p h q = rw (no-bet-made k l h q)
 pub bettors-stand : (n k b : ℕ) (l : List ℕ) (p : ℕ) → k ≤ length l → Quiet l b → b < k → getD l b 0 ≡ BET → stands n (take k l) p ≡ bets n (take k l) p
 unfolding stands or
 bettors-stand n k b l p h q w e = rw (bet-made-in k b l h q w e)
+
+-- ---- how long a hand lasts
+
+-- the place of the first bet, or the length where there is none
+opening : (h : List ℕ) → (b : ℕ) × (b ≤ length h) × Quiet h b × (b < length h → getD h b 0 ≡ BET)
+opening [] = (0, omega arith, (λ k w e. absurd (omega arith)), (λ w. absurd (omega arith)))
+opening (x ∷ h) = go (tested (eqb x BET)) (opening h)
+  where
+    later : (b : ℕ) → (x ≡ BET → ⊥) → Quiet h b → Quiet (x ∷ h) (suc b)
+    later b n q zero w e = n e
+    later b n q (suc k) w e = q k (omega arith) e
+
+    go : Tested (eqb x BET) → (b : ℕ) × (b ≤ length h) × Quiet h b × (b < length h → getD h b 0 ≡ BET) → (b : ℕ) × (b ≤ suc (length h)) × Quiet (x ∷ h) b × (b < suc (length h) → getD (x ∷ h) b 0 ≡ BET)
+    go (holds t) r = (0, omega arith, (λ k w e. absurd (omega arith)), (λ w. eqb-true x BET t))
+    go (fails t) (b, i, q, f) = (suc b, omega arith, later b (eqb-false x BET t) q, (λ w. f (omega arith)))
+
+-- a hand that has not run on has at most 2n - 1 actions, and fewer while it is live
+module _ (n : ℕ) (h : List ℕ) (one : 1 ≤ n) (e : overrun n h ≡ false) where
+  whole : (P : List ℕ → Bool) → P (take (length h) h) ≡ P h
+  whole P = ap P (take-length h)
+
+  last-action : (b : ℕ) → Quiet h b → b < length h → getD h b 0 ≡ BET → Tested (ltb b n) → (length h ≤ b + n) × (b < n) × (ended n h ≡ eqb (length h) (b + n))
+  last-action b q w f (holds t) = (
+    ltb-false (b + n) (length h) (sym (overrun-bet n (length h) h one (omega arith) b q w f (ltb-true b n t)) ∙ whole (overrun n) ∙ e),
+    ltb-true b n t,
+    sym (whole (ended n)) ∙ ended-bet n (length h) b h one (omega arith) q w f,
+  )
+  last-action b q w f (fails t) = true≢false (overrun n h) (sym (whole (overrun n)) ∙ overrun-late n (length h) h one (omega arith) b q w f (ltb-false b n t)) e
+
+  last-pass : Quiet h (length h) → (length h ≤ n) × (ended n h ≡ eqb (length h) n)
+  last-pass q = (
+    ltb-false n (length h) (sym (overrun-quiet n (length h) h one (omega arith) q) ∙ whole (overrun n) ∙ e),
+    sym (whole (ended n)) ∙ ended-quiet n (length h) h (omega arith) q,
+  )
+
+  abbrev Lasts : Type 0
+  Lasts = (length h < 2 * n) × (ended n h ≡ false → length h + 1 < 2 * n)
+
+  by-opening : (b : ℕ) → b ≤ length h → Quiet h b → (b < length h → getD h b 0 ≡ BET) → Tested (ltb b (length h)) → Lasts
+  by-opening b i q f (holds t) =
+      let w : b < length h = ltb-true b (length h) t in
+      let (x, y, z) = last-action b q w (f w) (tested (ltb b n)) in
+      (omega arith, λ v. let u : length h ≡ b + n → ⊥ = eqb-false (length h) (b + n) (sym z ∙ v) in omega arith)
+  by-opening b i q f (fails t) =
+      let w : length h ≤ b = ltb-false b (length h) t in
+      let (x, z) = last-pass (quiet-less h b (length h) w q) in
+      (omega arith, λ v. let u : length h ≡ n → ⊥ = eqb-false (length h) n (sym z ∙ v) in omega arith)
+
+  pub hand-lasts : Lasts
+  hand-lasts = let (b, i, q, f) = opening h in by-opening b i q f (tested (ltb b (length h)))

@@ -2,3 +2,6 @@
 pub mod Histories
 pub mod Deals
 pub mod Winner
+pub mod Amounts
+pub mod Positions
+pub mod Answers

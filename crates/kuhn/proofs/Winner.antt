@@ -7,12 +7,15 @@ use Prim.Native.Nat.{ℕ, zero, suc, _+_, _-_, _≤_, _<_}
 use native.Mathlib.Omega.{arith}
 use lib.Dec.{eqb, ltb, leb}
 use borrow.Author.Tests.{le-leb, leb-true, eq-eqb, eqb-true}
-use lib.ListN.{length, getD, take}
+use lib.IntN.{ℤ, pos, negℤ}
+use lib.ListN.{length, getD, take, set, replicate}
 use lib.Seq.{getD-take}
-use Rattle.finite.specs.Finite.{and, or, every}
+use Rattle.finite.specs.Finite.{and, or, every, sum, places}
 use Rattle.finite.proofs.Tests.{Tested, holds, fails, tested, true≢false, iff, both, and-left, and-right, and-left-fails, or-left, or-right, or-cases, below-cases, all, every-at}
-use Rattle.kuhn.specs.Rules.{stands, wins}
+use Rattle.finite.proofs.Lists.{sum-without, filled-none, filled-more}
+use Rattle.kuhn.specs.Rules.{stands, wins, contribution, paid-by-others, payoff}
 use Rattle.kuhn.specs.Money.{Highest}
+use Rattle.kuhn.specs.Calls.{ante, bet, payoffs-of}
 
 module _ (n : ℕ) (h cards : List ℕ) where
   pub highest-none : Highest n h cards 0 0
@@ -74,3 +77,32 @@ module _ (n : ℕ) (h cards : List ℕ) where
   pub folds-lose : (cs : List ℕ) (p : ℕ) → stands n h p ≡ false → wins n cs h p ≡ false
   unfolding wins
   folds-lose cs p s = and-left-fails _ s
+
+-- the winner's gain is the pot less its own part
+pub payoff-share : (ante bet n : ℕ) (cs h : List ℕ) (p : ℕ) → p < n
+    → cond (wins n cs h p) (pos (sum n (contribution ante bet n h) - contribution ante bet n h p)) (negℤ (pos (contribution ante bet n h p))) ≡ payoff ante bet n cs h p
+unfolding payoff paid-by-others
+payoff-share ante bet n cs h p w = ap (λ k. cond (wins n cs h p) (pos k) (negℤ (pos (contribution ante bet n h p)))) (let e = sum-without n p (contribution ante bet n h) w in omega arith)
+
+-- no seat has paid more than all have
+pub contribution-in : (ante bet n : ℕ) (h : List ℕ) (p : ℕ) → p < n → contribution ante bet n h p ≤ sum n (contribution ante bet n h)
+contribution-in ante bet n h p w = let e = sum-without n p (contribution ante bet n h) w in omega arith
+
+-- what the payoffs' loop writes for a seat
+module _ (n : ℕ) (cs h : List ℕ) where
+  abbrev pub paid-up-to : ℕ → List ℤ
+  paid-up-to k = places 10 (λ p. cond (ltb p k) (payoff ante bet n cs h p) (pos 0))
+
+  pub paid-none : replicate 10 (pos 0) ≡ paid-up-to 0
+  paid-none = filled-none 10 (payoff ante bet n cs h) (pos 0)
+
+  pub paid-more : (k total mine : ℕ) (winner : Bool) (amount : ℤ) (out : List ℤ) → k < n → n ≤ 10
+      → total ≡ sum n (contribution ante bet n h) → mine ≡ contribution ante bet n h k → winner ≡ wins n cs h k → amount ≡ cond winner (pos (total - mine)) (negℤ (pos mine))
+      → out ≡ paid-up-to k → set out k amount ≡ paid-up-to (k + 1)
+  paid-more k total mine winner amount out w v a b c d e =
+      ap₂ (λ l z. set l k z) e (d ∙ ap (λ t. cond t (pos (total - mine)) (negℤ (pos mine))) c ∙ ap₂ (λ x y. cond (wins n cs h k) (pos (x - y)) (negℤ (pos y))) a b ∙ payoff-share ante bet n cs h k w)
+      ∙ filled-more 10 (payoff ante bet n cs h) (pos 0) k (omega arith)
+
+  pub paid-all : (k : ℕ) (out : List ℤ) → k ≤ n → n ≤ k → out ≡ paid-up-to k → out ≡ payoffs-of n cs h
+  unfolding payoffs-of
+  paid-all k out a b e = let q : k ≡ n = omega arith in e ∙ ap paid-up-to q

@@ -85,12 +85,11 @@ abbrev pub started : KuhnPoker → Moved
 started g = record { refusal = start-refusal g; state = initial }
 
 -- deal: the card of an outcome is the one that stands there among those left
+abbrev pub deal-checks : ℕ → KuhnState → ℕ → List Check
+deal-checks n s k = (not (and (due n (cardsOf s)) (ltb k (length (remaining n (cardsOf s))))) refuses Refusals.unfit) ∷ []
+
 unfoldable pub deal-refusal : KuhnPoker → KuhnState → ℕ → ℕ
-deal-refusal g s k =
-    first
-    (position-checks (g .players) s
-    ++ (not (and (due (g .players) (cardsOf s)) (ltb k (length (remaining (g .players) (cardsOf s))))) refuses Refusals.unfit)
-    ∷ [])
+deal-refusal g s k = first (position-checks (g .players) s ++ deal-checks (g .players) s k)
 
 abbrev pub dealt : KuhnPoker → KuhnState → ℕ → Moved
 dealt g s k = moved (deal-refusal g s k) s (with-card s (getD (remaining (g .players) (cardsOf s)) k 0))
@@ -99,69 +98,78 @@ dealt g s k = moved (deal-refusal g s k) s (with-card s (getD (remaining (g .pla
 abbrev pub counted : ℕ → ℕ
 counted a = cond (ltb BET a) BET a
 
+abbrev pub step-checks : ℕ → KuhnState → List Check
+step-checks n s = (not (live n (cardsOf s) (historyOf s)) refuses Refusals.unfit) ∷ []
+
 unfoldable pub step-refusal : KuhnPoker → KuhnState → ℕ
-step-refusal g s =
-    first
-    (position-checks (g .players) s
-    ++ (not (live (g .players) (cardsOf s) (historyOf s)) refuses Refusals.unfit)
-    ∷ [])
+step-refusal g s = first (position-checks (g .players) s ++ step-checks (g .players) s)
 
 abbrev pub stepped : KuhnPoker → KuhnState → ℕ → Moved
 stepped g s a = moved (step-refusal g s) s (with-action s (counted a))
 
 -- legal list, of a seat p, into an output of room bytes
-abbrev pub legal-of : KuhnPoker → KuhnState → ℕ → List ℕ
+unfoldable pub legal-of : KuhnPoker → KuhnState → ℕ → List ℕ
 legal-of g s p = legal (g .players) (cardsOf s) (historyOf s) p
 
+abbrev pub legal-checks : KuhnPoker → KuhnState → ℕ → ℕ → List Check
+legal-checks g s p room = (ltb room (length (legal-of g s p)) refuses Refusals.output) ∷ []
+
 unfoldable pub legal-refusal : KuhnPoker → KuhnState → ℕ → ℕ → ℕ
-legal-refusal g s p room =
-    first
-    (position-checks (g .players) s
-    ++ (ltb room (length (legal-of g s p)) refuses Refusals.output)
-    ∷ [])
+legal-refusal g s p room = first (position-checks (g .players) s ++ legal-checks g s p room)
+
+abbrev pub listed : KuhnPoker → KuhnState → ℕ → ℕ → Written
+listed g s p room = wrote (legal-refusal g s p room) s (length (legal-of g s p))
 
 -- key, of a seat p that has a card
-abbrev pub key-of : KuhnState → ℕ → List ℕ
+unfoldable pub key-of : KuhnState → ℕ → List ℕ
 key-of s p = key (cardsOf s) (historyOf s) p
 
+abbrev pub key-checks : KuhnState → ℕ → ℕ → List Check
+key-checks s p room = (leb (length (cardsOf s)) p refuses Refusals.unfit) ∷ (ltb room (length (key-of s p)) refuses Refusals.output) ∷ []
+
 unfoldable pub key-refusal : KuhnPoker → KuhnState → ℕ → ℕ → ℕ
-key-refusal g s p room =
-    first
-    (position-checks (g .players) s
-    ++ (leb (length (cardsOf s)) p refuses Refusals.unfit)
-    ∷ (ltb room (length (key-of s p)) refuses Refusals.output)
-    ∷ [])
+key-refusal g s p room = first (position-checks (g .players) s ++ key-checks s p room)
+
+abbrev pub keyed : KuhnPoker → KuhnState → ℕ → ℕ → Written
+keyed g s p room = wrote (key-refusal g s p room) s (length (key-of s p))
 
 -- payoff, at the end of a hand: a number for each seat, 0 past the seats
+abbrev pub payoff-checks : ℕ → KuhnState → List Check
+payoff-checks n s = (not (over n (cardsOf s) (historyOf s)) refuses Refusals.unfit) ∷ []
+
 unfoldable pub payoff-refusal : KuhnPoker → KuhnState → ℕ
-payoff-refusal g s =
-    first
-    (position-checks (g .players) s
-    ++ (not (over (g .players) (cardsOf s) (historyOf s)) refuses Refusals.unfit)
-    ∷ [])
+payoff-refusal g s = first (position-checks (g .players) s ++ payoff-checks (g .players) s)
 
 unfoldable pub payoffs-of : ℕ → List ℕ → List ℕ → List ℤ
 payoffs-of n cs h = places 10 (λ p. cond (ltb p n) (payoff ante bet n cs h p) (pos 0))
 
-abbrev pub paid : ℕ → KuhnPoker → KuhnState → Payoffs
-paid zero g s = record { refusal = zero; state = s; count = g .players; payoffs = payoffs-of (g .players) (cardsOf s) (historyOf s) }
-paid (suc r) g s = record { refusal = suc r; state = s; count = 0; payoffs = replicate 10 (pos 0) }
+abbrev pub payoff-answer : ℕ → KuhnPoker → KuhnState → Payoffs
+payoff-answer zero g s = record { refusal = zero; state = s; count = g .players; payoffs = payoffs-of (g .players) (cardsOf s) (historyOf s) }
+payoff-answer (suc r) g s = record { refusal = suc r; state = s; count = 0; payoffs = replicate 10 (pos 0) }
 
--- saved position with its end mark: 0 for a live hand, 1 for one that has ended
+abbrev pub paid : KuhnPoker → KuhnState → Payoffs
+paid g s = payoff-answer (payoff-refusal g s) g s
+
+-- saved position: what is wrong with it, whatever its end mark says
+abbrev pub saved-checks : ℕ → KuhnState → List Check
+saved-checks n s =
+    (seats-out n refuses Refusals.seats)
+    ∷ (not (eqb (s .dealt) n) refuses Refusals.card-count)
+    ∷ (strange n (cardsOf s) refuses Refusals.card)
+    ∷ (twice (cardsOf s) refuses Refusals.card-twice)
+    ∷ (or (ltb (2 * n - 1) (s .acted)) (unknown (historyOf s)) refuses Refusals.history)
+    ∷ (overrun n (historyOf s) refuses Refusals.closed)
+    ∷ []
+
+-- its end mark: 0 for a live hand, 1 for one that has ended
 abbrev pub mark : Bool → ℕ
 mark b = cond b 1 0
 
+abbrev pub mark-checks : ℕ → KuhnState → ℕ → List Check
+mark-checks n s m = (not (eqb m (mark (ended n (historyOf s)))) refuses Refusals.end-mark) ∷ []
+
 unfoldable pub saved-refusal : KuhnPoker → KuhnState → ℕ → ℕ
-saved-refusal g s m =
-    first
-    ((seats-out (g .players) refuses Refusals.seats)
-    ∷ (not (eqb (s .dealt) (g .players)) refuses Refusals.card-count)
-    ∷ (strange (g .players) (cardsOf s) refuses Refusals.card)
-    ∷ (twice (cardsOf s) refuses Refusals.card-twice)
-    ∷ (or (ltb (2 * g .players - 1) (s .acted)) (unknown (historyOf s)) refuses Refusals.history)
-    ∷ (overrun (g .players) (historyOf s) refuses Refusals.closed)
-    ∷ (not (eqb m (mark (ended (g .players) (historyOf s)))) refuses Refusals.end-mark)
-    ∷ [])
+saved-refusal g s m = first (saved-checks (g .players) s ++ mark-checks (g .players) s m)
 
 abbrev pub checked : KuhnPoker → KuhnState → ℕ → Moved
 checked g s m = record { refusal = saved-refusal g s m; state = s }

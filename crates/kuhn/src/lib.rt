@@ -3,10 +3,14 @@
 mod betting;
 mod cards;
 mod money;
+mod position;
 
 ghost use mathlib.Core.Path.{_≡_};
-ghost use Rattle.kuhn.specs.Calls.{initial, start-refusal, started, deal-refusal, dealt, step-refusal, stepped};
-ghost use Rattle.kuhn.specs.Calls.{legal-of, legal-refusal, key-of, key-refusal, wrote, written};
+ghost use Prim.Native.Nat.{ℕ, _≤_, _<_};
+ghost use lib.ListN.{length};
+ghost use Rattle.kuhn.specs.Calls.{initial, start-refusal, started, deal-refusal, dealt, step-refusal, stepped, with-card, with-action, counted};
+ghost use Rattle.refusals.specs.Refusals.{first};
+ghost use Rattle.kuhn.specs.Calls.{position-checks, legal-of, legal-refusal, key-of, key-refusal, wrote, written};
 ghost use Rattle.kuhn.specs.Calls.{payoff-refusal, paid, saved-refusal, checked};
 
 // The game: how many seats play.
@@ -51,14 +55,75 @@ impl KuhnPoker {
     pub const LEAST_SEATS: usize = 2;
 
     pub const MOST_SEATS: usize = 10;
-
+    // The places of a position: a card for each of ten seats, and the 2 × 10 - 1 actions of the longest hand.
     pub const CARDS: usize = 10;
 
     pub const ACTIONS: usize = 19;
-
+    // The stakes.
     pub const ANTE: u64 = 1;
 
     pub const STAKE: u64 = 1;
+
+    // Number 2: the seat count is outside 2 to 10.
+    pub fn validate(self) -> u64
+        ensures { λ r. ⌜ r ≡ start-refusal self ⌝ }
+    {
+        if position::seats_outside(self.players) {
+            return refusals::SEATS;
+        }
+        refusals::ACCEPTED
+    }
+
+    // Start: the initial position.
+    pub fn initial_state(self) -> Moved
+        ensures { λ r. ⌜ r ≡ started self ⌝ }
+    {
+        let refusal = self.validate();
+        let state = KuhnState::new();
+        Moved { refusal, state }
+    }
+
+    // Step: the seat whose turn it is acts; every action above 1 counts as a bet.
+    pub fn step(self, state: KuhnState, action: usize) -> Moved
+        ensures { λ r. ⌜ r ≡ stepped self state action ⌝ }
+    {
+        let refusal = self.step_refusal(state);
+        if refusal != refusals::ACCEPTED {
+            return Moved { refusal, state };
+        }
+        let next = state.with_action(action);
+        Moved {
+            refusal,
+            state: next,
+        }
+    }
+
+    fn step_refusal(self, state: KuhnState) -> u64
+        ensures { λ r. ⌜ r ≡ step-refusal self state ⌝ }
+    {
+        let refusal = self.position_refusal(state);
+        if refusal != refusals::ACCEPTED {
+            return refusal;
+        }
+        if !position::is_live(self.players, state) {
+            return refusals::UNFIT;
+        }
+        refusals::ACCEPTED
+    }
+
+    // What every rules call on a position checks first.
+    fn position_refusal(self, state: KuhnState) -> u64
+        ensures { λ r. ⌜ r ≡ first (position-checks (self .players) state) ⌝ }
+    {
+        let n = self.players;
+        if position::seats_outside(n) {
+            return refusals::SEATS;
+        }
+        if !position::is_reachable(n, state) {
+            return refusals::UNREACHABLE;
+        }
+        refusals::ACCEPTED
+    }
 }
 
 impl KuhnState {
@@ -73,4 +138,27 @@ impl KuhnState {
             acted: 0,
         }
     }
+
+    // One action more.
+    fn with_action(self, action: usize) -> Self
+        requires { ⌜ self .acted < 19 ⌝ }
+        ensures { λ r. ⌜ r ≡ with-action self (counted action) ⌝ }
+    {
+        let mut next = self;
+        let at = self.acted;
+        let byte = as_action(action);
+        next.history[at] = byte;
+        next.acted = at + 1;
+        next
+    }
+}
+
+// Every action above 1 counts as a bet.
+fn as_action(action: usize) -> u8
+    ensures { λ r. ⌜ r ≡ counted action ⌝ }
+{
+    if (KuhnPoker::BET as usize) < action {
+        return KuhnPoker::BET;
+    }
+    action as u8
 }

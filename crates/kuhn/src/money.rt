@@ -83,3 +83,47 @@ fn larger(a: usize, b: usize) -> usize
 {
     if a < b { b } else { a }
 }
+
+// Whether a seat wins: it stands, and its card is the highest of those that stand.
+fn won(cards: &[u8], history: &[u8], acted: usize, n: usize, player: usize, top: usize) -> bool
+    requires { ⌜ (acted ≤ length (now history)) × (1 ≤ n) × (n ≤ length (now cards)) × (player < n) ⌝ }
+    requires { ⌜ Highest n (take acted (now history)) (now cards) n top ⌝ }
+    ensures { λ r. ⌜ r ≡ wins n (take n (now (cards .entry))) (take acted (now (history .entry))) player ⌝ }
+{
+    if standing(history, acted, n, player) {
+        wide(cards[player]) == top
+    } else {
+        false
+    }
+}
+
+// What a seat gains or loses of a pot.
+fn share(total: u64, mine: u64, winner: bool) -> i64
+    requires { ⌜ (mine ≤ total) × (total ≤ 20) ⌝ }
+    ensures { λ r. ⌜ r ≡ cond winner (pos (total - mine)) (negℤ (pos mine)) ⌝ }
+{
+    if winner {
+        (total - mine) as i64
+    } else {
+        -(mine as i64)
+    }
+}
+
+// The payoff of each of n seats; 0 past them.
+pub fn payoffs(cards: &[u8], history: &[u8], acted: usize, n: usize) -> [i64; 10]
+    requires { ⌜ (acted ≤ length (now history)) × (1 ≤ n) × (n ≤ 10) × (n ≤ length (now cards)) ⌝ }
+    ensures { λ r. ⌜ r ≡ payoffs-of n (take n (now (cards .entry))) (take acted (now (history .entry))) ⌝ }
+{
+    let total = pot(history, acted, n);
+    let top = highest(cards, history, acted, n);
+    let mut out = [0i64; 10];
+    let mut player = 0;
+    while player < n {
+        let mine = contributed(history, acted, n, player);
+        let winner = won(cards, history, acted, n, player, top);
+        let amount = share(total, mine, winner);
+        out[player] = amount;
+        player += 1;
+    }
+    out
+}

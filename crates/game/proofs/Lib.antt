@@ -1,0 +1,16 @@
+pub mod Integers
+pub mod Tests
+pub mod Sums
+pub mod Members
+pub mod Own
+pub mod Best
+pub mod Unbeaten
+pub mod Pure
+pub mod Weights
+pub mod Units
+pub mod Against
+pub mod Link
+pub mod Rival
+pub mod Bounds
+pub mod Small
+pub mod Theorem

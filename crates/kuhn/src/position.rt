@@ -1,0 +1,112 @@
+// What a call asks of a position before it answers.
+use crate::KuhnPoker;
+use crate::KuhnState;
+use crate::betting::is_terminal;
+use crate::betting::past_the_end;
+use crate::betting::unknown_action;
+use crate::cards::card_outside;
+use crate::cards::card_twice;
+ghost use mathlib.Core.Path.{_≡_};
+ghost use mathlib.Core.Bool.{not};
+ghost use Prim.Native.Nat.{_≤_};
+ghost use lib.Dec.{eqb};
+ghost use Rattle.finite.specs.Finite.{or};
+ghost use lib.ListN.{length, take};
+ghost use Rattle.kuhn.specs.Rules.{live, over};
+ghost use Rattle.kuhn.specs.Reached.{fair, played};
+ghost use Rattle.kuhn.specs.Calls.{seats-out, reachable, cardsOf, historyOf};
+
+// Whether the seat count is outside 2 to 10.
+pub fn seats_outside(n: usize) -> bool
+    ensures { λ r. ⌜ r ≡ seats-out n ⌝ }
+{
+    if n < KuhnPoker::LEAST_SEATS {
+        return true;
+    }
+    KuhnPoker::MOST_SEATS < n
+}
+
+// Whether the cards are at most one a seat, of the deck, and differ.
+fn fairly_dealt(cards: &[u8], dealt: usize, n: usize) -> bool
+    requires { ⌜ dealt ≤ length (now cards) ⌝ }
+    ensures { λ r. ⌜ r ≡ fair n (take dealt (now (cards .entry))) ⌝ }
+{
+    if n < dealt {
+        return false;
+    }
+    if card_outside(cards, dealt, n) {
+        return false;
+    }
+    !card_twice(cards, dealt)
+}
+
+// Whether the actions are known and none stands after the end.
+fn well_played(history: &[u8], acted: usize, n: usize) -> bool
+    requires { ⌜ (acted ≤ length (now history)) × (1 ≤ n) × (n ≤ 10) ⌝ }
+    ensures { λ r. ⌜ r ≡ played n (take acted (now (history .entry))) ⌝ }
+{
+    if unknown_action(history, acted) {
+        return false;
+    }
+    !past_the_end(history, acted, n)
+}
+
+// Whether a position can be reached from the start by legal moves.
+pub fn is_reachable(n: usize, state: KuhnState) -> bool
+    requires { ⌜ (1 ≤ n) × (n ≤ 10) ⌝ }
+    ensures { λ r. ⌜ r ≡ reachable n state ⌝ }
+{
+    let dealt = state.dealt;
+    let acted = state.acted;
+    if KuhnPoker::CARDS < dealt {
+        return false;
+    }
+    if KuhnPoker::ACTIONS < acted {
+        return false;
+    }
+    let cards = state.cards;
+    if !fairly_dealt(&cards, dealt, n) {
+        return false;
+    }
+    if acts_early(dealt, acted, n) {
+        return false;
+    }
+    let history = state.history;
+    well_played(&history, acted, n)
+}
+
+// Whether an action stands there before every seat has its card.
+fn acts_early(dealt: usize, acted: usize, n: usize) -> bool
+    ensures { λ r. ⌜ r ≡ not (or (eqb acted 0) (eqb dealt n)) ⌝ }
+{
+    if acted == 0 {
+        return false;
+    }
+    dealt != n
+}
+
+// Whether a seat acts: all cards are dealt and the hand has not ended.
+pub fn is_live(n: usize, state: KuhnState) -> bool
+    requires { ⌜ (1 ≤ n) × (n ≤ 10) × (state .dealt ≤ 10) × (state .acted ≤ 19) ⌝ }
+    ensures { λ r. ⌜ r ≡ live n (cardsOf state) (historyOf state) ⌝ }
+{
+    let acted = state.acted;
+    if state.dealt != n {
+        return false;
+    }
+    let history = state.history;
+    !is_terminal(&history, acted, n)
+}
+
+// Whether the hand is over.
+pub fn is_over(n: usize, state: KuhnState) -> bool
+    requires { ⌜ (1 ≤ n) × (n ≤ 10) × (state .dealt ≤ 10) × (state .acted ≤ 19) ⌝ }
+    ensures { λ r. ⌜ r ≡ over n (cardsOf state) (historyOf state) ⌝ }
+{
+    let acted = state.acted;
+    if state.dealt != n {
+        return false;
+    }
+    let history = state.history;
+    is_terminal(&history, acted, n)
+}
