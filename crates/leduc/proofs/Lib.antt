@@ -1,7 +1,3 @@
--- Laws of Leduc's rules and checks.
-pub mod Histories
-pub mod Deals
-pub mod Amounts
-pub mod Pots
-pub mod Checks
+-- Laws of Leduc's positions and of the checks of a saved one.
 pub mod Positions
+pub mod Order

@@ -10,8 +10,8 @@ use lib.Seq.{length-take-le}
 use borrow.Author.Tests.{le-leb, lt-leb, leb-true}
 use Rattle.finite.specs.Finite.{and, or}
 use Rattle.finite.proofs.Tests.{and-left, and-right, and-left-fails, and-right-fails}
-use Rattle.leduc.specs.Rules.{closes, hidden, seen}
-use Rattle.leduc.specs.Reached.{strange, twice, played, possible}
+use Rattle.leduc_rules.specs.Rules.{closes, hidden, seen}
+use Rattle.leduc_rules.specs.Reached.{strange, twice, played, possible}
 use Rattle.leduc.specs.Calls.{cardsOf, seenOf, roundOne, roundTwo, reachable}
 use Rattle.leduc.specs.declared.LeducState.{LeducState}
 
@@ -68,9 +68,6 @@ reachable-tests s h two =
     (and-assoc (not (strange (seenOf s))) (not (twice (seenOf s))) (rounds-test (eqb (s .dealt) 2) (hidden (s .public)) (roundOne s) (roundTwo s)))
 
 -- ---- the parts of a position's arrays
-
-pub front-length : (l : List ℕ) (n k : ℕ) → length l ≡ k → n ≤ k → n ≡ length (take n l)
-front-length l n k e h = sym (length-take-le n l (omega arith))
 
 pub second-part : (n : ℕ) (l : List ℕ) → take (4 + n - 4) (drop 4 l) ≡ take n (drop 4 l)
 second-part n l = let q : 4 + n - 4 ≡ n = omega arith in ap (λ k. take k (drop 4 l)) q

@@ -9,10 +9,11 @@ use lib.ListN.{length, getD, take, drop, set, replicate}
 use Rattle.refusals.specs.Refusals.{Check, first, _refuses_}
 use Rattle.refusals.specs.Refusals as Refusals
 use Rattle.finite.specs.Finite.{and, or}
-use Rattle.leduc.specs.Rules.{open-round, folded, closes, may, counted, in-play, ended, hidden, seen, remaining, due, live, legal, key, payoff}
-use Rattle.leduc.specs.Reached.{possible, strange, twice, unknown}
-use Rattle.leduc.specs.declared.Public.{Public}
-use Rattle.leduc.specs.declared.Public.the-variants.{Hidden, Card}
+use Rattle.leduc_rules.specs.Rules.{closes, counted, in-play, ended, hidden, seen, remaining, due, live, legal, key, payoff}
+use Rattle.leduc_rules.specs.Reached.{possible}
+use Rattle.leduc_rules.specs.Checks.{barred-by, card-checks, round-checks, public-checks}
+use Rattle.leduc_rules.specs.declared.Public.{Public}
+use Rattle.leduc_rules.specs.declared.Public.the-variants.{Hidden, Card}
 use Rattle.leduc.specs.declared.LeducState.{LeducState}
 use Rattle.leduc.specs.declared.Moved.{Moved}
 use Rattle.leduc.specs.declared.Written.{Written}
@@ -164,38 +165,6 @@ payoff-of s t = payoff ante raise₁ raise₂ (cardsOf s) (s .public) (roundOne 
 abbrev pub paid : ℕ → LeducState → Payoffs
 paid zero s = record { refusal = zero; state = s; count = 2; payoffs = payoff-of s 0 ∷ payoff-of s 1 ∷ replicate 8 (pos 0) }
 paid (suc r) s = record { refusal = suc r; state = s; count = 0; payoffs = replicate 10 (pos 0) }
-
--- the checks of a round's actions, each after those made before it: 14, then 15
--- barred: no action may stand in the round; blind: none is legal there, for lack of the public card
-unfoldable pub action-checks : (barred blind : Bool) (before h : List ℕ) → List Check
-action-checks barred blind before [] = []
-action-checks barred blind before (a ∷ h) =
-    (or barred (not (open-round before)) refuses Refusals.closed)
-    ∷ (or blind (not (may before a)) refuses Refusals.illegal)
-    ∷ action-checks barred blind (before ++ (a ∷ [])) h
-
--- no action may stand in round 2: the hand has ended in round 1, or round 1 has not closed
-unfoldable pub barred-by : List ℕ → Bool
-barred-by h₁ = or (folded h₁) (not (closes h₁))
-
--- a round's history is too long or holds an unknown action
-unfoldable pub malformed : ℕ → List ℕ → Bool
-malformed n h = or (ltb 4 n) (unknown h)
-
--- numbers 11 and 12
-abbrev pub card-checks : List ℕ → List Check
-card-checks cs = (strange cs refuses Refusals.card) ∷ (twice cs refuses Refusals.card-twice) ∷ []
-
--- numbers 13 to 15 of a round of n actions
-abbrev pub round-checks : (barred blind : Bool) (n : ℕ) (h : List ℕ) → List Check
-round-checks barred blind n h = (malformed n h refuses Refusals.history) ∷ action-checks barred blind [] h
-
--- numbers 16 and 17: a live second round is blind; a public card lies there before round 1 closed
-abbrev pub public-checks : (blind : Bool) (h₁ h₂ : List ℕ) → List Check
-public-checks blind h₁ h₂ =
-    (and blind (and (closes h₁) (not (ended h₁ h₂))) refuses Refusals.no-public)
-    ∷ (and (not blind) (not (closes h₁)) refuses Refusals.early-public)
-    ∷ []
 
 -- numbers 10 to 17 of a saved position; without the public card no action of round 2 is legal
 unfoldable pub saved-checks : LeducState → List Check

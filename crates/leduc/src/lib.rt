@@ -1,25 +1,16 @@
 // Leduc hold'em for two seats: positions by value, the rules calls and the saved-position check.
 // A call refuses by document 01's numbers, in its order, and then gives the position back as it came.
 
-mod betting;
-mod cards;
-mod money;
 mod output;
-mod position;
 mod saved;
 mod state;
 
+use leduc_rules::Public;
 ghost use mathlib.Core.Path.{_≡_};
 ghost use Rattle.leduc.specs.Calls.{initial};
 
 // The game.
 pub struct LeducPoker {}
-
-// The public card, or none.
-pub enum Public {
-    Hidden,
-    Card(u8),
-}
 
 // A position: the seats' cards, the public card, and the actions of round 1 from place 0 and of round 2 from place 4.
 // Places past a length are not part of it.
@@ -30,12 +21,6 @@ pub struct LeducState {
     pub history: [u8; 8],
     pub acted1: usize,
     pub acted2: usize,
-}
-
-// What the seat to act and the other have paid.
-pub struct Pot {
-    pub acting: usize,
-    pub other: usize,
 }
 
 // A call's refusal number, 0 if it was accepted, and a position: the new one of an accepted deal or step, else the one handed in.
@@ -60,25 +45,25 @@ pub struct Payoffs {
 }
 
 impl LeducPoker {
-    pub const FOLD: u8 = 0;
+    pub const FOLD: u8 = leduc_rules::FOLD;
 
-    pub const CALL: u8 = 1;
+    pub const CALL: u8 = leduc_rules::CALL;
 
-    pub const RAISE: u8 = 2;
+    pub const RAISE: u8 = leduc_rules::RAISE;
 
-    pub const DECK: u8 = 6;
+    pub const DECK: u8 = leduc_rules::DECK;
 
-    pub const RAISES: usize = 2;
+    pub const RAISES: usize = leduc_rules::RAISES;
 
-    pub const SEATS: usize = 2;
+    pub const SEATS: usize = leduc_rules::SEATS;
 
-    pub const ROUND: usize = 4;
+    pub const ROUND: usize = leduc_rules::ROUND;
 
-    pub const ANTE: usize = 1;
+    pub const ANTE: usize = leduc_rules::ANTE;
 
-    pub const RAISE_ONE: usize = 2;
+    pub const RAISE_ONE: usize = leduc_rules::RAISE_ONE;
 
-    pub const RAISE_TWO: usize = 4;
+    pub const RAISE_TWO: usize = leduc_rules::RAISE_TWO;
 }
 
 impl LeducState {

@@ -1,21 +1,55 @@
 // A position taken apart into its cards and the two rounds, and put together with one card or action more.
 use crate::LeducPoker;
 use crate::LeducState;
-use crate::Public;
-use crate::betting::action_made;
-use crate::betting::is_terminal;
-use crate::betting::round_over;
-use crate::cards::all_seen;
-use crate::cards::nth_remaining;
-use crate::position::Legal;
-use crate::position::is_due;
-use crate::position::is_live;
-use crate::position::legal_in;
+use leduc_rules::Public;
+use leduc_rules::betting::action_made;
+use leduc_rules::betting::is_terminal;
+use leduc_rules::betting::round_over;
+use leduc_rules::cards::all_seen;
+use leduc_rules::cards::nth_remaining;
+use leduc_rules::play::Legal;
+use leduc_rules::play::cards_fit;
+use leduc_rules::play::is_due;
+use leduc_rules::play::is_hidden;
+use leduc_rules::play::is_live;
+use leduc_rules::play::legal_in;
+use leduc_rules::play::rounds_fit;
 ghost use mathlib.Core.Path.{_≡_};
 ghost use Prim.Native.Nat.{_≤_, _<_};
 ghost use lib.ListN.{getD, take};
-ghost use Rattle.leduc.specs.Rules.{closes, ended, counted, remaining, due, live};
-ghost use Rattle.leduc.specs.Calls.{cardsOf, seenOf, roundOne, roundTwo, in-playOf, legal-of, with-card, with-action};
+ghost use Rattle.leduc_rules.specs.Rules.{closes, ended, counted, remaining, due, live};
+ghost use Rattle.leduc.specs.Calls.{reachable, cardsOf, seenOf, roundOne, roundTwo, in-playOf, legal-of, with-card, with-action};
+
+// Whether a position can be reached from the start by legal moves.
+pub fn is_reachable(state: LeducState) -> bool
+    ensures { λ r. ⌜ r ≡ reachable state ⌝ }
+{
+    let dealt = state.dealt;
+    let acted1 = state.acted1;
+    let acted2 = state.acted2;
+    if 2 < dealt {
+        return false;
+    }
+    if 4 < acted1 {
+        return false;
+    }
+    if 4 < acted2 {
+        return false;
+    }
+    let cards = state.cards;
+    let public = state.public;
+    if !cards_fit(cards, dealt, public) {
+        return false;
+    }
+    let history = state.history;
+    let all = &history[..];
+    rounds_fit(
+        &all[..acted1],
+        &all[4..4 + acted2],
+        dealt == 2,
+        is_hidden(public),
+    )
+}
 
 // Whether a card is due.
 pub fn card_due(state: LeducState) -> bool

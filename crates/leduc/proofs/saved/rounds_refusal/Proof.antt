@@ -6,9 +6,11 @@ use native.Mathlib.Omega.{arith}
 use lib.ListN.{length}
 use lib.Seq.{length-take-le}
 use Rattle.refusals.specs.Refusals.{first}
-use Rattle.leduc.specs.Calls.{roundOne, round-checks}
-use Rattle.leduc.proofs.Positions.{front-length, second-part}
-use Rattle.leduc.proofs.Checks.{round-pass, round-stop, too-long, second-same}
+use Rattle.leduc_rules.specs.Checks.{round-checks}
+use Rattle.leduc.specs.Calls.{roundOne}
+use Rattle.leduc_rules.proofs.Deals.{front-length}
+use Rattle.leduc.proofs.Positions.{second-part}
+use Rattle.leduc_rules.proofs.Checks.{round-pass, round-stop, too-long, second-same}
 use borrow.Author.Needs.{needs}
 use Rattle.leduc.proofs.saved.rounds_refusal.Statement.{statement}
 use Rattle.leduc.proofs.saved.rounds_refusal.Tie as tie

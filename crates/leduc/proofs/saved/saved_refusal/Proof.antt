@@ -1,9 +1,10 @@
 -- Numbers 10 to 17. Assumes nothing.
 use lib.ListN.{take}
-use Rattle.leduc.specs.Rules.{seen}
-use Rattle.leduc.proofs.Checks.{rounds-checks}
+use Rattle.leduc_rules.specs.Rules.{seen}
+use Rattle.leduc.proofs.Order.{rounds-checks}
 use mathlib.Core.Path.{sym, _∙_}
-use Rattle.leduc.proofs.Checks.{cards-pass, cards-stop, cards-missing, cards-there}
+use Rattle.leduc_rules.proofs.Checks.{cards-pass, cards-stop}
+use Rattle.leduc.proofs.Order.{cards-missing, cards-there}
 use borrow.Author.Needs.{needs}
 use Rattle.leduc.proofs.saved.saved_refusal.Statement.{statement}
 use Rattle.leduc.proofs.saved.saved_refusal.Tie as tie

@@ -1,0 +1,6 @@
+-- Laws of Leduc's rules and checks.
+pub mod Histories
+pub mod Deals
+pub mod Amounts
+pub mod Pots
+pub mod Checks
