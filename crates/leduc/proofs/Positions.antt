@@ -10,7 +10,8 @@ use lib.Seq.{length-take-le}
 use borrow.Author.Tests.{le-leb, lt-leb, leb-true}
 use Rattle.finite.specs.Finite.{and, or}
 use Rattle.finite.proofs.Tests.{and-left, and-right, and-left-fails, and-right-fails}
-use Rattle.leduc_rules.specs.Rules.{closes, hidden, seen}
+use Rattle.leduc_rules.specs.Rules.{closes, ended, live, hidden, seen}
+use Rattle.leduc_rules.proofs.Reaching.{Possible, possible-parts, live-open, ended-dealt}
 use Rattle.leduc_rules.specs.Reached.{strange, twice, played, possible}
 use Rattle.leduc.specs.Calls.{cardsOf, seenOf, roundOne, roundTwo, reachable}
 use Rattle.leduc.specs.declared.LeducState.{LeducState}
@@ -74,3 +75,24 @@ second-part n l = let q : 4 + n - 4 ≡ n = omega arith in ap (λ k. take k (dro
 
 pub second-length : (l : List ℕ) (n : ℕ) → length l ≡ 8 → n ≤ 4 → length (take n (drop 4 l)) ≡ n
 second-length l n e h = length-take-le n (drop 4 l) (omega (arith, length-drop 4 l))
+
+-- ---- what a reachable position gives the calls
+
+module _ (s : LeducState) (two : length (s .cards) ≡ 2) (eight : length (s .history) ≡ 8) (e : reachable s ≡ true) where
+  parts : Possible (cardsOf s) (s .public) (roundOne s) (roundTwo s)
+  parts = possible-parts _ _ _ _ (reachable-possible s e)
+
+  pub cards-counted : length (cardsOf s) ≡ s .dealt
+  cards-counted = let d : s .dealt ≤ 2 = reachable-short s e .dealt-short in length-take-le (s .dealt) (s .cards) (omega arith)
+
+  pub first-counted : length (roundOne s) ≡ s .acted1
+  first-counted = let d : s .acted1 ≤ 4 = reachable-short s e .first-short in length-take-le (s .acted1) (s .history) (omega arith)
+
+  pub second-counted : length (roundTwo s) ≡ s .acted2
+  second-counted = second-length (s .history) (s .acted2) eight (reachable-short s e .second-short)
+
+  pub room-to-act : live (cardsOf s) (s .public) (roundOne s) (roundTwo s) ≡ true → s .acted2 < 4
+  room-to-act l = omega (arith, live-open parts l, second-counted)
+
+  pub dealt-in-full : ended (roundOne s) (roundTwo s) ≡ true → s .dealt ≡ 2
+  dealt-in-full l = sym cards-counted ∙ ended-dealt parts l

@@ -7,6 +7,8 @@ use leduc_rules::betting::is_terminal;
 use leduc_rules::betting::round_over;
 use leduc_rules::cards::all_seen;
 use leduc_rules::cards::nth_remaining;
+use leduc_rules::money::Gains;
+use leduc_rules::money::settled;
 use leduc_rules::play::Legal;
 use leduc_rules::play::cards_fit;
 use leduc_rules::play::is_due;
@@ -18,7 +20,7 @@ ghost use mathlib.Core.Path.{_≡_};
 ghost use Prim.Native.Nat.{_≤_, _<_};
 ghost use lib.ListN.{getD, take};
 ghost use Rattle.leduc_rules.specs.Rules.{closes, ended, counted, remaining, due, live};
-ghost use Rattle.leduc.specs.Calls.{reachable, cardsOf, seenOf, roundOne, roundTwo, in-playOf, legal-of, with-card, with-action};
+ghost use Rattle.leduc.specs.Calls.{reachable, cardsOf, seenOf, roundOne, roundTwo, in-playOf, legal-of, with-card, with-action, payoff-of, mark};
 
 // Whether a position can be reached from the start by legal moves.
 pub fn is_reachable(state: LeducState) -> bool
@@ -185,4 +187,29 @@ pub fn with_action(state: LeducState, action: u8) -> LeducState
     next.history[acted1] = action;
     next.acted1 = acted1 + 1;
     next
+}
+
+// The end mark of a position: 1 if the hand has ended, else 0.
+pub fn end_mark(state: LeducState) -> u64
+    requires { ⌜ (state .acted1 ≤ 4) × (state .acted2 ≤ 4) ⌝ }
+    ensures { λ r. ⌜ r ≡ mark (ended (roundOne state) (roundTwo state)) ⌝ }
+{
+    if hand_over(state) {
+        return 1;
+    }
+    0
+}
+
+// What each seat gains.
+pub fn state_gains(state: LeducState) -> Gains
+    requires { ⌜ (state .dealt ≡ 2) × (state .acted1 ≤ 4) × (state .acted2 ≤ 4) ⌝ }
+    ensures { λ r. ⌜ (r .zero ≡ payoff-of state 0) × (r .one ≡ payoff-of state 1) ⌝ }
+{
+    let acted1 = state.acted1;
+    let acted2 = state.acted2;
+    let cards = state.cards;
+    let public = state.public;
+    let history = state.history;
+    let all = &history[..];
+    settled(cards, public, &all[..acted1], &all[4..4 + acted2])
 }

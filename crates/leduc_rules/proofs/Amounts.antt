@@ -1,5 +1,6 @@
 -- Amounts of chips as signed numbers. Assumes nothing.
 use mathlib.Core.Path.{_≡_, refl, sym, ap, _∙_}
+use mathlib.Core.Bool.{Bool, true, false, cond}
 use Prim.Native.Nat.{ℕ, zero, suc, _^_, _≤_, _<_}
 use native.Mathlib.Omega.{arith}
 use borrow.Author.Tests.{lt-ltb}
@@ -24,3 +25,15 @@ debt-fits x h = rw (owed x h) (owed-fits x h)
 
 pub debt : (x : ℕ) → x ≤ 64 → toZ w64 (ofZ w64 (pos 0 -ℤ toZ w64 x)) ≡ negℤ (pos x)
 debt x h = rw (owed x h) (toZ-ofZ w64 (negℤ (pos x)) (owed-fits x h))
+
+-- what a seat gains, read back from its bits
+abbrev pub gained : (wins loses : Bool) (mine theirs : ℕ) → ℤ
+gained wins loses mine theirs = cond wins (pos theirs) (cond loses (negℤ (pos mine)) (pos 0))
+
+pub gained-fits : (wins loses : Bool) (mine theirs : ℕ) → mine ≤ 64 → theirs ≤ 64 → SFits w64 (gained wins loses mine theirs)
+gained-fits true loses mine theirs m t = record { sfits = omega arith }
+gained-fits false true mine theirs m t = owed-fits mine m
+gained-fits false false mine theirs m t = record { sfits = omega arith }
+
+pub gained-back : {z : ℤ} (wins loses : Bool) (mine theirs : ℕ) → mine ≤ 64 → theirs ≤ 64 → z ≡ gained wins loses mine theirs → toZ w64 (ofZ w64 z) ≡ gained wins loses mine theirs
+gained-back wins loses mine theirs m t e = ap (λ y. toZ w64 (ofZ w64 y)) e ∙ toZ-ofZ w64 (gained wins loses mine theirs) (gained-fits wins loses mine theirs m t)

@@ -4,3 +4,5 @@ pub mod Deals
 pub mod Amounts
 pub mod Pots
 pub mod Checks
+pub mod Rounds
+pub mod Reaching

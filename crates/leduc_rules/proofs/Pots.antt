@@ -8,8 +8,10 @@ use native.Mathlib.Numerals.{add-one}
 use lib.Dec.{eqb, ltb, leb}
 use lib.ListN.{length, getD, take, drop, drop-of-length-le}
 use lib.Seq.{drop-cons}
-use Rattle.leduc_rules.specs.Rules.{CALL, RAISE, matched, bet, seated, after-round}
+use Rattle.leduc_rules.specs.Rules.{CALL, RAISE, matched, bet, seated, after-round, contribution, wins, payoff}
+use Rattle.leduc_rules.specs.declared.Public.{Public}
 use Rattle.leduc_rules.specs.declared.Pot.{Pot}
+use Rattle.leduc_rules.proofs.Amounts.{gained}
 
 abbrev pub pot-of : ℕ → ℕ → Pot
 pot-of a o = record { acting = a; other = o }
@@ -65,3 +67,26 @@ seated-bound b n q w = go (eqb (n % 2) 0)
 pub round-bound : (size b : ℕ) (q : Pot) (h : List ℕ) → size ≤ 4 → length h ≤ 4 → Within b q → Within (b + 16) (after-round size q h)
 unfolding after-round
 round-bound size b q h s l w = seated-bound (b + 16) (length h) (bet size q h) (bet-bound size b 4 q h s l w)
+
+-- what both seats have paid at today's stakes is at most 33
+pub paid-bound : (h₁ h₂ : List ℕ) → length h₁ ≤ 4 → length h₂ ≤ 4 → Within 33 (after-round 4 (after-round 2 (pot-of 1 1) h₁) h₂)
+paid-bound h₁ h₂ l m =
+    round-bound 4 17 (after-round 2 (pot-of 1 1) h₁) h₂ (omega arith) m
+    (round-bound 2 1 (pot-of 1 1) h₁ (omega arith) l (record { acting-within = omega arith; other-within = omega arith }))
+
+-- ---- the payoffs at today's stakes, from who wins and the pot
+
+module _ (cs : List ℕ) (p : Public) (h₁ h₂ : List ℕ) (x y : Bool) (q : Pot) (e : x ≡ wins cs p h₁ h₂ 0 1) (f : y ≡ wins cs p h₁ h₂ 1 0) (g : q ≡ after-round 4 (after-round 2 (pot-of 1 1) h₁) h₂) where
+  pub payoff-zero : gained x y (q .acting) (q .other) ≡ payoff 1 2 4 cs p h₁ h₂ 0
+  unfolding payoff contribution
+  payoff-zero =
+      ap (λ b. gained b y (q .acting) (q .other)) e
+      ∙ ap (λ b. gained (wins cs p h₁ h₂ 0 1) b (q .acting) (q .other)) f
+      ∙ ap (λ r. gained (wins cs p h₁ h₂ 0 1) (wins cs p h₁ h₂ 1 0) (r .acting) (r .other)) g
+
+  pub payoff-one : gained y x (q .other) (q .acting) ≡ payoff 1 2 4 cs p h₁ h₂ 1
+  unfolding payoff contribution
+  payoff-one =
+      ap (λ b. gained b x (q .other) (q .acting)) f
+      ∙ ap (λ b. gained (wins cs p h₁ h₂ 1 0) b (q .other) (q .acting)) e
+      ∙ ap (λ r. gained (wins cs p h₁ h₂ 1 0) (wins cs p h₁ h₂ 0 1) (r .other) (r .acting)) g

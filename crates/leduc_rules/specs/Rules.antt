@@ -123,7 +123,7 @@ shown-public Hidden = 255
 shown-public (Card c) = shown c
 
 -- what seat s knows: its number, its card, the public card, and each round's length and actions
-abbrev pub key : List ℕ → Public → List ℕ → List ℕ → ℕ → List ℕ
+unfoldable pub key : List ℕ → Public → List ℕ → List ℕ → ℕ → List ℕ
 key cs p h₁ h₂ s = s ∷ shown (getD cs s 0) ∷ shown-public p ∷ length h₁ ∷ h₁ ++ (length h₂ ∷ h₂)
 
 -- ---- money: an ante, then raises of one size in round 1 and another in round 2

@@ -151,3 +151,21 @@ pub fn gain(wins: bool, loses: bool, mine: usize, theirs: usize) -> i64
     }
     0
 }
+
+// What each seat gains.
+pub struct Gains {
+    pub zero: i64,
+    pub one: i64,
+}
+
+pub fn settled(cards: [u8; 2], public: Public, round1: &[u8], round2: &[u8]) -> Gains
+    requires { ⌜ (length (now round1) ≤ 4) × (length (now round2) ≤ 4) ⌝ }
+    ensures { λ r. ⌜ (r .zero ≡ payoff 1 2 4 cards public (now (round1 .entry)) (now (round2 .entry)) 0) × (r .one ≡ payoff 1 2 4 cards public (now (round1 .entry)) (now (round2 .entry)) 1) ⌝ }
+{
+    let pot = contributions(round1, round2);
+    let first = is_winner(cards, public, round1, round2, 0, 1);
+    let second = is_winner(cards, public, round1, round2, 1, 0);
+    let zero = gain(first, second, pot.acting, pot.other);
+    let one = gain(second, first, pot.other, pot.acting);
+    Gains { zero, one }
+}
