@@ -5,21 +5,24 @@ use mathlib.Core.List.{List, [], _∷_, _++_}
 use Prim.Native.Nat.{ℕ, zero, suc, _+_, _*_, _-_, _≤_, _<_}
 use native.Mathlib.Omega.{arith}
 use lib.Dec.{eqb, ltb, leb}
-use borrow.Author.Tests.{ltb-false, eqb-true, not-true, not-false}
-use lib.ListN.{length, getD, take, drop}
+use borrow.Author.Tests.{lt-ltb, le-ltb, le-leb, lt-leb, ltb-false, eq-eqb, ne-eqb, eqb-true, not-true, not-false}
+use lib.IntN.{ℤ, pos}
+use lib.ListN.{length, getD, take, drop, replicate}
 use Rattle.refusals.specs.Refusals.{Check, first, _refuses_}
-use Rattle.refusals.proofs.Order.{fails-first, fails-rest}
+use Rattle.refusals.proofs.Order.{refused, passed, fails-first, fails-rest}
 use Rattle.finite.specs.Finite.{and, or}
-use Rattle.finite.proofs.Tests.{and-left, and-right, or-false-left, or-false-right}
-use Rattle.kuhn.specs.Rules.{ended, overrun, live, due}
-use Rattle.kuhn.specs.Reached.{fair, played, possible, unknown}
-use Rattle.kuhn.specs.Calls.{seats-out, reachable, cardsOf, historyOf, position-checks, step-checks, step-refusal, moved, wrote, written}
+use Rattle.finite.proofs.Tests.{both, and-left, and-right, and-left-fails, and-right-fails, or-false-left, or-false-right}
+use Rattle.finite.proofs.Lists.{getD-within}
+use Rattle.kuhn.specs.Rules.{ended, overrun, live, over, due, remaining}
+use Rattle.kuhn.specs.Reached.{strange, twice, fair, played, possible, unknown}
+use Rattle.kuhn.specs.Calls.{seats-out, reachable, cardsOf, historyOf, position-checks, step-checks, step-refusal, deal-checks, deal-refusal, legal-of, legal-checks, legal-refusal, key-of, key-checks, key-refusal, payoff-checks, payoff-refusal, payoffs-of, payoff-answer, saved-checks, mark, mark-checks, saved-refusal, moved, wrote, written}
 use Rattle.kuhn.specs.declared.KuhnPoker.{KuhnPoker}
 use Rattle.kuhn.specs.declared.KuhnState.{KuhnState}
 use Rattle.kuhn.specs.declared.Moved.{Moved}
 use Rattle.kuhn.specs.declared.Written.{Written}
 use Rattle.kuhn.proofs.Histories.{hand-lasts}
-use Rattle.kuhn.proofs.Positions.{acted-is, reachable-is, reachable-dealt, reachable-acted}
+use Rattle.kuhn.proofs.Deals.{outcome-in, outcome-out}
+use Rattle.kuhn.proofs.Positions.{dealt-is, acted-is, reachable-is, reachable-dealt, reachable-acted}
 
 -- ---- the seat count
 
@@ -114,3 +117,162 @@ moved-on r (suc q) s t u e z w = absurd (omega arith)
 pub not-moved : (r q : ℕ) (s t : KuhnState) → r ≡ q → (r ≡ 0 → ⊥) → record { refusal = r; state = s } ≡ moved q s t
 not-moved r zero s t e n = absurd (n e)
 not-moved r (suc q) s t e n = ap (λ k. record { refusal = k; state = s }) e
+
+pub wrote-on : (q : ℕ) (s : KuhnState) (k j : ℕ) → q ≡ 0 → j ≡ k → record { refusal = 0; state = s; count = j } ≡ wrote q s k
+wrote-on zero s k j e w = ap (λ x. record { refusal = 0; state = s; count = x }) w
+wrote-on (suc q) s k j e w = absurd (omega arith)
+
+pub not-wrote : (r q : ℕ) (s : KuhnState) (k : ℕ) → r ≡ q → (r ≡ 0 → ⊥) → record { refusal = r; state = s; count = 0 } ≡ wrote q s k
+not-wrote r zero s k e n = absurd (n e)
+not-wrote r (suc q) s k e n = ap (λ x. record { refusal = x; state = s; count = 0 }) e
+
+pub kept-out : (r : ℕ) (bytes out : List ℕ) → (r ≡ 0 → ⊥) → out ≡ written r bytes out
+kept-out zero bytes out n = absurd (n refl)
+kept-out (suc r) bytes out n = refl
+
+pub paid-out : (r q : ℕ) (g : KuhnPoker) (s : KuhnState) (x : List ℤ) → r ≡ q → r ≡ 0 → x ≡ payoffs-of (g .players) (cardsOf s) (historyOf s) → record { refusal = r; state = s; count = g .players; payoffs = x } ≡ payoff-answer q g s
+paid-out r zero g s x e z w = ap₂ (λ k y. record { refusal = k; state = s; count = g .players; payoffs = y }) z w
+paid-out r (suc q) g s x e z w = absurd (omega arith)
+
+pub not-paid : (r q : ℕ) (g : KuhnPoker) (s : KuhnState) → r ≡ q → (r ≡ 0 → ⊥) → record { refusal = r; state = s; count = 0; payoffs = replicate 10 (pos 0) } ≡ payoff-answer q g s
+not-paid r zero g s e n = absurd (n e)
+not-paid r (suc q) g s e n = ap (λ k. record { refusal = k; state = s; count = 0; payoffs = replicate 10 (pos 0) }) e
+
+-- ---- payoffs
+
+module _ (g : KuhnPoker) (s : KuhnState) where
+  pub payoff-position : payoff-refusal g s ≡ 0 → first (position-checks (g .players) s) ≡ 0
+  unfolding payoff-refusal
+  payoff-position e = accepted-position (g .players) s (payoff-checks (g .players) s) e
+
+  payoff-over : payoff-refusal g s ≡ 0 → over (g .players) (cardsOf s) (historyOf s) ≡ true
+  unfolding payoff-refusal
+  payoff-over e = not-false (over (g .players) (cardsOf s) (historyOf s)) (fails-first (not (over (g .players) (cardsOf s) (historyOf s))) 19 [] (sym (position-passed (g .players) s 0 (payoff-checks (g .players) s) (sym (payoff-position e)) refl) ∙ e))
+
+  -- at the end every seat has its card
+  pub payoff-full : length (s .cards) ≡ 10 → length (s .history) ≡ 19 → payoff-refusal g s ≡ 0
+      → payoffs-of (g .players) (take (g .players) (s .cards)) (historyOf s) ≡ payoffs-of (g .players) (cardsOf s) (historyOf s)
+  payoff-full tens nineteen e =
+      let all = eqb-true (length (cardsOf s)) (g .players) (and-left (eqb (length (cardsOf s)) (g .players)) _ (payoff-over e)) in
+      let long = dealt-is s tens nineteen (cards-in (g .players) s (payoff-position e)) (actions-in (g .players) s (payoff-position e)) in
+      ap (λ k. payoffs-of (g .players) (take k (s .cards)) (historyOf s)) (sym all ∙ long)
+
+-- a position that is refused refuses the deal
+pub deal-position : (n : ℕ) (s : KuhnState) (r k : ℕ) → r ≡ first (position-checks n s) → (r ≡ 0 → ⊥) → r ≡ deal-refusal (record { players = n }) s k
+unfolding deal-refusal
+deal-position n s r k e f = position-refused n s r (deal-checks n s k) e f
+
+-- the legal list and the key
+pub legal-position : (g : KuhnPoker) (s : KuhnState) (r p room : ℕ) → r ≡ first (position-checks (g .players) s) → (r ≡ 0 → ⊥) → r ≡ legal-refusal g s p room
+unfolding legal-refusal
+legal-position g s r p room e f = position-refused (g .players) s r (legal-checks g s p room) e f
+
+pub key-position : (g : KuhnPoker) (s : KuhnState) (r p room : ℕ) → r ≡ first (position-checks (g .players) s) → (r ≡ 0 → ⊥) → r ≡ key-refusal g s p room
+unfolding key-refusal
+key-position g s r p room e f = position-refused (g .players) s r (key-checks s p room) e f
+
+-- ---- saved positions
+
+-- checks whose numbers are no 0 decide if they refuse, and else leave it to those behind
+module _ where
+  first-refused : (xs ys : List Check) → (first xs ≡ 0 → ⊥) → first xs ≡ first (xs ++ ys)
+  first-refused [] ys f = absurd (f refl)
+  first-refused ((true refuses k) ∷ xs) ys f = refl
+  first-refused ((false refuses k) ∷ xs) ys f = first-refused xs ys f
+
+module _ (n : ℕ) (s : KuhnState) where
+  saved-tests : (a b c d e f : Bool) (cs : List Check)
+      → first ((a refuses 2) ∷ (b refuses 10) ∷ (c refuses 11) ∷ (d refuses 12) ∷ (e refuses 13) ∷ (f refuses 14) ∷ []) ≡ 0
+      → (a ≡ false) × (e ≡ false) × (first ((a refuses 2) ∷ (b refuses 10) ∷ (c refuses 11) ∷ (d refuses 12) ∷ (e refuses 13) ∷ (f refuses 14) ∷ cs) ≡ first cs)
+  saved-tests true b c d e f cs z = absurd (omega arith)
+  saved-tests false true c d e f cs z = absurd (omega arith)
+  saved-tests false false true d e f cs z = absurd (omega arith)
+  saved-tests false false false true e f cs z = absurd (omega arith)
+  saved-tests false false false false true f cs z = absurd (omega arith)
+  saved-tests false false false false false true cs z = absurd (omega arith)
+  saved-tests false false false false false false cs z = (refl, refl, refl)
+
+  module _ (ok : first (saved-checks n s) ≡ 0) where
+    saved-all : (cs : List Check) → (seats-out n ≡ false) × (or (ltb (2 * n - 1) (s .acted)) (unknown (historyOf s)) ≡ false) × (first (saved-checks n s ++ cs) ≡ first cs)
+    saved-all cs = saved-tests (seats-out n) (not (eqb (s .dealt) n)) (strange n (cardsOf s)) (twice (cardsOf s)) (or (ltb (2 * n - 1) (s .acted)) (unknown (historyOf s))) (overrun n (historyOf s)) cs ok
+
+    pub saved-seats : 1 ≤ n
+    saved-seats = let w = seats-least n (saved-all [] .0) in omega arith
+
+    pub saved-most : n ≤ 10
+    saved-most = seats-most n (saved-all [] .0)
+
+    pub saved-acted : s .acted ≤ 19
+    saved-acted = let w = ltb-false (2 * n - 1) (s .acted) (or-false-left _ (unknown (historyOf s)) (saved-all [] .1)) in omega (arith, saved-most)
+
+module _ (g : KuhnPoker) (s : KuhnState) where
+  pub saved-refused : (r m : ℕ) → r ≡ first (saved-checks (g .players) s) → (r ≡ 0 → ⊥) → r ≡ saved-refusal g s m
+  unfolding saved-refusal
+  saved-refused r m e f = e ∙ first-refused (saved-checks (g .players) s) (mark-checks (g .players) s m) (λ q. f (e ∙ q))
+
+  module _ (m : ℕ) (ok : first (saved-checks (g .players) s) ≡ 0) where
+    pub saved-mark : (m ≡ mark (ended (g .players) (historyOf s)) → ⊥) → 18 ≡ saved-refusal g s m
+    unfolding saved-refusal
+    saved-mark f = sym (saved-all (g .players) s ok (mark-checks (g .players) s m) .2 ∙ refused 18 [] (ap not (ne-eqb m (mark (ended (g .players) (historyOf s))) f)))
+
+    pub saved-passed : m ≡ mark (ended (g .players) (historyOf s)) → 0 ≡ saved-refusal g s m
+    unfolding saved-refusal
+    saved-passed e = sym (saved-all (g .players) s ok (mark-checks (g .players) s m) .2 ∙ passed 18 [] (ap not (eq-eqb m (mark (ended (g .players) (historyOf s))) e)))
+
+-- ---- a call's own checks, once its position has passed
+
+module _ (g : KuhnPoker) (s : KuhnState) (tens : length (s .cards) ≡ 10) (nineteen : length (s .history) ≡ 19) (ok : first (position-checks (g .players) s) ≡ 0) where
+  abbrev n : ℕ
+  n = g .players
+
+  cards-long : length (cardsOf s) ≡ s .dealt
+  cards-long = dealt-is s tens nineteen (cards-in n s ok) (actions-in n s ok)
+
+  history-long : length (historyOf s) ≡ s .acted
+  history-long = acted-is s tens nineteen (cards-in n s ok) (actions-in n s ok)
+
+  own : (cs : List Check) → first (position-checks n s ++ cs) ≡ first cs
+  own cs = position-passed n s 0 cs (sym ok) refl
+
+  -- deal
+  module _ (k : ℕ) where
+    pub deal-not-due : n ≤ s .dealt → 20 ≡ deal-refusal g s k
+    unfolding deal-refusal
+    deal-not-due h = sym (own (deal-checks n s k) ∙ refused 20 [] (ap not (and-left-fails (ltb k (length (remaining n (cardsOf s)))) (le-ltb (length (cardsOf s)) n (omega (arith, cards-long))))))
+
+    pub deal-no-card : n < getD (remaining n (cardsOf s)) k (n + 1) → 20 ≡ deal-refusal g s k
+    unfolding deal-refusal
+    deal-no-card h = sym (own (deal-checks n s k) ∙ refused 20 [] (ap not (and-right-fails (due n (cardsOf s)) (le-ltb k (length (remaining n (cardsOf s))) (outcome-out n (cardsOf s) k h)))))
+
+    pub deal-fits : s .dealt < n → getD (remaining n (cardsOf s)) k (n + 1) ≤ n → 0 ≡ deal-refusal g s k
+    unfolding deal-refusal
+    deal-fits w h = sym (own (deal-checks n s k) ∙ passed 20 [] (ap not (both (lt-ltb (length (cardsOf s)) n (omega (arith, cards-long))) (lt-ltb k (length (remaining n (cardsOf s))) (outcome-in n (cardsOf s) k h)))))
+
+    pub deal-card : getD (remaining n (cardsOf s)) k (n + 1) ≤ n → getD (remaining n (cardsOf s)) k (n + 1) ≡ getD (remaining n (cardsOf s)) k 0
+    deal-card h = getD-within (remaining n (cardsOf s)) k (n + 1) 0 (outcome-in n (cardsOf s) k h)
+
+  -- legal list and key
+  module _ (p room : ℕ) where
+    pub legal-no-room : room < length (legal-of g s p) → 9 ≡ legal-refusal g s p room
+    unfolding legal-refusal
+    legal-no-room h = sym (own (legal-checks g s p room) ∙ refused 9 [] (lt-ltb room (length (legal-of g s p)) h))
+
+    pub legal-fits : length (legal-of g s p) ≤ room → legal-refusal g s p room ≡ 0
+    unfolding legal-refusal
+    legal-fits h = own (legal-checks g s p room) ∙ passed 9 [] (le-ltb room (length (legal-of g s p)) h)
+
+    pub key-long : length (key-of s p) ≡ 2 + s .acted
+    unfolding key-of
+    key-long = omega (arith, history-long)
+
+    pub key-no-card : s .dealt ≤ p → 20 ≡ key-refusal g s p room
+    unfolding key-refusal
+    key-no-card h = sym (own (key-checks s p room) ∙ refused 20 ((ltb room (length (key-of s p)) refuses 9) ∷ []) (le-leb (length (cardsOf s)) p (omega (arith, cards-long))))
+
+    pub key-no-room : p < s .dealt → room < 2 + s .acted → 9 ≡ key-refusal g s p room
+    unfolding key-refusal
+    key-no-room w h = sym (own (key-checks s p room) ∙ passed 20 ((ltb room (length (key-of s p)) refuses 9) ∷ []) (lt-leb (length (cardsOf s)) p (omega (arith, cards-long))) ∙ refused 9 [] (lt-ltb room (length (key-of s p)) (omega (arith, key-long))))
+
+    pub key-fits : p < s .dealt → 2 + s .acted ≤ room → key-refusal g s p room ≡ 0
+    unfolding key-refusal
+    key-fits w h = own (key-checks s p room) ∙ passed 20 ((ltb room (length (key-of s p)) refuses 9) ∷ []) (lt-leb (length (cardsOf s)) p (omega (arith, cards-long))) ∙ passed 9 [] (le-ltb room (length (key-of s p)) (omega (arith, key-long)))

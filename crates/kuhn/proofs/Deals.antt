@@ -5,12 +5,12 @@ use mathlib.Core.List.{List, [], _∷_, _++_}
 use Prim.Native.Nat.{ℕ, zero, suc, _+_, _-_, _≤_, _<_}
 use native.Mathlib.Omega.{arith}
 use lib.Dec.{eqb, ltb, leb}
-use borrow.Author.Tests.{le-leb}
+use borrow.Author.Tests.{le-leb, ltb-true, ltb-false}
 use lib.ListN.{length, getD, take, List·getD-eq-default}
 use lib.Seq.{take-take}
 use Rattle.finite.specs.Finite.{and, or, some, has, those}
 use Rattle.finite.proofs.Tests.{Tested, holds, fails, tested, true≢false, both, and-right-fails, some-same}
-use Rattle.finite.proofs.Lists.{some-take, those-at, length-those-kept, length-those-passed}
+use Rattle.finite.proofs.Lists.{some-take, those-at, those-below, length-those-kept, length-those-passed}
 use Rattle.kuhn.specs.Rules.{left, remaining}
 use Rattle.kuhn.specs.Reached.{strange, twice}
 
@@ -64,3 +64,19 @@ module _ (n : ℕ) (cs : List ℕ) (c outcome passed one : ℕ) (counted : passe
   no-card-found w v =
       let x : c ≡ n + 1 = omega arith in
       List·getD-eq-default (those (n + 1) (left n cs)) (n + 1) (rw (← x) (omega arith)) ∙ sym x
+
+-- the card of an outcome is in the deck just if there are so many left
+pub outcome-in : (n : ℕ) (cs : List ℕ) (k : ℕ) → getD (remaining n cs) k (n + 1) ≤ n → k < length (remaining n cs)
+outcome-in n cs k h = go (tested (ltb k (length (remaining n cs))))
+  where
+    go : Tested (ltb k (length (remaining n cs))) → k < length (remaining n cs)
+    go (holds t) = ltb-true k (length (remaining n cs)) t
+    go (fails t) = absurd (let e = List·getD-eq-default (remaining n cs) (n + 1) (ltb-false k (length (remaining n cs)) t) in omega arith)
+
+pub outcome-out : (n : ℕ) (cs : List ℕ) (k : ℕ) → n < getD (remaining n cs) k (n + 1) → length (remaining n cs) ≤ k
+unfolding remaining
+outcome-out n cs k h = go (tested (ltb k (length (remaining n cs))))
+  where
+    go : Tested (ltb k (length (remaining n cs))) → length (remaining n cs) ≤ k
+    go (holds t) = absurd (let e = those-below (left n cs) (n + 1) k (n + 1) (ltb-true k (length (those (n + 1) (left n cs))) t) .0 in omega arith)
+    go (fails t) = ltb-false k (length (remaining n cs)) t

@@ -5,3 +5,7 @@ pub mod Winner
 pub mod Amounts
 pub mod Positions
 pub mod Answers
+pub mod Outputs
+pub mod Moves
+pub mod Balance
+pub mod Facts

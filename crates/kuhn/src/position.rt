@@ -12,9 +12,10 @@ ghost use Prim.Native.Nat.{_≤_};
 ghost use lib.Dec.{eqb};
 ghost use Rattle.finite.specs.Finite.{or};
 ghost use lib.ListN.{length, take};
-ghost use Rattle.kuhn.specs.Rules.{live, over};
+ghost use Rattle.refusals.specs.Refusals.{first};
+ghost use Rattle.kuhn.specs.Rules.{live, over, ended};
 ghost use Rattle.kuhn.specs.Reached.{fair, played};
-ghost use Rattle.kuhn.specs.Calls.{seats-out, reachable, cardsOf, historyOf};
+ghost use Rattle.kuhn.specs.Calls.{seats-out, reachable, cardsOf, historyOf, saved-checks, mark};
 
 // Whether the seat count is outside 2 to 10.
 pub fn seats_outside(n: usize) -> bool
@@ -109,4 +110,50 @@ pub fn is_over(n: usize, state: KuhnState) -> bool
     }
     let history = state.history;
     is_terminal(&history, acted, n)
+}
+
+// What is wrong with a saved position, whatever its end mark says.
+pub fn saved_refusal(n: usize, state: KuhnState) -> u64
+    ensures { λ r. ⌜ r ≡ first (saved-checks n state) ⌝ }
+{
+    let dealt = state.dealt;
+    let acted = state.acted;
+    if seats_outside(n) {
+        return refusals::SEATS;
+    }
+    if dealt != n {
+        return refusals::CARD_COUNT;
+    }
+    let cards = state.cards;
+    if card_outside(&cards, dealt, n) {
+        return refusals::CARD;
+    }
+    if card_twice(&cards, dealt) {
+        return refusals::CARD_TWICE;
+    }
+    if 2 * n - 1 < acted {
+        return refusals::HISTORY;
+    }
+    let history = state.history;
+    if unknown_action(&history, acted) {
+        return refusals::HISTORY;
+    }
+    if past_the_end(&history, acted, n) {
+        return refusals::CLOSED;
+    }
+    refusals::ACCEPTED
+}
+
+// The end mark of a position: 0 of a live hand, 1 of one that has ended.
+pub fn end_mark(n: usize, state: KuhnState) -> u64
+    requires { ⌜ (1 ≤ n) × (n ≤ 10) × (state .acted ≤ 19) ⌝ }
+    ensures { λ r. ⌜ r ≡ mark (ended n (historyOf state)) ⌝ }
+{
+    let acted = state.acted;
+    let history = state.history;
+    if is_terminal(&history, acted, n) {
+        1
+    } else {
+        0
+    }
 }
