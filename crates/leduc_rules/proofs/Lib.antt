@@ -6,3 +6,4 @@ pub mod Pots
 pub mod Checks
 pub mod Rounds
 pub mod Reaching
+pub mod Moves

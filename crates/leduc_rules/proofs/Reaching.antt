@@ -45,15 +45,15 @@ module _ (cs : List ℕ) (p : Public) (h₁ h₂ : List ℕ) where
         blind-early = and-right _ _ e₆;
       }
 
-no-actions : (h : List ℕ) → eqb (length h) 0 ≡ true → h ≡ []
+pub no-actions : (h : List ℕ) → eqb (length h) 0 ≡ true → h ≡ []
 no-actions [] e = refl
 no-actions (a ∷ h) e = let q = eqb-true (length (a ∷ h)) 0 e in absurd (omega arith)
 
-nothing-closed : closes [] ≡ false
+pub nothing-closed : closes [] ≡ false
 unfolding closes and
 nothing-closed = refl
 
-nothing-ended : ended [] [] ≡ false
+pub nothing-ended : ended [] [] ≡ false
 unfolding ended folded closes some and or
 nothing-ended = refl
 
