@@ -6,7 +6,7 @@ use Prim.Native.Nat.{ℕ, zero, suc, _+_, _%_, _≤_, _<_}
 use native.Mathlib.Omega.{arith}
 use lib.Dec.{eqb, leb, ltb}
 use lib.ListN.{length, getD, take, drop}
-use borrow.Author.Tests.{ltb-true, lt-ltb, le-ltb, le-leb, lt-leb, eq-eqb, ne-eqb}
+use borrow.Author.Tests.{eqb-true, not-false, ltb-true, lt-ltb, le-ltb, le-leb, lt-leb, eq-eqb, ne-eqb}
 use Rattle.refusals.specs.Refusals.{Check, first, _refuses_}
 use Rattle.finite.specs.Finite.{and, those}
 use Rattle.leduc_rules.specs.Rules.{ended, due, live, left, remaining}
@@ -15,7 +15,8 @@ use Rattle.leduc_rules.proofs.Checks.{first-pass, first-stop}
 use Rattle.leduc.specs.Calls.{cardsOf, seenOf, roundOne, roundTwo, reachable, legal-of, key-of, mark, saved-checks}
 use Rattle.leduc.specs.Calls.{deal-refusal, step-refusal, legal-refusal, key-refusal, payoff-refusal, saved-refusal}
 use Rattle.leduc.specs.declared.LeducState.{LeducState}
-use Rattle.leduc.proofs.Order.{saved-firm}
+use Rattle.refusals.proofs.Order.{fails-first}
+use Rattle.leduc.proofs.Order.{saved-firm, passes-front}
 
 any-default : (l : List ℕ) (k a b : ℕ) → k < length l → getD l k a ≡ getD l k b
 any-default [] k a b h = absurd (omega arith)
@@ -120,3 +121,13 @@ module _ (s : LeducState) where
 
   pub saved-accepted : (m : ℕ) → first (saved-checks s) ≡ 0 → m ≡ mark (ended (roundOne s) (roundTwo s)) → saved-refusal s m ≡ 0
   saved-accepted m e f = saved-passes m e ∙ ap (λ b. first ((not b refuses 18) ∷ [])) (eq-eqb m (mark (ended (roundOne s) (roundTwo s))) f)
+
+  saved-front : (m : ℕ) → saved-refusal s m ≡ 0 → first (saved-checks s) ≡ 0
+  unfolding saved-refusal
+  saved-front m e = passes-front (saved-checks s) ((not (eqb m (mark (ended (roundOne s) (roundTwo s)))) refuses 18) ∷ []) e
+
+  -- an accepted one passes both
+  pub saved-marked : (m : ℕ) → saved-refusal s m ≡ 0 → (first (saved-checks s) ≡ 0) × (m ≡ mark (ended (roundOne s) (roundTwo s)))
+  saved-marked m e =
+      let f : first (saved-checks s) ≡ 0 = saved-front m e in
+      (f, eqb-true m (mark (ended (roundOne s) (roundTwo s))) (not-false _ (fails-first (not (eqb m (mark (ended (roundOne s) (roundTwo s))))) 17 [] (sym (saved-passes m f) ∙ e))))

@@ -3,3 +3,4 @@ pub mod Positions
 pub mod Order
 pub mod Writing
 pub mod Answers
+pub mod Facts

@@ -13,6 +13,7 @@ use Rattle.refusals.proofs.Order.{fails-first}
 use Rattle.finite.proofs.Tests.{or-false-left}
 use Rattle.leduc_rules.specs.Reached.{unknown}
 use Rattle.leduc_rules.specs.Checks.{barred-by, malformed, action-checks, card-checks, round-checks, public-checks}
+use Rattle.leduc_rules.proofs.Lawful.{fits-length}
 use Rattle.leduc_rules.proofs.Checks.{Firm, firm-append, first-pass, round-firm, second-checks}
 use Rattle.leduc.specs.Calls.{seenOf, roundOne, roundTwo, saved-checks}
 use Rattle.leduc.specs.declared.LeducState.{LeducState}
@@ -66,10 +67,6 @@ pub saved-second : (s : LeducState) → first (saved-checks s) ≡ 0 → first (
 saved-second s e = passes-rest (round-checks false false (s .acted1) (roundOne s)) (second-checks (hidden (s .public)) (s .acted2) (roundOne s) (roundTwo s)) (round-firm false false (s .acted1) (roundOne s)) (saved-rounds s e)
 
 -- a position that passes numbers 10 to 17 holds no round that is too long
-fits-test : (n : ℕ) (h : List ℕ) → malformed n h ≡ false → n ≤ 4
-unfolding malformed
-fits-test n h e = ltb-false 4 n (or-false-left (ltb 4 n) (unknown h) e)
-
 pub saved-short : (s : LeducState) → first (saved-checks s) ≡ 0 → (s .acted1 ≤ 4) × (s .acted2 ≤ 4)
 saved-short s e =
-    (fits-test (s .acted1) (roundOne s) (fails-first (malformed (s .acted1) (roundOne s)) 12 (action-checks false false [] (roundOne s) ++ second-checks (hidden (s .public)) (s .acted2) (roundOne s) (roundTwo s)) (saved-rounds s e)), fits-test (s .acted2) (roundTwo s) (fails-first (malformed (s .acted2) (roundTwo s)) 12 (action-checks (barred-by (roundOne s)) (hidden (s .public)) [] (roundTwo s) ++ public-checks (hidden (s .public)) (roundOne s) (roundTwo s)) (saved-second s e)))
+    (fits-length (s .acted1) (roundOne s) (fails-first (malformed (s .acted1) (roundOne s)) 12 (action-checks false false [] (roundOne s) ++ second-checks (hidden (s .public)) (s .acted2) (roundOne s) (roundTwo s)) (saved-rounds s e)), fits-length (s .acted2) (roundTwo s) (fails-first (malformed (s .acted2) (roundTwo s)) 12 (action-checks (barred-by (roundOne s)) (hidden (s .public)) [] (roundTwo s) ++ public-checks (hidden (s .public)) (roundOne s) (roundTwo s)) (saved-second s e)))

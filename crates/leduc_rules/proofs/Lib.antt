@@ -7,3 +7,6 @@ pub mod Checks
 pub mod Rounds
 pub mod Reaching
 pub mod Moves
+pub mod Facts
+pub mod Behind
+pub mod Lawful

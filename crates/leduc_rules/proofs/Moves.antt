@@ -72,7 +72,7 @@ played-more before (b ∷ h) a e o m =
 -- ---- what moves reach passes the test
 
 module _ (cs : List ℕ) (p : Public) (h₁ h₂ : List ℕ) where
-  possible-all : Possible cs p h₁ h₂ → possible cs p h₁ h₂ ≡ true
+  pub possible-all : Possible cs p h₁ h₂ → possible cs p h₁ h₂ ≡ true
   unfolding possible
   possible-all w =
       both (le-leb (length cs) 2 (w .few))
@@ -96,10 +96,10 @@ module _ {cs : List ℕ} {p : Public} {h₁ h₂ : List ℕ} (w : Possible cs p 
       (λ q. let r = eqb-true (length cs) 2 q in absurd (omega arith))
       (λ q. no-actions h₁ q)
 
-  still-hidden : closes h₁ ≡ false → hidden p ≡ true
+  pub still-hidden : closes h₁ ≡ false → hidden p ≡ true
   still-hidden e = or-cases (hidden p) (closes h₁) (w .shown-late) (λ q. q) (λ q. true≢false (closes h₁) q e)
 
-  hidden-none : hidden p ≡ true → h₂ ≡ []
+  pub hidden-none : hidden p ≡ true → h₂ ≡ []
   hidden-none e = or-cases (not (hidden p)) (eqb (length h₂) 0) (w .blind-early) (λ q. true≢false (hidden p) e (not-true _ q)) (λ q. no-actions h₂ q)
 
 deal-possible : (cs : List ℕ) (p : Public) (h₁ h₂ : List ℕ) (c : ℕ) → Possible cs p h₁ h₂ → length cs < 2 → left (seen cs p) c ≡ true → Possible (cs ++ (c ∷ [])) p h₁ h₂
@@ -200,7 +200,7 @@ reached-parts (act₂ {cs = cs} {h₁ = h₁} {h₂ = h₂} {p = p} a r l c m) =
 -- ---- what passes the test is reached by moves
 
 -- a round goes on: nobody has folded, and it has not closed
-goes-on : (h : List ℕ) → open-round h ≡ true → (folded h ≡ false) × (closes h ≡ false)
+pub goes-on : (h : List ℕ) → open-round h ≡ true → (folded h ≡ false) × (closes h ≡ false)
 unfolding open-round
 goes-on h o =
     let q : or (folded h) (closes h) ≡ false = not-true (or (folded h) (closes h)) o in

@@ -2,3 +2,4 @@
 pub mod Rules
 pub mod Reached
 pub mod Checks
+pub mod Facts
