@@ -40,7 +40,7 @@ impl List {
         self.counts[refusal as usize] += 1;
     }
 
-    /// Writes the program's two files, once each of `numbers` has stood in an answer at least twenty times.
+    /// Writes the two files of a program that is there, once each of `numbers` has stood in an answer at least twenty times.
     pub fn write(&self, folder: &Path, program: &str, numbers: &[usize]) -> io::Result<()> {
         for &number in numbers {
             assert!(self.counts[number] >= 20, "{program}: too few answers {number}");
@@ -48,7 +48,10 @@ impl List {
         assert!(self.stdin.len() <= MOST_GIVEN, "{program}: too much is given");
         assert!(self.stdout.len() <= MOST_WRITTEN, "{program}: too much is written");
         let folder = folder.join(program);
-        fs::create_dir_all(&folder)?;
+        if !folder.is_dir() {
+            println!("{program}: no such program, so no list");
+            return Ok(());
+        }
         fs::write(folder.join("stdin"), &self.stdin)?;
         fs::write(folder.join("stdout"), &self.stdout)?;
         println!("{program}: {} lines, stdin {}, stdout {} bytes", self.lines, self.stdin.len(), self.stdout.len());

@@ -68,11 +68,17 @@ fn committed(program: &str, file: &str) -> String {
     fs::read_to_string(&path).unwrap_or_else(|e| panic!("{}: {e}", path.display()))
 }
 
+/// The programs that crates.txt lists.
+fn is_listed(program: &str) -> bool {
+    let path = Path::new(env!("CARGO_MANIFEST_DIR")).join("../../crates.txt");
+    let listed = fs::read_to_string(path).expect("the repository has a crates.txt");
+    listed.lines().any(|line| line.split(':').next() == Some(program))
+}
+
 #[test]
 fn committed_lists_are_the_seeds() {
-    for (program, list) in
-        [("kuhn_replay", kuhn_lists::list(judge::SEED)), ("leduc_replay", leduc_lists::list(judge::SEED))]
-    {
+    let lists = [("kuhn_replay", kuhn_lists::list(judge::SEED)), ("leduc_replay", leduc_lists::list(judge::SEED))];
+    for (program, list) in lists.into_iter().filter(|(program, _)| is_listed(program)) {
         assert!(list.stdin == committed(program, "stdin"), "{program}: stdin is another list");
         assert!(list.stdout == committed(program, "stdout"), "{program}: stdout has other answers");
     }

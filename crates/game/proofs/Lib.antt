@@ -14,3 +14,9 @@ pub mod Rival
 pub mod Bounds
 pub mod Small
 pub mod Theorem
+pub mod Computed
+pub mod Sets
+pub mod Counting
+pub mod Walk
+pub mod Tables
+pub mod TableTheorem

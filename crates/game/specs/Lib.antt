@@ -4,3 +4,6 @@ pub mod Reply
 pub mod Recall
 pub mod Small
 pub mod Theorem
+pub mod Sets
+pub mod Table
+pub mod TableTheorem

@@ -13,15 +13,16 @@ use Rattle.refusals.proofs.Order.{refused, passed, fails-first, fails-rest}
 use Rattle.finite.specs.Finite.{and, or}
 use Rattle.finite.proofs.Tests.{both, and-left, and-right, and-left-fails, and-right-fails, or-false-left, or-false-right}
 use Rattle.finite.proofs.Lists.{getD-within}
-use Rattle.kuhn.specs.Rules.{ended, overrun, live, over, due, remaining}
-use Rattle.kuhn.specs.Reached.{strange, twice, fair, played, possible, unknown}
-use Rattle.kuhn.specs.Calls.{seats-out, reachable, cardsOf, historyOf, position-checks, step-checks, step-refusal, deal-checks, deal-refusal, legal-of, legal-checks, legal-refusal, key-of, key-checks, key-refusal, payoff-checks, payoff-refusal, payoffs-of, payoff-answer, saved-checks, mark, mark-checks, saved-refusal, moved, wrote, written}
+use Rattle.kuhn_rules.specs.Rules.{ended, overrun, live, over, due, remaining}
+use Rattle.kuhn_rules.specs.Reached.{strange, twice, fair, played, possible, unknown}
+use Rattle.kuhn.specs.Calls.{seats-out, reachable, cardsOf, historyOf, position-checks, step-checks, step-refusal, deal-checks, deal-refusal, legal-of, legal-checks, legal-refusal, key-of, key-checks, key-refusal, payoff-checks, payoff-refusal, payoff-answer, saved-checks, mark, mark-checks, saved-refusal, moved, wrote, written}
+use Rattle.kuhn_rules.specs.Stakes.{payoffs-of}
 use Rattle.kuhn.specs.declared.KuhnPoker.{KuhnPoker}
 use Rattle.kuhn.specs.declared.KuhnState.{KuhnState}
 use Rattle.kuhn.specs.declared.Moved.{Moved}
 use Rattle.kuhn.specs.declared.Written.{Written}
-use Rattle.kuhn.proofs.Histories.{hand-lasts}
-use Rattle.kuhn.proofs.Deals.{outcome-in, outcome-out}
+use Rattle.kuhn_rules.proofs.Histories.{hand-lasts}
+use Rattle.kuhn_rules.proofs.Deals.{outcome-in, outcome-out}
 use Rattle.kuhn.proofs.Positions.{dealt-is, acted-is, reachable-is, reachable-dealt, reachable-acted}
 
 -- ---- the seat count
@@ -118,9 +119,9 @@ pub not-moved : (r q : ℕ) (s t : KuhnState) → r ≡ q → (r ≡ 0 → ⊥) 
 not-moved r zero s t e n = absurd (n e)
 not-moved r (suc q) s t e n = ap (λ k. record { refusal = k; state = s }) e
 
-pub wrote-on : (q : ℕ) (s : KuhnState) (k j : ℕ) → q ≡ 0 → j ≡ k → record { refusal = 0; state = s; count = j } ≡ wrote q s k
-wrote-on zero s k j e w = ap (λ x. record { refusal = 0; state = s; count = x }) w
-wrote-on (suc q) s k j e w = absurd (omega arith)
+pub wrote-on : (r q : ℕ) (s : KuhnState) (k j : ℕ) → r ≡ 0 → q ≡ 0 → j ≡ k → record { refusal = r; state = s; count = j } ≡ wrote q s k
+wrote-on r zero s k j z e w = ap₂ (λ i x. record { refusal = i; state = s; count = x }) z w
+wrote-on r (suc q) s k j z e w = absurd (omega arith)
 
 pub not-wrote : (r q : ℕ) (s : KuhnState) (k : ℕ) → r ≡ q → (r ≡ 0 → ⊥) → record { refusal = r; state = s; count = 0 } ≡ wrote q s k
 not-wrote r zero s k e n = absurd (n e)
@@ -129,6 +130,10 @@ not-wrote r (suc q) s k e n = ap (λ x. record { refusal = x; state = s; count =
 pub kept-out : (r : ℕ) (bytes out : List ℕ) → (r ≡ 0 → ⊥) → out ≡ written r bytes out
 kept-out zero bytes out n = absurd (n refl)
 kept-out (suc r) bytes out n = refl
+
+pub written-on : (r : ℕ) (bytes out x : List ℕ) → r ≡ 0 → x ≡ bytes ++ drop (length bytes) out → x ≡ written r bytes out
+written-on zero bytes out x z e = e
+written-on (suc r) bytes out x z e = absurd (omega arith)
 
 pub paid-out : (r q : ℕ) (g : KuhnPoker) (s : KuhnState) (x : List ℤ) → r ≡ q → r ≡ 0 → x ≡ payoffs-of (g .players) (cardsOf s) (historyOf s) → record { refusal = r; state = s; count = g .players; payoffs = x } ≡ payoff-answer q g s
 paid-out r zero g s x e z w = ap₂ (λ k y. record { refusal = k; state = s; count = g .players; payoffs = y }) z w

@@ -12,70 +12,17 @@ use Rattle.refusals.proofs.Order.{refused, passed, fails-first, fails-rest}
 use Rattle.finite.specs.Finite.{and, or, has, those}
 use Rattle.finite.proofs.Tests.{Tested, holds, fails, tested, true≢false, iff, both, neither, and-left, and-right, and-left-fails, and-rest, or-right, or-false-left, or-false-right}
 use Rattle.finite.proofs.Lists.{those-ascending, has-those}
-use Rattle.kuhn.specs.Rules.{ended, overrun, over, left, remaining}
-use Rattle.kuhn.specs.Reached.{Reached, strange, twice, unknown, fair, played, possible}
+use Rattle.kuhn_rules.specs.Rules.{ended, overrun, over, left, remaining}
+use Rattle.kuhn_rules.specs.Reached.{Reached, strange, twice, unknown, fair, played, possible}
 use Rattle.kuhn.specs.Calls.{seats-out, cardsOf, historyOf, reachable, saved-checks, mark, mark-checks, saved-refusal}
-use Rattle.kuhn.specs.Facts.{Zero-sum, Ascending, All-left, Longest-hand, Key-tells, Key-recalls, Sized, Reachable-by-moves, Saved-accepts}
+use Rattle.kuhn.specs.Facts.{Sized, Reachable-by-moves, Saved-accepts}
 use Rattle.kuhn.specs.declared.KuhnPoker.{KuhnPoker}
 use Rattle.kuhn.specs.declared.KuhnState.{KuhnState}
-use Rattle.kuhn.proofs.Histories.{hand-lasts}
+use Rattle.kuhn_rules.proofs.Histories.{hand-lasts}
 use Rattle.kuhn.proofs.Positions.{dealt-is, acted-is, reachable-is, reachable-dealt, reachable-acted, fair-take}
 use Rattle.kuhn.proofs.Answers.{seats-least, seats-most}
-use Rattle.kuhn.proofs.Moves.{reached-possible, possible-reached}
-use Rattle.kuhn.proofs.Balance.{payoffs-balance}
-
--- ---- what a possible position holds
-
-module _ (n : ℕ) (cs h : List ℕ) (p : possible n cs h ≡ true) where
-  pub possible-fair : fair n cs ≡ true
-  unfolding possible
-  possible-fair = and-left (fair n cs) _ p
-
-  pub possible-played : played n h ≡ true
-  unfolding possible
-  possible-played = and-right (or (eqb (length h) 0) (eqb (length cs) n)) _ (and-right (fair n cs) _ p)
-
-  pub possible-overrun : overrun n h ≡ false
-  unfolding played
-  possible-overrun = not-true (overrun n h) (and-right (not (unknown h)) _ possible-played)
-
-fair-tests : (n : ℕ) (cs : List ℕ) → fair n cs ≡ true → (strange n cs ≡ false) × (twice cs ≡ false)
-unfolding fair
-fair-tests n cs f =
-    let g = and-right (leb (length cs) n) _ f in
-    (not-true (strange n cs) (and-left (not (strange n cs)) _ g), not-true (twice cs) (and-right (not (strange n cs)) _ g))
-
-played-tests : (n : ℕ) (h : List ℕ) → played n h ≡ true → (unknown h ≡ false) × (overrun n h ≡ false)
-unfolding played
-played-tests n h p = (not-true (unknown h) (and-left (not (unknown h)) _ p), not-true (overrun n h) (and-right (not (unknown h)) _ p))
-
-pub zero-sum : Zero-sum
-zero-sum ante bet n cs h one r e = payoffs-balance n cs h one (eqb-true (length cs) n (and-left (eqb (length cs) n) _ e)) (possible-fair n cs h (reached-possible n r)) ante bet
-
-pub ascending : Ascending
-unfolding remaining
-ascending n cs i j w v = those-ascending (left n cs) (n + 1) i j 0 w v
-
-past-deck : (n : ℕ) (cs : List ℕ) (c : ℕ) → n < c → left n cs c ≡ false
-unfolding left
-past-deck n cs c w = and-left-fails (not (has c cs)) (lt-leb c n w)
-
-pub all-left : All-left
-unfolding remaining
-all-left n cs c = has-those (left n cs) c (n + 1) ∙ below (tested (ltb c (n + 1)))
-  where
-    below : Tested (ltb c (n + 1)) → and (ltb c (n + 1)) (left n cs c) ≡ left n cs c
-    below (holds t) = and-rest (left n cs c) t
-    below (fails t) = and-left-fails (left n cs c) t ∙ sym (past-deck n cs c (let w = ltb-false c (n + 1) t in omega arith))
-
-pub longest-hand : Longest-hand
-longest-hand n cs h one r = hand-lasts n h one (possible-overrun n cs h (reached-possible n r)) .0
-
-pub key-tells : Key-tells
-key-tells cs cs′ h h′ p p′ e = (cc, cc, cc)
-
-pub key-recalls : Key-recalls
-key-recalls cs cs′ h h′ p p′ e k = let (a, b, c) = key-tells cs cs′ h h′ p p′ e in cc
+use Rattle.kuhn_rules.proofs.Moves.{reached-possible, possible-reached}
+use Rattle.kuhn_rules.proofs.Facts.{possible-fair, possible-played, fair-tests, played-tests}
 
 -- ---- positions
 

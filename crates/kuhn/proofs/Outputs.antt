@@ -11,7 +11,7 @@ use lib.ListN.{length, getD, take, drop, set}
 use lib.Seq.{paste, length-take-le, getD-take}
 use Rattle.finite.specs.Finite.{and}
 use Rattle.finite.proofs.Tests.{both, and-left-fails, and-right-fails}
-use Rattle.kuhn.specs.Rules.{PASS, BET, live, turn, legal, key}
+use Rattle.kuhn_rules.specs.Rules.{PASS, BET, live, turn, legal, key}
 use Rattle.kuhn.specs.Calls.{cardsOf, historyOf, legal-of, key-of}
 use Rattle.kuhn.specs.declared.KuhnPoker.{KuhnPoker}
 use Rattle.kuhn.specs.declared.KuhnState.{KuhnState}

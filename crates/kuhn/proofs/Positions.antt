@@ -10,8 +10,8 @@ use lib.ListN.{length, getD, take}
 use lib.Seq.{length-take-le}
 use Rattle.finite.specs.Finite.{and, or, some}
 use Rattle.finite.proofs.Tests.{both, and-left, and-right, and-rest}
-use Rattle.kuhn.specs.Rules.{ended, live, over}
-use Rattle.kuhn.specs.Reached.{strange, twice, fair, played, possible}
+use Rattle.kuhn_rules.specs.Rules.{ended, live, over}
+use Rattle.kuhn_rules.specs.Reached.{strange, twice, fair, played, possible}
 use Rattle.kuhn.specs.Calls.{cardsOf, historyOf, reachable}
 use Rattle.kuhn.specs.declared.KuhnState.{KuhnState}
 

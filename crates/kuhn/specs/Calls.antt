@@ -1,5 +1,5 @@
 -- What each call answers, and what it leaves in lent memory (document 01, "What comes back when a call is refused" and "The two games").
--- A refused answer holds its number, the position handed in, and 0 in every other field.
+-- A refused answer holds its number, the position handed in (a refused start: the initial one, all zero), and 0 in every other field.
 use mathlib.Core.Bool.{Bool, true, false, not, cond}
 use mathlib.Core.List.{List, [], _∷_, _++_}
 use Prim.Native.Nat.{ℕ, zero, suc, _+_, _*_, _-_}
@@ -8,21 +8,15 @@ use lib.IntN.{ℤ, pos}
 use lib.ListN.{length, getD, take, drop, set, replicate}
 use Rattle.refusals.specs.Refusals.{Check, first, _refuses_}
 use Rattle.refusals.specs.Refusals as Refusals
-use Rattle.finite.specs.Finite.{and, or, places}
-use Rattle.kuhn.specs.Rules.{PASS, BET, due, live, over, ended, legal, key, remaining, payoff, overrun}
-use Rattle.kuhn.specs.Reached.{possible, strange, twice, unknown}
+use Rattle.finite.specs.Finite.{and, or}
+use Rattle.kuhn_rules.specs.Rules.{BET, due, live, over, ended, legal, key, remaining, overrun}
+use Rattle.kuhn_rules.specs.Reached.{possible, strange, twice, unknown}
+use Rattle.kuhn_rules.specs.Stakes.{payoffs-of}
 use Rattle.kuhn.specs.declared.KuhnPoker.{KuhnPoker}
 use Rattle.kuhn.specs.declared.KuhnState.{KuhnState}
 use Rattle.kuhn.specs.declared.Moved.{Moved}
 use Rattle.kuhn.specs.declared.Written.{Written}
 use Rattle.kuhn.specs.declared.Payoffs.{Payoffs}
-
--- the stakes of today's calls
-abbrev pub ante : ℕ
-ante = 1
-
-abbrev pub bet : ℕ
-bet = 1
 
 -- ---- positions
 
@@ -139,9 +133,6 @@ payoff-checks n s = (not (over n (cardsOf s) (historyOf s)) refuses Refusals.unf
 
 unfoldable pub payoff-refusal : KuhnPoker → KuhnState → ℕ
 payoff-refusal g s = first (position-checks (g .players) s ++ payoff-checks (g .players) s)
-
-unfoldable pub payoffs-of : ℕ → List ℕ → List ℕ → List ℤ
-payoffs-of n cs h = places 10 (λ p. cond (ltb p n) (payoff ante bet n cs h p) (pos 0))
 
 abbrev pub payoff-answer : ℕ → KuhnPoker → KuhnState → Payoffs
 payoff-answer zero g s = record { refusal = zero; state = s; count = g .players; payoffs = payoffs-of (g .players) (cardsOf s) (historyOf s) }

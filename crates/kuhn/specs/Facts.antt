@@ -1,43 +1,16 @@
--- What holds of Kuhn's rules, proved in proofs/Facts.antt. n is the number of seats, cs the cards dealt, h the history.
+-- What holds of the calls' tests, proved in proofs/Facts.antt.
 use mathlib.Core.Path.{_≡_}
 use mathlib.Core.Logic.{_↔_}
 use mathlib.Core.Bool.{true}
-use mathlib.Core.List.{List}
-use Prim.Native.Nat.{ℕ, _*_, _≤_, _<_}
-use lib.IntN.{pos}
-use lib.ListN.{length, getD, take}
-use Rattle.finite.specs.Finite.{sumℤ, has}
-use Rattle.kuhn.specs.Rules.{ended, over, left, remaining, key, payoff}
-use Rattle.kuhn.specs.Reached.{Reached}
+use Prim.Native.Nat.{ℕ, _≤_}
+use lib.ListN.{length}
+use Rattle.kuhn_rules.specs.Rules.{ended}
+use Rattle.kuhn_rules.specs.Reached.{Reached}
 use Rattle.kuhn.specs.Calls.{cardsOf, historyOf, reachable, mark, saved-refusal}
 use Rattle.kuhn.specs.declared.KuhnPoker.{KuhnPoker}
 use Rattle.kuhn.specs.declared.KuhnState.{KuhnState}
 
--- payoffs add up to 0 at every end, at all stakes
-abbrev pub Zero-sum : Type 0
-Zero-sum = (ante bet n : ℕ) (cs h : List ℕ) → 1 ≤ n → Reached n cs h → over n cs h ≡ true → sumℤ n (payoff ante bet n cs h) ≡ pos 0
-
--- the cards left are listed in ascending order,
-abbrev pub Ascending : Type 0
-Ascending = (n : ℕ) (cs : List ℕ) (i j : ℕ) → i < j → j < length (remaining n cs) → getD (remaining n cs) i 0 < getD (remaining n cs) j 0
-
--- and they are all the cards left
-abbrev pub All-left : Type 0
-All-left = (n : ℕ) (cs : List ℕ) (c : ℕ) → has c (remaining n cs) ≡ left n cs c
-
--- no hand has more than 2n - 1 actions
-abbrev pub Longest-hand : Type 0
-Longest-hand = (n : ℕ) (cs h : List ℕ) → 1 ≤ n → Reached n cs h → length h < 2 * n
-
--- a key tells the seat, its card and the history,
-abbrev pub Key-tells : Type 0
-Key-tells = (cs cs′ h h′ : List ℕ) (p p′ : ℕ) → key cs h p ≡ key cs′ h′ p′ → (p ≡ p′) × (getD cs p 0 ≡ getD cs′ p′ 0) × (h ≡ h′)
-
--- and so every earlier key of the seat
-abbrev pub Key-recalls : Type 0
-Key-recalls = (cs cs′ h h′ : List ℕ) (p p′ : ℕ) → key cs h p ≡ key cs′ h′ p′ → (k : ℕ) → key cs (take k h) p ≡ key cs′ (take k h′) p′
-
--- a position of ten cards and nineteen actions
+-- a position has ten cards and nineteen actions: every one that a call is given has, by its type
 pub record Sized (s : KuhnState) : Type 0 where
   pub cards-size : length (s .cards) ≡ 10
   pub history-size : length (s .history) ≡ 19

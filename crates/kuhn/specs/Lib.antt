@@ -1,6 +1,3 @@
--- Kuhn poker (document 01, "The two games"; Kuhn 1950, for n seats): the rules, reachable positions, and what each call answers.
-pub mod Rules
-pub mod Money
-pub mod Reached
+-- Kuhn poker as calls on positions: what each call answers, and what holds of it.
 pub mod Calls
 pub mod Facts

@@ -1,8 +1,5 @@
 // Kuhn poker for 2 to 10 seats: positions by value, the rules calls and the saved-position check.
 // A call refuses by document 01's numbers, in its order, and then gives the position back as it came.
-mod betting;
-mod cards;
-mod money;
 mod position;
 
 ghost use mathlib.Core.Path.{_≡_};
@@ -128,7 +125,7 @@ impl KuhnPoker {
             };
         }
         let cards = state.cards;
-        let card = cards::nth_remaining(&cards, dealt, n, outcome);
+        let card = kuhn_rules::cards::nth_remaining(&cards, dealt, n, outcome);
         if n < card {
             return Moved {
                 refusal: refusals::UNFIT,
@@ -167,7 +164,7 @@ impl KuhnPoker {
         let actions = legal.actions;
         finite::copy_at(out, 0, &actions, count);
         Written {
-            refusal: refusals::ACCEPTED,
+            refusal,
             state,
             count,
         }
@@ -226,7 +223,7 @@ impl KuhnPoker {
         out[1] = cards[agent];
         finite::copy_at(out, 2, &history, acted);
         Written {
-            refusal: refusals::ACCEPTED,
+            refusal,
             state,
             count,
         }
@@ -250,7 +247,7 @@ impl KuhnPoker {
         let acted = state.acted;
         let cards = state.cards;
         let history = state.history;
-        let payoffs = money::payoffs(&cards, &history, acted, n);
+        let payoffs = kuhn_rules::money::payoffs(&cards, &history, acted, n);
         Payoffs {
             refusal,
             state,

@@ -1,11 +1,11 @@
 // What a call asks of a position before it answers.
 use crate::KuhnPoker;
 use crate::KuhnState;
-use crate::betting::is_terminal;
-use crate::betting::past_the_end;
-use crate::betting::unknown_action;
-use crate::cards::card_outside;
-use crate::cards::card_twice;
+use kuhn_rules::betting::is_terminal;
+use kuhn_rules::betting::past_the_end;
+use kuhn_rules::betting::unknown_action;
+use kuhn_rules::cards::card_outside;
+use kuhn_rules::cards::card_twice;
 ghost use mathlib.Core.Path.{_≡_};
 ghost use mathlib.Core.Bool.{not};
 ghost use Prim.Native.Nat.{_≤_};
@@ -13,8 +13,8 @@ ghost use lib.Dec.{eqb};
 ghost use Rattle.finite.specs.Finite.{or};
 ghost use lib.ListN.{length, take};
 ghost use Rattle.refusals.specs.Refusals.{first};
-ghost use Rattle.kuhn.specs.Rules.{live, over, ended};
-ghost use Rattle.kuhn.specs.Reached.{fair, played};
+ghost use Rattle.kuhn_rules.specs.Rules.{live, over, ended};
+ghost use Rattle.kuhn_rules.specs.Reached.{fair, played};
 ghost use Rattle.kuhn.specs.Calls.{seats-out, reachable, cardsOf, historyOf, saved-checks, mark};
 
 // Whether the seat count is outside 2 to 10.

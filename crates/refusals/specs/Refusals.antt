@@ -15,7 +15,7 @@ game = 1
 abbrev pub seats : ℕ
 seats = 2
 
--- a tree is needed and has more than 4,000,000 nodes
+-- a tree is needed and has more than 4,000,000 nodes, which is Kuhn with 7 to 10 seats
 abbrev pub tree : ℕ
 tree = 3
 
@@ -23,23 +23,23 @@ tree = 3
 abbrev pub memory : ℕ
 memory = 4
 
--- the seat is not below the seat count
+-- the seat is not below the seat count, in a call that evaluates one seat
 abbrev pub seat : ℕ
 seat = 5
 
--- D, the parts per set, is 0 or too large
+-- D, the parts per set, is 0, or above 64 (Leduc, Kuhn 2 to 4) or above 16 (Kuhn 5 and 6)
 abbrev pub parts : ℕ
 parts = 6
 
--- the table's length is not the entry count
+-- the table's length is not exactly the entry count
 abbrev pub table : ℕ
 table = 7
 
--- in some set the parts do not add up to D
+-- in some set the parts, one byte each, do not add up to D
 abbrev pub sum : ℕ
 sum = 8
 
--- an output is shorter than its answer
+-- an output is shorter than its answer; in a key or legal-list call this comes last, after 20
 abbrev pub output : ℕ
 output = 9
 
@@ -55,7 +55,7 @@ card = 11
 abbrev pub card-twice : ℕ
 card-twice = 12
 
--- a history is too long or holds an unknown action
+-- a history is too long (Kuhn above 2 × seats − 1, Leduc above 4 in a round) or holds an unknown action
 abbrev pub history : ℕ
 history = 13
 
@@ -63,7 +63,7 @@ history = 13
 abbrev pub closed : ℕ
 closed = 14
 
--- a Leduc action was not legal when made
+-- a Leduc action was not legal when made; without the public card no action of round 2 is
 abbrev pub illegal : ℕ
 illegal = 15
 
@@ -79,11 +79,12 @@ early-public = 17
 abbrev pub end-mark : ℕ
 end-mark = 18
 
--- a position cannot be reached from the start by legal moves
+-- a position handed to a rules call cannot be reached from the start by legal moves
 abbrev pub unreachable : ℕ
 unreachable = 19
 
--- the call does not fit the position
+-- the call does not fit the position: a step where no seat acts, a deal where no card is due or whose outcome is not below the fan,
+-- a key for a seat without a card, a payoff before the end
 abbrev pub unfit : ℕ
 unfit = 20
 

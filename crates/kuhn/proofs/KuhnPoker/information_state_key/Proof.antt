@@ -8,7 +8,7 @@ use borrow.Author.Tests.{not-true, not-false}
 use native.Mathlib.Omega.{arith}
 use lib.ListN.{length, getD, take, drop, set, length-set}
 use Rattle.kuhn.specs.Calls.{key-checks, key-of, key-refusal}
-use Rattle.kuhn.proofs.Answers.{cards-in, actions-in, key-position, key-long, key-no-card, key-no-room, key-fits, wrote-on, not-wrote, kept-out}
+use Rattle.kuhn.proofs.Answers.{cards-in, actions-in, key-position, key-long, key-no-card, key-no-room, key-fits, wrote-on, not-wrote, kept-out, written-on}
 use Rattle.kuhn.proofs.Outputs.{key-front, key-is}
 -- The key, written out. Assumes nothing.
 use Rattle.kuhn.proofs.KuhnPoker.information_state_key.Statement.{statement}
@@ -91,10 +91,10 @@ returns-4 c =
     let tens : length (c .before .before .before .before .before .before .before .before .before .before .before .before .args .state .cards) ≡ 10 = search needs in
     let nineteen : length (c .before .before .before .before .before .before .before .before .before .before .before .before .args .state .history) ≡ 19 = search needs in
     let ok = sym (c .before .before .before .before .before .before .before .before .before .before .position-refusal .ensures) ∙ c .before .before .before .before .before .before .before .before .before .if1 .left in (
-      wrote-on _ _ _ _ (key-fits (c .before .before .before .before .before .before .before .before .before .before .before .before .args .self) (c .before .before .before .before .before .before .before .before .before .before .before .before .args .state) tens nineteen ok (c .before .before .before .before .before .before .before .before .before .before .before .before .args .agent) (length (c .before .before .before .before .before .before .before .before .before .before .before .before .args .out .now)) (c .before .before .before .before .before .before .before .before .if2 .left) (c .before .before .before .before .before .before .before .if3 .left)) (sym (key-long (c .before .before .before .before .before .before .before .before .before .before .before .before .args .self) (c .before .before .before .before .before .before .before .before .before .before .before .before .args .state) tens nineteen ok (c .before .before .before .before .before .before .before .before .before .before .before .before .args .agent) (length (c .before .before .before .before .before .before .before .before .before .before .before .before .args .out .now)))),
-      c .before .before .copy-at .ensures
+      wrote-on _ _ _ _ _ (c .before .before .before .before .before .before .before .before .before .if1 .left) (key-fits (c .before .before .before .before .before .before .before .before .before .before .before .before .args .self) (c .before .before .before .before .before .before .before .before .before .before .before .before .args .state) tens nineteen ok (c .before .before .before .before .before .before .before .before .before .before .before .before .args .agent) (length (c .before .before .before .before .before .before .before .before .before .before .before .before .args .out .now)) (c .before .before .before .before .before .before .before .before .if2 .left) (c .before .before .before .before .before .before .before .if3 .left)) (sym (key-long (c .before .before .before .before .before .before .before .before .before .before .before .before .args .self) (c .before .before .before .before .before .before .before .before .before .before .before .before .args .state) tens nineteen ok (c .before .before .before .before .before .before .before .before .before .before .before .before .args .agent) (length (c .before .before .before .before .before .before .before .before .before .before .before .before .args .out .now)))),
+      written-on _ (key-of (c .before .before .before .before .before .before .before .before .before .before .before .before .args .state) (c .before .before .before .before .before .before .before .before .before .before .before .before .args .agent)) (c .before .before .before .before .before .before .before .before .before .before .before .before .args .out .now) _ (c .before .before .before .before .before .before .before .before .before .if1 .left) (c .before .before .copy-at .ensures
           ∙ key-front (c .before .before .before .before .before .before .before .before .before .before .before .before .args .out .now) (c .before .before .before .before .before .before .before .before .before .before .before .before .args .state .history) (c .before .before .before .before .before .before .before .before .before .before .before .before .args .agent) (getD (c .before .before .before .before .before .before .before .before .before .before .before .before .args .state .cards) (c .before .before .before .before .before .before .before .before .before .before .before .before .args .agent) 0) (c .before .before .before .before .before .before .before .before .before .before .before .before .args .state .acted) (c .before .before .before .before .before .before .before .if3 .left) (omega (arith, actions-in (c .before .before .before .before .before .before .before .before .before .before .before .before .args .self .players) (c .before .before .before .before .before .before .before .before .before .before .before .before .args .state) ok))
-          ∙ ap (λ k. k ++ drop (length k) (c .before .before .before .before .before .before .before .before .before .before .before .before .args .out .now)) (key-is (c .before .before .before .before .before .before .before .before .before .before .before .before .args .state) (c .before .before .before .before .before .before .before .before .before .before .before .before .args .agent) (c .before .before .before .before .before .before .before .before .if2 .left)),
+          ∙ ap (λ k. k ++ drop (length k) (c .before .before .before .before .before .before .before .before .before .before .before .before .args .out .now)) (key-is (c .before .before .before .before .before .before .before .before .before .before .before .before .args .state) (c .before .before .before .before .before .before .before .before .before .before .before .before .args .agent) (c .before .before .before .before .before .before .before .before .if2 .left))),
     )
 
 pub information-state-key-spec : {M : Type 1} → statement M

@@ -8,7 +8,7 @@ use borrow.Author.Tests.{not-true, not-false}
 use native.Mathlib.Omega.{arith}
 use lib.ListN.{length, getD, take, drop, set, length-set}
 use Rattle.kuhn.specs.Calls.{legal-checks, legal-of, legal-refusal}
-use Rattle.kuhn.proofs.Answers.{position-refused, legal-position, legal-no-room, legal-fits, wrote-on, not-wrote, kept-out}
+use Rattle.kuhn.proofs.Answers.{position-refused, legal-position, legal-no-room, legal-fits, wrote-on, not-wrote, kept-out, written-on}
 use Rattle.kuhn.proofs.Outputs.{front}
 use Rattle.kuhn.proofs.KuhnPoker.legal_actions.Statement.{statement}
 use Rattle.kuhn.proofs.KuhnPoker.legal_actions.Tie as tie
@@ -60,8 +60,8 @@ returns-3 c =
     let nineteen : length (c .before .before .before .before .before .before .before .before .before .before .before .args .state .history) ≡ 19 = search needs in
     let ok = sym (c .before .before .before .before .before .before .before .before .before .position-refusal .ensures) ∙ c .before .before .before .before .before .before .before .before .if1 .left in
     let fits = rw (c .before .before .before .before .before .before .before .legal .ensures .1) at (c .before .before .before .before .before .before .if2 .left) in (
-      wrote-on _ _ _ _ (legal-fits (c .before .before .before .before .before .before .before .before .before .before .before .args .self) (c .before .before .before .before .before .before .before .before .before .before .before .args .state) tens nineteen ok (c .before .before .before .before .before .before .before .before .before .before .before .args .agent) (length (c .before .before .before .before .before .before .before .before .before .before .before .args .out .now)) fits) (c .before .before .before .before .before .before .before .legal .ensures .1),
-      c .before .before .copy-at .ensures ∙ front _ _ _ _ (c .before .before .before .before .before .before .before .legal .ensures .0) (c .before .before .before .before .before .before .before .legal .ensures .1),
+      wrote-on _ _ _ _ _ (c .before .before .before .before .before .before .before .before .if1 .left) (legal-fits (c .before .before .before .before .before .before .before .before .before .before .before .args .self) (c .before .before .before .before .before .before .before .before .before .before .before .args .state) tens nineteen ok (c .before .before .before .before .before .before .before .before .before .before .before .args .agent) (length (c .before .before .before .before .before .before .before .before .before .before .before .args .out .now)) fits) (c .before .before .before .before .before .before .before .legal .ensures .1),
+      written-on _ (legal-of (c .before .before .before .before .before .before .before .before .before .before .before .args .self) (c .before .before .before .before .before .before .before .before .before .before .before .args .state) (c .before .before .before .before .before .before .before .before .before .before .before .args .agent)) (c .before .before .before .before .before .before .before .before .before .before .before .args .out .now) _ (c .before .before .before .before .before .before .before .before .if1 .left) (c .before .before .copy-at .ensures ∙ front _ _ _ _ (c .before .before .before .before .before .before .before .legal .ensures .0) (c .before .before .before .before .before .before .before .legal .ensures .1)),
     )
 
 pub legal-actions-spec : {M : Type 1} → statement M

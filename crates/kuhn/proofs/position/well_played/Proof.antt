@@ -7,7 +7,7 @@ use borrow.Author.Tests.{lt-ltb, le-ltb, le-leb, lt-leb, eq-eqb, ne-eqb}
 use native.Mathlib.Omega.{arith}
 use lib.ListN.{length, take}
 use Rattle.finite.proofs.Tests.{and-left-fails, and-right-fails, and-rest, or-left, or-rest}
-use Rattle.kuhn.specs.Reached.{played}
+use Rattle.kuhn_rules.specs.Reached.{played}
 use Rattle.kuhn.proofs.position.well_played.Statement.{statement}
 use Rattle.kuhn.proofs.position.well_played.Tie as tie
 use Rattle.kuhn.proofs.position.well_played.Reads as reads

@@ -1,0 +1,12 @@
+-- The definitions give what document 01 says, in all its cases at once: by computing. Assumes nothing.
+use mathlib.Core.Path.{refl}
+use Rattle.finite.specs.Finite.{and, or, some, every, sum, has, places}
+use Rattle.kuhn_rules.specs.Rules.{bet-made, after-bet, ended, overrun, bets, stands, contribution, wins, paid-by-others, payoff}
+use Rattle.kuhn_rules.specs.Reached.{strange, twice, unknown, fair, played, possible}
+use Rattle.kuhn_rules.specs.Stakes.{payoffs-of}
+use Rattle.kuhn.specs.Calls.{reachable, payoff-refusal, saved-refusal}
+use Rattle.cases.specs.Cases.{Agree, cases}
+
+pub cases-agree : Agree cases
+unfolding and or some every sum has places bet-made after-bet ended overrun bets stands contribution wins paid-by-others payoff strange twice unknown fair played possible reachable payoff-refusal payoffs-of saved-refusal
+cases-agree = refl

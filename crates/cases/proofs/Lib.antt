@@ -1,0 +1,2 @@
+-- What the worked cases show.
+pub mod Cases

@@ -1,0 +1,8 @@
+-- Laws of Kuhn's rules.
+pub mod Histories
+pub mod Deals
+pub mod Winner
+pub mod Amounts
+pub mod Moves
+pub mod Balance
+pub mod Facts

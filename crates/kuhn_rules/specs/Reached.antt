@@ -1,0 +1,39 @@
+-- The positions that can be reached from the start by legal moves (document 01, number 19), by moves and as a test that can be computed.
+use mathlib.Core.Path.{_≡_}
+use mathlib.Core.Bool.{Bool, true, false, not}
+use mathlib.Core.List.{List, [], _∷_, _++_}
+use Prim.Native.Nat.{ℕ}
+use lib.Dec.{eqb, leb, ltb}
+use lib.ListN.{length, getD, take}
+use Rattle.finite.specs.Finite.{and, or, some, has}
+use Rattle.kuhn_rules.specs.Rules.{BET, due, left, live, overrun}
+
+-- the start; a deal of a card that is left, while one is due; an action, while a seat acts
+pub data Reached (n : ℕ) : List ℕ → List ℕ → Type 0 where
+  start : Reached n [] []
+  deal : {cs h : List ℕ} (c : ℕ) → Reached n cs h → due n cs ≡ true → left n cs c ≡ true → Reached n (cs ++ (c ∷ [])) h
+  act : {cs h : List ℕ} (a : ℕ) → Reached n cs h → live n cs h ≡ true → leb a BET ≡ true → Reached n cs (h ++ (a ∷ []))
+
+-- some card is not in the deck
+unfoldable pub strange : ℕ → List ℕ → Bool
+strange n cs = some (length cs) (λ i. ltb n (getD cs i 0))
+
+-- some card appears twice
+unfoldable pub twice : List ℕ → Bool
+twice cs = some (length cs) (λ i. has (getD cs i 0) (take i cs))
+
+-- some action is neither a pass nor a bet
+unfoldable pub unknown : List ℕ → Bool
+unknown h = some (length h) (λ i. ltb BET (getD h i 0))
+
+-- the cards are at most one a seat, of the deck, and differ
+unfoldable pub fair : ℕ → List ℕ → Bool
+fair n cs = and (leb (length cs) n) (and (not (strange n cs)) (not (twice cs)))
+
+-- the actions are known, and none stands after the end
+unfoldable pub played : ℕ → List ℕ → Bool
+played n h = and (not (unknown h)) (not (overrun n h))
+
+-- a fair deal, actions only once every seat has its card, and these played by the rules
+unfoldable pub possible : ℕ → List ℕ → List ℕ → Bool
+possible n cs h = and (fair n cs) (and (or (eqb (length h) 0) (eqb (length cs) n)) (played n h))

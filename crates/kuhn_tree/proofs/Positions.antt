@@ -1,0 +1,165 @@
+-- The nodes of Kuhn's tree stand for the reachable positions, and each of these has its node. Assumes nothing.
+use mathlib.Core.Path.{_≡_, refl, ap, ap₂, _∙_}
+use mathlib.Core.Logic.{_⊎_, inl, inr}
+use mathlib.Core.Bool.{Bool, true, not}
+use mathlib.Core.List.{List, [], _∷_, _++_, map}
+use Prim.Native.Nat.{ℕ, zero, suc, _+_, _≤_, _<_, zero-le, suc-le-suc}
+use native.Mathlib.Nat as NatL
+use native.Mathlib.Omega.{arith}
+use lib.Dec.{eqb, leb}
+use lib.ListN.{length, getD, length-append}
+use borrow.Author.Tests.{ltb-true, eqb-true, leb-true, not-true}
+use Rattle.finite.specs.Finite.{and}
+use Rattle.finite.proofs.Tests.{true≢false, and-left, and-right}
+use Rattle.game.specs.Tree.{Tree, end, chance, decide, Trees, nil, cons}
+use Rattle.game.specs.Sets.{size, sizes}
+use Rattle.game.proofs.Counting.{In, in-left, in-right, in-append}
+use Rattle.kuhn_rules.specs.Rules.{PASS, BET, ended, turn, due, live, over, remaining, legal}
+use Rattle.kuhn_rules.specs.Reached.{Reached, start, deal, act}
+use Rattle.kuhn_tree.specs.Tree.{kuhnTree}
+use Rattle.kuhn_tree.specs.Follows.{Position, dealt, acted, positions, positionsAll, Follows, FollowsAll}
+use Rattle.kuhn_tree.specs.Facts.{NodesReached}
+use Rattle.kuhn_tree.proofs.Cards.{in-of-left}
+use Rattle.kuhn_tree.proofs.Growth.{legal-acts, kuhn-follows}
+
+-- ---- places of a list
+at-place : {A : Type 0} (xs : List A) (a : ℕ) (d : A) → a < length xs → In (getD xs a d) xs
+unfolding In
+at-place [] a d l = absurd (NatL.not-suc-le-zero l)
+at-place (x ∷ xs) zero d l = inl refl
+at-place (x ∷ xs) (suc a) d l = inr (at-place xs a d (NatL.le-of-suc-le-suc l))
+
+place-of : {A : Type 0} (xs : List A) (x d : A) → In x xs → (a : ℕ) × (a < length xs) × (getD xs a d ≡ x)
+unfolding In
+place-of [] x d w = absurd w
+place-of (y ∷ xs) x d (inl e) = (0, suc-le-suc zero-le, e)
+place-of (y ∷ xs) x d (inr w) = let (a, l, e) = place-of xs x d w in (suc a, suc-le-suc l, e)
+
+in-map : {A B : Type 0} (f : A → B) (x : A) (xs : List A) → In x xs → In (f x) (map f xs)
+unfolding In
+in-map f x [] w = absurd w
+in-map f x (y ∷ xs) (inl e) = inl (ap f e)
+in-map f x (y ∷ xs) (inr w) = inr (in-map f x xs w)
+
+module _ (ante bet n : ℕ) where
+  -- ---- a position for each node
+  mutual
+    unfolding positions size Follows
+
+    node-positions : (t : Tree) (cs h : List ℕ) → Follows ante bet n t cs h → length (positions n t cs h) ≡ size t
+    node-positions (end p) cs h g = refl
+    node-positions (chance f) cs h g = ap suc (node-positions-all f (dealt n cs h) (g .2))
+    node-positions (decide j k f) cs h g = ap suc (node-positions-all f (acted n cs h) (g .4))
+
+    node-positions-all : (f : Trees) (qs : List Position) → FollowsAll ante bet n f qs → length (positionsAll n f qs) ≡ sizes f
+    node-positions-all nil qs g = refl
+    node-positions-all (cons t f) [] g = absurd g
+    node-positions-all (cons t f) (q ∷ qs) g = length-append (positions n t (q .0) (q .1)) (positionsAll n f qs) ∙ ap₂ _+_ (node-positions t (q .0) (q .1) (g .0)) (node-positions-all f qs (g .1))
+
+  -- ---- each is reachable
+  mutual
+    unfolding positions Follows In
+
+    each-reached : (t : Tree) (cs h : List ℕ) → Follows ante bet n t cs h → (q : Position) → In q (positions n t cs h) → Reached n (q .0) (q .1)
+    each-reached (end p) cs h g q (inl e) = rw (← e) (g .0)
+    each-reached (end p) cs h g q (inr w) = absurd w
+    each-reached (chance f) cs h g q (inl e) = rw (← e) (g .0)
+    each-reached (chance f) cs h g q (inr w) = each-reached-all f (dealt n cs h) (g .2) q w
+    each-reached (decide j k f) cs h g q (inl e) = rw (← e) (g .0)
+    each-reached (decide j k f) cs h g q (inr w) = each-reached-all f (acted n cs h) (g .4) q w
+
+    each-reached-all : (f : Trees) (qs : List Position) → FollowsAll ante bet n f qs → (q : Position) → In q (positionsAll n f qs) → Reached n (q .0) (q .1)
+    each-reached-all nil qs g q w = absurd w
+    each-reached-all (cons t f) [] g q w = absurd g
+    each-reached-all (cons t f) (p ∷ qs) g q w = at (in-append q (positions n t (p .0) (p .1)) (positionsAll n f qs) w) (λ v. each-reached t (p .0) (p .1) (g .0) q v) (λ v. each-reached-all f qs (g .1) q v)
+      where
+        at : In q (positions n t (p .0) (p .1)) ⊎ In q (positionsAll n f qs) → (In q (positions n t (p .0) (p .1)) → Reached n (q .0) (q .1)) → (In q (positionsAll n f qs) → Reached n (q .0) (q .1)) → Reached n (q .0) (q .1)
+        at (inl v) x y = x v
+        at (inr v) x y = y v
+
+  -- ---- each reachable position is there
+  -- z comes right after q
+  abbrev Comes : Position → Position → Type 0
+  Comes q z = ((due n (q .0) ≡ true) × In z (dealt n (q .0) (q .1))) ⊎ ((live n (q .0) (q .1) ≡ true) × In z (acted n (q .0) (q .1)))
+
+  root-in : (t : Tree) (cs h : List ℕ) → In (cs, h) (positions n t cs h)
+  unfolding positions In
+  root-in (end p) cs h = inl refl
+  root-in (chance f) cs h = inl refl
+  root-in (decide j k f) cs h = inl refl
+
+  -- a child stands for each position that comes right after
+  child-in : (f : Trees) (qs : List Position) → FollowsAll ante bet n f qs → (z : Position) → In z qs → In z (positionsAll n f qs)
+  unfolding positions Follows In
+  child-in nil [] g z w = absurd w
+  child-in nil (q ∷ qs) g z w = absurd g
+  child-in (cons t f) [] g z w = absurd g
+  child-in (cons t f) (q ∷ qs) g z (inl e) = in-left z (positions n t (q .0) (q .1)) (positionsAll n f qs) (rw (← e) (root-in t (q .0) (q .1)))
+  child-in (cons t f) (q ∷ qs) g z (inr w) = in-right z (positions n t (q .0) (q .1)) (positionsAll n f qs) (child-in f qs (g .1) z w)
+
+  not-due : (cs h : List ℕ) (b : Bool) → and (eqb (length cs) n) b ≡ true → due n cs ≡ true → ⊥
+  not-due cs h b e d = let l : length cs < n = ltb-true (length cs) n d in omega (arith, eqb-true (length cs) n (and-left (eqb (length cs) n) b e))
+
+  not-both : (cs h : List ℕ) → over n cs h ≡ true → live n cs h ≡ true → ⊥
+  not-both cs h o l = true≢false (ended n h) (and-right (eqb (length cs) n) (ended n h) o) (not-true (ended n h) (and-right (eqb (length cs) n) (not (ended n h)) l))
+
+  mutual
+    unfolding positions Follows In
+
+    next-in : (t : Tree) (cs h : List ℕ) → Follows ante bet n t cs h → (q z : Position) → In q (positions n t cs h) → Comes q z → In z (positions n t cs h)
+    next-in (end p) cs h g q z (inl e) (inl (d, w)) = absurd (not-due cs h (ended n h) (g .1) (rw (← e) at d))
+    next-in (end p) cs h g q z (inl e) (inr (l, w)) = absurd (not-both cs h (g .1) (rw (← e) at l))
+    next-in (end p) cs h g q z (inr v) c = absurd v
+    next-in (chance f) cs h g q z (inl e) (inl (d, w)) = inr (child-in f (dealt n cs h) (g .2) z (rw (← e) at w))
+    next-in (chance f) cs h g q z (inl e) (inr (l, w)) = absurd (not-due cs h (not (ended n h)) (rw (← e) at l) (g .1))
+    next-in (chance f) cs h g q z (inr v) c = inr (next-in-all f (dealt n cs h) (g .2) q z v c)
+    next-in (decide j k f) cs h g q z (inl e) (inl (d, w)) = absurd (not-due cs h (not (ended n h)) (g .1) (rw (← e) at d))
+    next-in (decide j k f) cs h g q z (inl e) (inr (l, w)) = inr (child-in f (acted n cs h) (g .4) z (rw (← e) at w))
+    next-in (decide j k f) cs h g q z (inr v) c = inr (next-in-all f (acted n cs h) (g .4) q z v c)
+
+    next-in-all : (f : Trees) (qs : List Position) → FollowsAll ante bet n f qs → (q z : Position) → In q (positionsAll n f qs) → Comes q z → In z (positionsAll n f qs)
+    next-in-all nil qs g q z v c = absurd v
+    next-in-all (cons t f) [] g q z v c = absurd g
+    next-in-all (cons t f) (p ∷ qs) g q z v c = at (in-append q (positions n t (p .0) (p .1)) (positionsAll n f qs) v) (λ w. next-in t (p .0) (p .1) (g .0) q z w c) (λ w. next-in-all f qs (g .1) q z w c)
+      where
+        at : In q (positions n t (p .0) (p .1)) ⊎ In q (positionsAll n f qs) → (In q (positions n t (p .0) (p .1)) → In z (positions n t (p .0) (p .1))) → (In q (positionsAll n f qs) → In z (positionsAll n f qs))
+            → In z (positions n t (p .0) (p .1) ++ positionsAll n f qs)
+        at (inl w) x y = in-left z (positions n t (p .0) (p .1)) (positionsAll n f qs) (x w)
+        at (inr w) x y = in-right z (positions n t (p .0) (p .1)) (positionsAll n f qs) (y w)
+
+  -- an action that is a pass or a bet is legal
+  legal-in : (cs h : List ℕ) (a : ℕ) → live n cs h ≡ true → leb a BET ≡ true → In a (legal n cs h (turn n h))
+  unfolding In
+  legal-in cs h a l e = rw (legal-acts n cs h l) (at a (leb-true a BET e))
+    where
+      at : (a : ℕ) → a ≤ 1 → In a (PASS ∷ BET ∷ [])
+      at zero w = inl refl
+      at (suc zero) w = inr (inl refl)
+      at (suc (suc a)) w = absurd (omega arith)
+
+  module _ (t : Tree) (g : Follows ante bet n t [] []) where
+    reached-in : {cs h : List ℕ} → Reached n cs h → In (cs, h) (positions n t [] [])
+    unfolding dealt acted
+    reached-in start = root-in t [] []
+    reached-in (deal {cs} {h} c r d l) = next-in t [] [] g (cs, h) (cs ++ (c ∷ []), h) (reached-in r)
+        (inl (d, in-map (λ c. (cs ++ (c ∷ []), h)) c (remaining n cs) (in-of-left n cs c l)))
+    reached-in (act {cs} {h} a r l e) = next-in t [] [] g (cs, h) (cs, h ++ (a ∷ [])) (reached-in r)
+        (inr (l, in-map (λ a. (cs, h ++ (a ∷ []))) a (legal n cs h (turn n h)) (legal-in cs h a l e)))
+
+pub nodes-reached : NodesReached
+nodes-reached ante bet n l = (as-many, each-one, λ cs h r. let (a, w, e) = place-of ps (cs, h) ([], []) (reached-in ante bet n t g r) in (a, rw as-many at w, e))
+  where
+    t : Tree
+    t = kuhnTree ante bet n
+
+    ps : List Position
+    ps = positions n t [] []
+
+    g : Follows ante bet n t [] []
+    g = kuhn-follows n l ante bet
+
+    as-many : length ps ≡ size t
+    as-many = node-positions ante bet n t [] [] g
+
+    each-one : (a : ℕ) → a < size t → Reached n (getD ps a ([], []) .0) (getD ps a ([], []) .1)
+    each-one a w = each-reached ante bet n t [] [] g (getD ps a ([], [])) (at-place ps a ([], []) (rw as-many w))

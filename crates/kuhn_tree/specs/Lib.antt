@@ -1,0 +1,6 @@
+-- Kuhn's tree (document 01, "The tree and its sets"): what the rules give from the start, and the facts about it.
+pub mod Tree
+pub mod Follows
+pub mod Counts
+pub mod Order
+pub mod Facts

@@ -1,0 +1,1 @@
+// Kuhn's tree as the rules give it: definitions and facts, no code.
