@@ -10,6 +10,7 @@ use Rattle.refusals.specs.Refusals.{Check, first, _refuses_}
 use Rattle.refusals.specs.Refusals as Refusals
 use Rattle.finite.specs.Finite.{and, or}
 use Rattle.leduc_rules.specs.Rules.{closes, counted, in-play, ended, hidden, seen, remaining, due, live, legal, key, payoff}
+use Rattle.leduc_rules.specs.Stakes.{ante, raise₁, raise₂}
 use Rattle.leduc_rules.specs.Reached.{possible}
 use Rattle.leduc_rules.specs.Checks.{barred-by, card-checks, round-checks, public-checks}
 use Rattle.leduc_rules.specs.declared.Public.{Public}
@@ -18,16 +19,6 @@ use Rattle.leduc.specs.declared.LeducState.{LeducState}
 use Rattle.leduc.specs.declared.Moved.{Moved}
 use Rattle.leduc.specs.declared.Written.{Written}
 use Rattle.leduc.specs.declared.Payoffs.{Payoffs}
-
--- the stakes of today's calls
-abbrev pub ante : ℕ
-ante = 1
-
-abbrev pub raise₁ : ℕ
-raise₁ = 2
-
-abbrev pub raise₂ : ℕ
-raise₂ = 4
 
 -- ---- positions
 
@@ -104,26 +95,24 @@ abbrev pub started : Moved
 started = record { refusal = Refusals.accepted; state = initial }
 
 -- deal: the card of an outcome is the one that stands there among those left
+abbrev pub deal-checks : LeducState → ℕ → List Check
+deal-checks s k = (not (and (due (cardsOf s) (s .public) (roundOne s) (roundTwo s)) (ltb k (length (remaining (seenOf s))))) refuses Refusals.unfit) ∷ []
+
 unfoldable pub deal-refusal : LeducState → ℕ → ℕ
-deal-refusal s k =
-    first
-    (position-checks s
-    ++ (not (and (due (cardsOf s) (s .public) (roundOne s) (roundTwo s)) (ltb k (length (remaining (seenOf s))))) refuses Refusals.unfit)
-    ∷ [])
+deal-refusal s k = first (position-checks s ++ deal-checks s k)
 
 abbrev pub dealt : LeducState → ℕ → Moved
 dealt s k = moved (deal-refusal s k) s (with-card s (getD (remaining (seenOf s)) k 0))
 
--- step
-abbrev pub in-playOf : LeducState → List ℕ
-in-playOf s = in-play (roundOne s) (roundTwo s)
+-- step: an illegal action becomes FOLD if that is legal, else CALL
+abbrev pub step-checks : LeducState → List Check
+step-checks s = (not (live (cardsOf s) (s .public) (roundOne s) (roundTwo s)) refuses Refusals.unfit) ∷ []
 
 unfoldable pub step-refusal : LeducState → ℕ
-step-refusal s =
-    first
-    (position-checks s
-    ++ (not (live (cardsOf s) (s .public) (roundOne s) (roundTwo s)) refuses Refusals.unfit)
-    ∷ [])
+step-refusal s = first (position-checks s ++ step-checks s)
+
+abbrev pub in-playOf : LeducState → List ℕ
+in-playOf s = in-play (roundOne s) (roundTwo s)
 
 abbrev pub stepped : LeducState → ℕ → Moved
 stepped s a = moved (step-refusal s) s (with-action s (counted (in-playOf s) a))
@@ -132,39 +121,44 @@ stepped s a = moved (step-refusal s) s (with-action s (counted (in-playOf s) a))
 abbrev pub legal-of : LeducState → ℕ → List ℕ
 legal-of s t = legal (cardsOf s) (s .public) (roundOne s) (roundTwo s) t
 
+abbrev pub legal-checks : LeducState → ℕ → ℕ → List Check
+legal-checks s t room = (ltb room (length (legal-of s t)) refuses Refusals.output) ∷ []
+
 unfoldable pub legal-refusal : LeducState → ℕ → ℕ → ℕ
-legal-refusal s t room =
-    first
-    (position-checks s
-    ++ (ltb room (length (legal-of s t)) refuses Refusals.output)
-    ∷ [])
+legal-refusal s t room = first (position-checks s ++ legal-checks s t room)
+
+abbrev pub listed : LeducState → ℕ → ℕ → Written
+listed s t room = wrote (legal-refusal s t room) s (length (legal-of s t))
 
 -- key, of a seat t that has a card
 abbrev pub key-of : LeducState → ℕ → List ℕ
 key-of s t = key (cardsOf s) (s .public) (roundOne s) (roundTwo s) t
 
+abbrev pub key-checks : LeducState → ℕ → ℕ → List Check
+key-checks s t room = (leb (length (cardsOf s)) t refuses Refusals.unfit) ∷ (ltb room (length (key-of s t)) refuses Refusals.output) ∷ []
+
 unfoldable pub key-refusal : LeducState → ℕ → ℕ → ℕ
-key-refusal s t room =
-    first
-    (position-checks s
-    ++ (leb (length (cardsOf s)) t refuses Refusals.unfit)
-    ∷ (ltb room (length (key-of s t)) refuses Refusals.output)
-    ∷ [])
+key-refusal s t room = first (position-checks s ++ key-checks s t room)
+
+abbrev pub keyed : LeducState → ℕ → ℕ → Written
+keyed s t room = wrote (key-refusal s t room) s (length (key-of s t))
 
 -- payoff, at the end of a hand: a number for each seat, 0 past the seats
+abbrev pub payoff-checks : LeducState → List Check
+payoff-checks s = (not (ended (roundOne s) (roundTwo s)) refuses Refusals.unfit) ∷ []
+
 unfoldable pub payoff-refusal : LeducState → ℕ
-payoff-refusal s =
-    first
-    (position-checks s
-    ++ (not (ended (roundOne s) (roundTwo s)) refuses Refusals.unfit)
-    ∷ [])
+payoff-refusal s = first (position-checks s ++ payoff-checks s)
 
 abbrev pub payoff-of : LeducState → ℕ → ℤ
 payoff-of s t = payoff ante raise₁ raise₂ (cardsOf s) (s .public) (roundOne s) (roundTwo s) t
 
-abbrev pub paid : ℕ → LeducState → Payoffs
-paid zero s = record { refusal = zero; state = s; count = 2; payoffs = payoff-of s 0 ∷ payoff-of s 1 ∷ replicate 8 (pos 0) }
-paid (suc r) s = record { refusal = suc r; state = s; count = 0; payoffs = replicate 10 (pos 0) }
+abbrev pub payoff-answer : ℕ → LeducState → Payoffs
+payoff-answer zero s = record { refusal = zero; state = s; count = 2; payoffs = payoff-of s 0 ∷ payoff-of s 1 ∷ replicate 8 (pos 0) }
+payoff-answer (suc r) s = record { refusal = suc r; state = s; count = 0; payoffs = replicate 10 (pos 0) }
+
+abbrev pub paid : LeducState → Payoffs
+paid s = payoff-answer (payoff-refusal s) s
 
 -- numbers 10 to 17 of a saved position; without the public card no action of round 2 is legal
 unfoldable pub saved-checks : LeducState → List Check
@@ -175,16 +169,15 @@ saved-checks s =
     ++ (round-checks (barred-by (roundOne s)) (hidden (s .public)) (s .acted2) (roundTwo s)
     ++ public-checks (hidden (s .public)) (roundOne s) (roundTwo s)))
 
--- saved position with its end mark: 0 for a live hand, 1 for one that has ended
+-- its end mark: 0 for a live hand, 1 for one that has ended
 abbrev pub mark : Bool → ℕ
 mark b = cond b 1 0
 
+abbrev pub mark-checks : LeducState → ℕ → List Check
+mark-checks s m = (not (eqb m (mark (ended (roundOne s) (roundTwo s)))) refuses Refusals.end-mark) ∷ []
+
 unfoldable pub saved-refusal : LeducState → ℕ → ℕ
-saved-refusal s m =
-    first
-    (saved-checks s
-    ++ (not (eqb m (mark (ended (roundOne s) (roundTwo s)))) refuses Refusals.end-mark)
-    ∷ [])
+saved-refusal s m = first (saved-checks s ++ mark-checks s m)
 
 abbrev pub checked : LeducState → ℕ → Moved
 checked s m = record { refusal = saved-refusal s m; state = s }

@@ -23,8 +23,8 @@ use leduc_rules::Public;
 ghost use mathlib.Core.Path.{_≡_};
 ghost use lib.IntN.{pos};
 ghost use lib.ListN.{length, replicate};
-ghost use Rattle.leduc.specs.Calls.{initial, started, dealt, stepped, legal-of, legal-refusal, key-of, key-refusal, wrote, written};
-ghost use Rattle.leduc.specs.Calls.{payoff-refusal, paid, checked};
+ghost use Rattle.leduc.specs.Calls.{initial, started, dealt, stepped, legal-of, legal-refusal, listed, key-of, key-refusal, keyed, written};
+ghost use Rattle.leduc.specs.Calls.{paid, checked};
 
 // The game.
 pub struct LeducPoker {}
@@ -94,7 +94,7 @@ impl LeducPoker {
 
     // Legal list: what a seat may do at its turn; nothing otherwise.
     pub fn legal_actions(state: LeducState, agent: usize, out: &mut [u8]) -> Written
-        ensures answer { λ r. ⌜ r ≡ wrote (legal-refusal state agent (length (now (out .entry)))) state (length (legal-of state agent)) ⌝ }
+        ensures answer { λ r. ⌜ r ≡ listed state agent (length (now (out .entry))) ⌝ }
         ensures output { λ r. ⌜ now (out .exit) ≡ written (legal-refusal state agent (length (now (out .entry)))) (legal-of state agent) (now (out .entry)) ⌝ }
     {
         if !is_reachable(state) {
@@ -176,7 +176,7 @@ impl LeducPoker {
 
     // Key: what a seat that has a card knows.
     pub fn information_state_key(state: LeducState, agent: usize, out: &mut [u8]) -> Written
-        ensures answer { λ r. ⌜ r ≡ wrote (key-refusal state agent (length (now (out .entry)))) state (length (key-of state agent)) ⌝ }
+        ensures answer { λ r. ⌜ r ≡ keyed state agent (length (now (out .entry))) ⌝ }
         ensures output { λ r. ⌜ now (out .exit) ≡ written (key-refusal state agent (length (now (out .entry)))) (key-of state agent) (now (out .entry)) ⌝ }
     {
         if !is_reachable(state) {
@@ -211,7 +211,7 @@ impl LeducPoker {
 
     // Payoff: what each seat gains at the end of the hand.
     pub fn payouts(state: LeducState) -> Payoffs
-        ensures { λ r. ⌜ r ≡ paid (payoff-refusal state) state ⌝ }
+        ensures { λ r. ⌜ r ≡ paid state ⌝ }
     {
         if !is_reachable(state) {
             return no_payoffs(state, refusals::UNREACHABLE);

@@ -8,6 +8,7 @@ ghost use lib.IntN.{pos, negℤ};
 ghost use Rattle.finite.specs.Finite.{or};
 ghost use Prim.Native.Nat.{ℕ, _+_, _-_, _≤_};
 ghost use lib.ListN.{length};
+ghost use Rattle.leduc_rules.specs.Stakes.{ante, raise₁, raise₂};
 ghost use Rattle.leduc_rules.specs.Rules.{matched, seated, after-round, folds, pairs, beats, wins, payoff};
 
 // What the seat to act has paid after an action.
@@ -57,7 +58,7 @@ pub fn round_pot(pot: Pot, size: usize, h: &[u8]) -> Pot
 // What both seats have paid, seat 0 first.
 pub fn contributions(round1: &[u8], round2: &[u8]) -> Pot
     requires { ⌜ (length (now round1) ≤ 4) × (length (now round2) ≤ 4) ⌝ }
-    ensures { λ r. ⌜ r ≡ after-round 4 (after-round 2 (record { acting = 1; other = 1 }) (now (round1 .entry))) (now (round2 .entry)) ⌝ }
+    ensures { λ r. ⌜ r ≡ after-round raise₂ (after-round raise₁ (record { acting = ante; other = ante }) (now (round1 .entry))) (now (round2 .entry)) ⌝ }
 {
     let start = Pot {
         acting: crate::ANTE,
@@ -160,7 +161,7 @@ pub struct Gains {
 
 pub fn settled(cards: [u8; 2], public: Public, round1: &[u8], round2: &[u8]) -> Gains
     requires { ⌜ (length (now round1) ≤ 4) × (length (now round2) ≤ 4) ⌝ }
-    ensures { λ r. ⌜ (r .zero ≡ payoff 1 2 4 cards public (now (round1 .entry)) (now (round2 .entry)) 0) × (r .one ≡ payoff 1 2 4 cards public (now (round1 .entry)) (now (round2 .entry)) 1) ⌝ }
+    ensures { λ r. ⌜ (r .zero ≡ payoff ante raise₁ raise₂ cards public (now (round1 .entry)) (now (round2 .entry)) 0) × (r .one ≡ payoff ante raise₁ raise₂ cards public (now (round1 .entry)) (now (round2 .entry)) 1) ⌝ }
 {
     let pot = contributions(round1, round2);
     let first = is_winner(cards, public, round1, round2, 0, 1);
