@@ -137,10 +137,11 @@ unfoldable pub bet : (size : ℕ) → Pot → List ℕ → Pot
 bet size q [] = q
 bet size q (a ∷ h) = bet size (record { acting = q .other; other = matched size q a }) h
 
--- the same with seat 0 first, which acts at the start of a round: after an odd number of actions it is the other
+-- what both have paid, seat 0 first: it begins the round, so after an odd number of actions it is the other
 unfoldable pub seated : ℕ → Pot → Pot
 seated n q = cond (eqb (n % 2) 0) q (record { acting = q .other; other = q .acting })
 
+-- what both have paid after a round, seat 0 first
 unfoldable pub after-round : (size : ℕ) → Pot → List ℕ → Pot
 after-round size q h = seated (length h) (bet size q h)
 
