@@ -1,14 +1,14 @@
 -- Laws of the sets of a tree: each decision has its set among them, no two are one, and a property of all decisions is one of all sets. Nothing is assumed.
 use mathlib.Core.Path.{_≡_, refl, sym, ap, ap₂, _∙_}
 use mathlib.Core.Bool.{Bool, true, false, cond}
-use mathlib.Core.List.{List, [], _∷_, _++_}
+use mathlib.Core.List.{List, [], _∷_, _++_, append-assoc}
 use Prim.Native.Nat.{ℕ, suc, _+_}
 use native.Mathlib.Omega.{arith}
 use lib.Dec.{eqb}
 use lib.ListN.{length, length-append}
-use Rattle.game.specs.Tree.{Key, Tree, end, chance, decide, Trees, nil, cons, Every, EveryAll}
+use Rattle.game.specs.Tree.{Key, Tree, end, chance, decide, Trees, nil, cons, fan, Every, EveryAll}
 use Rattle.game.specs.Reply.{same}
-use Rattle.game.specs.Sets.{size, sizes, preorder, preorderAll, Decision, decisions, decisionsAll, isOf, met, firsts, sets, SameActions}
+use Rattle.game.specs.Sets.{size, sizes, preorder, preorderAll, Decision, decisions, decisionsAll, decisionOf, decisionsOf, isOf, met, firsts, sets, SameActions}
 use Rattle.game.proofs.Tests.{Tested, is, isn't, tested, T-of, same→eq, same-self, eqb-is, eqb-self}
 
 -- ---- a tree has as many nodes as its size
@@ -23,6 +23,24 @@ mutual
   preorder-all-length : (f : Trees) → length (preorderAll f) ≡ sizes f
   preorder-all-length nil = refl
   preorder-all-length (cons t f) = length-append (preorder t) (preorderAll f) ∙ ap₂ _+_ (preorder-length t) (preorder-all-length f)
+
+-- ---- the decisions are those of the nodes, in their order
+decisionsOf-append : (ts us : List Tree) → decisionsOf (ts ++ us) ≡ decisionsOf ts ++ decisionsOf us
+unfolding decisionsOf
+decisionsOf-append [] us = refl
+decisionsOf-append (t ∷ ts) us = ap (λ l. decisionOf t ++ l) (decisionsOf-append ts us) ∙ sym (append-assoc (decisionOf t) (decisionsOf ts) (decisionsOf us))
+
+mutual
+  unfolding decisions preorder decisionsOf
+
+  pub decisions-of-nodes : (t : Tree) → decisions t ≡ decisionsOf (preorder t)
+  decisions-of-nodes (end p) = refl
+  decisions-of-nodes (chance f) = decisions-of-nodes-all f
+  decisions-of-nodes (decide j k f) = ap (λ l. (j, k, fan f) ∷ l) (decisions-of-nodes-all f)
+
+  decisions-of-nodes-all : (f : Trees) → decisionsAll f ≡ decisionsOf (preorderAll f)
+  decisions-of-nodes-all nil = refl
+  decisions-of-nodes-all (cons t f) = ap₂ _++_ (decisions-of-nodes t) (decisions-of-nodes-all f) ∙ sym (decisionsOf-append (preorder t) (preorderAll f))
 
 -- ---- properties of decisions, one by one
 abbrev pub Property : Type 1

@@ -11,7 +11,7 @@ use Rattle.game.specs.Reply.{replyTree, best, reply}
 use Rattle.game.specs.Sets.{sets, entriesOf, before, SameActions}
 use Rattle.game.specs.Table.{Table, strategyOf, tableOf, ValidTable, KeepsTable, tableWorth, tableBest, replyTable, nashConv}
 use Rattle.game.specs.Small.{small}
-use Rattle.game.specs.TableTheorem.{NodesCounted, TableBack, StrategyBack, TableValid, StrategyValid, ValidMeans, TableRival, ReplyTableRival, ReplyTableWorth, NoRivalTableBetter}
+use Rattle.game.specs.TableTheorem.{NodesCounted, DecisionsOfNodes, TableBack, StrategyBack, TableValid, StrategyValid, ValidMeans, TableRival, ReplyTableRival, ReplyTableWorth, NoRivalTableBetter}
 use Rattle.game.specs.TableTheorem.{ReplyTableEntries, OwnTableEntriesFree, TableUnitsAddUp, TableBounds, NashConvNotBelow, smallTable, SmallNoRivalTable}
 use Rattle.game.proofs.Integers.{+ℤ-mono, +ℤ-cancel}
 use Rattle.game.proofs.Against.{every-both, own-entries-free}
@@ -20,12 +20,15 @@ use Rattle.game.proofs.Bounds.{value-bound, worth-bound}
 use Rattle.game.proofs.Rival.{no-rival-better, reply-is-rival, reply-worth}
 use Rattle.game.proofs.Small.{small-premises}
 use Rattle.game.proofs.Computed.{small-replies}
-use Rattle.game.proofs.Sets.{preorder-length, every→sets, sets-distinct, Stands, sets-stand}
+use Rattle.game.proofs.Sets.{preorder-length, decisions-of-nodes, every→sets, sets-distinct, Stands, sets-stand}
 use Rattle.game.proofs.Tables.{Same, worth-same, laidOut-length, laidOut-at, laidOut-adds, adds-at, laidOut-back, seats-at, laidOut-keeps}
 pub use Rattle.game.proofs.Computed.{first-nodes, small-sets, small-tables}
 
 pub nodes-counted : NodesCounted
 nodes-counted t = preorder-length t
+
+pub nodes-decisions : DecisionsOfNodes
+nodes-decisions t = decisions-of-nodes t
 
 pub table-back : TableBack
 unfolding strategyOf

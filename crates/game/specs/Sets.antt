@@ -60,6 +60,19 @@ unfoldable mutual
   decisionsAll nil = []
   decisionsAll (cons t f) = decisions t ++ decisionsAll f
 
+-- the decision that a node is, if it is one
+unfoldable pub decisionOf : Tree → List Decision
+unfolding fan
+decisionOf (end p) = []
+decisionOf (chance f) = []
+decisionOf (decide j k f) = (j, k, fan f) ∷ []
+
+-- those of a list of nodes
+unfoldable pub decisionsOf : List Tree → List Decision
+unfolding decisionOf
+decisionsOf [] = []
+decisionsOf (t ∷ ts) = decisionOf t ++ decisionsOf ts
+
 -- a decision is of the set of seat j and key k
 unfoldable pub isOf : ℕ → Key → Decision → Bool
 unfolding same

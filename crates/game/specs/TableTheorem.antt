@@ -10,13 +10,17 @@ use lib.Signed.{_≤ℤ_}
 use Rattle.game.specs.Tree.{Tree, Strategy, all, U, units, Splits, Pays, Every, Valid, Rival}
 use Rattle.game.specs.Reply.{reply}
 use Rattle.game.specs.Recall.{PerfectRecall}
-use Rattle.game.specs.Sets.{size, preorder, firsts, sets, setNumber, setMembers, entries, firstEntry, SameActions}
+use Rattle.game.specs.Sets.{size, preorder, decisions, decisionsOf, firsts, sets, setNumber, setMembers, entries, firstEntry, SameActions}
 use Rattle.game.specs.Table.{Table, strategyOf, tableOf, ValidTable, KeepsTable, RivalTable, tableWorth, tableBest, replyTable, nashConv}
 use Rattle.game.specs.Small.{small, given}
 
 -- 1. A tree has as many nodes as its size says.
 abbrev pub NodesCounted : Type 0
 NodesCounted = (t : Tree) → length (preorder t) ≡ size t
+
+-- Its decisions come in the order of its nodes.
+abbrev pub DecisionsOfNodes : Type 0
+DecisionsOfNodes = (t : Tree) → decisions t ≡ decisionsOf (preorder t)
 
 -- 2. A table is the table of its own strategy.
 abbrev pub TableBack : Type 0
