@@ -10,6 +10,13 @@ use Rattle.kuhn.specs.Calls.{paid, saved-refusal}
 use Rattle.kuhn.specs.declared.KuhnPoker.{KuhnPoker}
 use Rattle.kuhn.specs.declared.KuhnState.{KuhnState}
 use Rattle.kuhn.specs.declared.Payoffs.{Payoffs}
+use Rattle.leduc_rules.specs.Rules.{FOLD, CALL, RAISE, contribution}
+use Rattle.leduc_rules.specs.Stakes.{ante, raise₁, raise₂}
+use Rattle.leduc_rules.specs.declared.Public.{Public}
+use Rattle.leduc_rules.specs.declared.Public.the-variants.{Hidden, Card}
+use Rattle.leduc.specs.Calls as Leduc
+use Rattle.leduc.specs.Calls.{legal-of, key-of}
+use Rattle.leduc.specs.declared.LeducState.{LeducState}
 
 -- ---- what a case is
 
@@ -50,6 +57,30 @@ kuhn-at cs h = record { cards = cs ++ replicate (10 - length cs) 0; dealt = leng
 abbrev pub payoffs : Payoffs → List ℤ
 payoffs r = take (r .count) (r .payoffs)
 
+-- ---- Leduc
+
+-- the position with these cards, this public card and these histories, 0 past them
+abbrev pub leduc-at : List ℕ → Public → List ℕ → List ℕ → LeducState
+leduc-at cs p h₁ h₂ = record {
+  cards = cs ++ replicate (2 - length cs) 0;
+  dealt = length cs;
+  public = p;
+  history = h₁ ++ replicate (4 - length h₁) 0 ++ h₂ ++ replicate (4 - length h₂) 0;
+  acted1 = length h₁;
+  acted2 = length h₂;
+}
+
+-- a legal list or a key
+abbrev pub bytes : List ℕ → List ℤ
+bytes bs = map pos bs
+
+-- what both seats have paid
+abbrev pub paid-in : List ℕ → List ℕ → List ℤ
+paid-in h₁ h₂ = pos (contribution ante raise₁ raise₂ h₁ h₂ 0) ∷ pos (contribution ante raise₁ raise₂ h₁ h₂ 1) ∷ []
+
+abbrev pub leduc-payoffs : LeducState → List ℤ
+leduc-payoffs s = take (Leduc.paid s .count) (Leduc.paid s .payoffs)
+
 -- ---- the cases
 
 abbrev pub cases : List Case
@@ -58,4 +89,10 @@ cases =
     ∷ case "b" (payoffs (paid kuhn2 (kuhn-at (0 ∷ 1 ∷ []) (BET ∷ PASS ∷ [])))) (plus 1 ∷ minus 1 ∷ [])
     ∷ case "c" (payoffs (paid kuhn2 (kuhn-at (2 ∷ 0 ∷ []) (PASS ∷ BET ∷ BET ∷ [])))) (plus 2 ∷ minus 2 ∷ [])
     ∷ case "d" (refusal (saved-refusal kuhn2 (kuhn-at (0 ∷ 1 ∷ []) (PASS ∷ PASS ∷ BET ∷ [])) 1)) (refusal 14)
+    ∷ case "e" (bytes (legal-of (leduc-at (0 ∷ 5 ∷ []) Hidden [] []) 0)) (bytes (CALL ∷ RAISE ∷ []))
+    ∷ case "f" (bytes (legal-of (leduc-at (0 ∷ 5 ∷ []) Hidden (RAISE ∷ []) []) 1)) (bytes (FOLD ∷ CALL ∷ RAISE ∷ []))
+    ∷ case "g" (bytes (legal-of (leduc-at (0 ∷ 5 ∷ []) Hidden (RAISE ∷ RAISE ∷ []) []) 0)) (bytes (FOLD ∷ CALL ∷ []))
+    ∷ case "h" (leduc-payoffs (leduc-at (0 ∷ 5 ∷ []) (Card 1) (CALL ∷ CALL ∷ []) (CALL ∷ CALL ∷ []))) (plus 1 ∷ minus 1 ∷ [])
+    ∷ case "i" (paid-in (RAISE ∷ RAISE ∷ CALL ∷ []) (RAISE ∷ RAISE ∷ CALL ∷ []) ++ leduc-payoffs (leduc-at (0 ∷ 1 ∷ []) (Card 2) (RAISE ∷ RAISE ∷ CALL ∷ []) (RAISE ∷ RAISE ∷ CALL ∷ []))) (plus 13 ∷ plus 13 ∷ plus 0 ∷ plus 0 ∷ [])
+    ∷ case "j" (bytes (key-of (leduc-at (0 ∷ 4 ∷ []) Hidden (RAISE ∷ []) []) 1)) (bytes (1 ∷ 4 ∷ 255 ∷ 1 ∷ 2 ∷ 0 ∷ []))
     ∷ []

@@ -1,0 +1,3 @@
+-- Leduc hold'em as calls on positions: what each call answers.
+pub mod Calls
+pub mod Facts

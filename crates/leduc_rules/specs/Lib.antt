@@ -1,0 +1,6 @@
+-- Leduc hold'em (document 01, "The two games"; Southey et al. 2005): the rules, the positions that they reach, and the checks of a saved one.
+pub mod Rules
+pub mod Stakes
+pub mod Reached
+pub mod Checks
+pub mod Facts
