@@ -11,7 +11,7 @@ use lib.ListN.{length, getD, take, set, replicate, length-append, length-set, le
 use lib.Seq.{length-take-le, getD-take, take-suc, getD-at, getD-set-same, getD-set-other, ext-getD}
 use borrow.Author.Tests.{eq-eqb, ne-eqb, eqb-true, eqb-false, lt-ltb, le-ltb, ltb-true}
 use Rattle.finite.specs.Finite.{and, or, some, every, sum, those, has, places}
-use Rattle.finite.proofs.Tests.{Tested, holds, fails, tested, true≢false, iff, or-left, or-right, neither, below-cases, some-same, none, some-here}
+use Rattle.finite.proofs.Tests.{Tested, holds, fails, tested, true≢false, iff, both, and-left-fails, and-right-fails, or-left, or-right, neither, below-cases, some-same, none, some-here}
 
 -- ---- a front part
 
@@ -125,6 +125,43 @@ module _ (p : ℕ → Bool) where
       go : Tested (p n) → (i < length (those n p) → Among n (getD (those n p) i d)) → Among (suc n) (getD (those (suc n) p) i d)
       go (holds e) f = last e (those (suc n) p) (those-kept n e) h f
       go (fails e) f = same (those (suc n) p) (those-passed n e) h f
+
+  -- they stand in ascending order
+  pub those-ascending : (n i j d : ℕ) → i < j → j < length (those n p) → getD (those n p) i d < getD (those n p) j d
+  unfolding those
+  those-ascending zero i j d h w = absurd (omega arith)
+  those-ascending (suc n) i j d h w = go (tested (p n)) (those-ascending n i j d h)
+    where
+      last : p n ≡ true → (l : List ℕ) → l ≡ those n p ++ (n ∷ []) → j < length l → (j < length (those n p) → getD (those n p) i d < getD (those n p) j d) → getD l i d < getD l j d
+      last e l q v f =
+          below-cases j (length (those n p)) (omega (arith, ap length q, length-append (those n p) (n ∷ [])))
+          (λ u. rw (q, List·getD-append (those n p) (n ∷ []) d i (omega arith), List·getD-append (those n p) (n ∷ []) d j u) (f u))
+          (λ u. rw (q, List·getD-append (those n p) (n ∷ []) d i (omega arith), getD-at (those n p) n [] d j (sym u)) (those-below n i d (omega arith) .0))
+
+      go : Tested (p n) → (j < length (those n p) → getD (those n p) i d < getD (those n p) j d) → getD (those (suc n) p) i d < getD (those (suc n) p) j d
+      go (holds e) f = last e (those (suc n) p) (those-kept n e) w f
+      go (fails e) f = rw (those-passed n e) (f (rw (those-passed n e) at w))
+
+  -- c stands there just if it is below the bound and the test holds of it
+  pub has-those : (c n : ℕ) → has c (those n p) ≡ and (ltb c n) (p c)
+  unfolding those has
+  has-those c zero = rw (le-ltb c 0 (omega arith)) (sym (and-left-fails (p c) refl))
+  has-those c (suc n) = go (tested (p n)) (has-those c n)
+    where
+      wider : (c ≡ n → ⊥) → ltb c n ≡ ltb c (suc n)
+      wider f = iff (λ t. let v = ltb-true c n t in lt-ltb c (suc n) (omega arith)) (λ t. let v = ltb-true c (suc n) t in lt-ltb c n (omega arith))
+
+      here : p n ≡ true → Tested (eqb c n) → or (and (ltb c n) (p c)) (or (eqb n c) false) ≡ and (ltb c (suc n)) (p c)
+      here e (holds t) = let q = eqb-true c n t in or-right (and (ltb c n) (p c)) (or-left false (eq-eqb n c (sym q))) ∙ sym (both (lt-ltb c (suc n) (omega arith)) (ap p q ∙ e))
+      here e (fails t) = let q = eqb-false c n t in ap (or (and (ltb c n) (p c))) (or-none (eqb n c) ∙ ne-eqb n c (λ z. q (sym z))) ∙ or-none (and (ltb c n) (p c)) ∙ ap (λ b. and b (p c)) (wider q)
+
+      gone : p n ≡ false → Tested (eqb c n) → and (ltb c n) (p c) ≡ and (ltb c (suc n)) (p c)
+      gone e (holds t) = let q = eqb-true c n t in and-right-fails (ltb c n) (ap p q ∙ e) ∙ sym (and-right-fails (ltb c (suc n)) (ap p q ∙ e))
+      gone e (fails t) = ap (λ b. and b (p c)) (wider (eqb-false c n t))
+
+      go : Tested (p n) → has c (those n p) ≡ and (ltb c n) (p c) → has c (those (suc n) p) ≡ and (ltb c (suc n)) (p c)
+      go (holds e) f = ap (has c) (those-kept n e) ∙ has-append c (those n p) (n ∷ []) ∙ ap (λ b. or b (or (eqb n c) false)) f ∙ here e (tested (eqb c n))
+      go (fails e) f = ap (has c) (those-passed n e) ∙ f ∙ gone e (tested (eqb c n))
 
 -- ---- sums
 

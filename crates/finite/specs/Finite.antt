@@ -3,6 +3,7 @@ use mathlib.Core.Bool.{Bool, true, false, not}
 use mathlib.Core.List.{List, [], _∷_, _++_}
 use Prim.Native.Nat.{ℕ, zero, suc, _+_}
 use lib.Dec.{eqb}
+use lib.IntN.{ℤ, pos, _+ℤ_}
 
 unfoldable pub and : Bool → Bool → Bool
 and true b = b
@@ -26,6 +27,11 @@ every (suc n) p = and (every n p) (p n)
 unfoldable pub sum : ℕ → (ℕ → ℕ) → ℕ
 sum zero f = 0
 sum (suc n) f = sum n f + f n
+
+-- the same, of whole numbers
+unfoldable pub sumℤ : ℕ → (ℕ → ℤ) → ℤ
+sumℤ zero f = pos 0
+sumℤ (suc n) f = sumℤ n f +ℤ f n
 
 -- the numbers below n of which p holds, in ascending order
 unfoldable pub those : ℕ → (ℕ → Bool) → List ℕ

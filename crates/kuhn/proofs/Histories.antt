@@ -76,7 +76,7 @@ quiet-less l b k h q i w e = q i (omega arith) e
 
 -- ---- actions after the end
 
-overrun-take : (n a : ℕ) (l : List ℕ) → a ≤ length l → overrun n (take a l) ≡ some a (λ k. ended n (take k l))
+pub overrun-take : (n a : ℕ) (l : List ℕ) → a ≤ length l → overrun n (take a l) ≡ some a (λ k. ended n (take k l))
 unfolding overrun
 overrun-take n a l h = rw (length-take-le a l h) (some-same a (λ k. ended n (take k (take a l))) (λ k. ended n (take k l)) (λ k w. ap (ended n) (take-take k a l (omega arith))))
 

@@ -6,3 +6,6 @@ pub mod Amounts
 pub mod Positions
 pub mod Answers
 pub mod Outputs
+pub mod Moves
+pub mod Balance
+pub mod Facts

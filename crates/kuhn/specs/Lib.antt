@@ -3,3 +3,4 @@ pub mod Rules
 pub mod Money
 pub mod Reached
 pub mod Calls
+pub mod Facts

@@ -1,0 +1,16 @@
+-- Whether a seat has acted before both have a card. Assumes nothing.
+use Rattle.finite.specs.Finite.{or}
+use Rattle.leduc_rules.proofs.Histories.{positive}
+use Rattle.leduc_rules.proofs.play.early.Statement.{statement}
+use Rattle.leduc_rules.proofs.play.early.Tie as tie
+
+returns : tie.Need-returns
+unfolding or
+returns c = rw (c .if1 .taken)
+
+returns-2 : tie.Need-returns-2
+unfolding or
+returns-2 c = rw (c .if1 .left) (positive (c .before .args .acted))
+
+pub early-spec : {M : Type 1} → statement M
+early-spec = tie.close (tie.spec returns returns-2)
