@@ -19,3 +19,6 @@ pub mod Sets
 pub mod Counting
 pub mod Tables
 pub mod TableTheorem
+pub mod Numbers
+pub mod Tries
+pub mod Checked

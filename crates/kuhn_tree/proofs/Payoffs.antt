@@ -10,6 +10,7 @@ use lib.IntN.{ℤ, pos, negsuc, negℤ, natAbs}
 use Rattle.finite.specs.Finite.{sum}
 use Rattle.finite.proofs.Lists.{sum-without}
 use Rattle.game.specs.Tree.{Tree, Pays, PaysAll}
+use Rattle.game.proofs.Integers.{size-of-loss}
 use Rattle.kuhn.specs.Rules.{PASS, BET, ended, bets, remaining, contribution, wins, paid-by-others, payoff}
 use Rattle.kuhn_tree.specs.Tree.{each, m, kuhnTree, largestPayoff}
 use Rattle.kuhn_tree.proofs.Shape.{hand, deals, kuhn-deals}
@@ -23,10 +24,6 @@ sum-constant : (n K : ℕ) → sum n (λ q. K) ≡ n * K
 unfolding sum
 sum-constant zero K = sym (NatL.zero-mul K)
 sum-constant (suc n) K = ap (λ x. x + K) (sum-constant n K) ∙ sym (NatL.suc-mul n K)
-
-size-of-loss : (x : ℕ) → natAbs (negℤ (pos x)) ≡ x
-size-of-loss zero = refl
-size-of-loss (suc x) = refl
 
 module _ (ante bet n : ℕ) where
   contribution-most : (h : List ℕ) (p : ℕ) → contribution ante bet n h p ≤ ante + bet

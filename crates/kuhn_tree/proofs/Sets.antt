@@ -17,9 +17,10 @@ use Rattle.game.specs.Sets.{Decision, decisions, decisionsAll, sets, setCount, 
 use Rattle.game.specs.Sums.{sumℕ}
 use Rattle.game.proofs.Sets.{Each, every→sets}
 use Rattle.game.proofs.Counting.{In, in-left, in-right, in-append, Once, once-append, once-length, sets-once, sets-in, in-sets}
+use Rattle.game.proofs.Numbers.{those-once}
 use Rattle.kuhn.specs.Rules.{PASS, BET, ended, turn, key, left, remaining}
 use Rattle.kuhn_tree.specs.Tree.{each, m, kuhnTree}
-use Rattle.kuhn_tree.proofs.Cards.{in-those, those-once, left-of-in, in-of-left, left-other, left-itself, remaining-less, remaining-all}
+use Rattle.kuhn_tree.proofs.Cards.{left-of-in, in-of-left, left-other, left-itself, remaining-less, remaining-all}
 use Rattle.kuhn_tree.proofs.Shape.{hand, deals, kuhn-deals}
 use Rattle.kuhn_tree.proofs.Units.{kuhn-every}
 
