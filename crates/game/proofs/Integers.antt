@@ -1,5 +1,5 @@
 -- The laws of the integers that `lib.IntN` and `lib.Signed` lack: multiples by a natural number, and how the order goes with sums and multiples. Nothing is assumed.
-use mathlib.Core.Path.{_≡_, sym, ap, _∙_}
+use mathlib.Core.Path.{_≡_, refl, sym, ap, _∙_}
 use mathlib.Core.Logic.{_⊎_, inl, inr}
 use mathlib.Core.Bool.{Bool, true, false, not, cond}
 use Prim.Native.Nat.{ℕ, zero, suc, _+_, _*_, _-_, _≤_, _<_, zero-le, suc-le-suc}
@@ -182,3 +182,8 @@ size-of-sum (negsuc a) (negsuc b) = omega arith
 pub size-of-multiple : (n : ℕ) (z : ℤ) (B : ℕ) → natAbs z ≤ B → natAbs (n · z) ≤ n * B
 size-of-multiple zero z B h = rw (·-none z) zero-le
 size-of-multiple (suc n) z B h = rw (·-suc n z, NatL.suc-mul n B) (NatL.le-trans (size-of-sum (n · z) z) (NatL.add-le-add (size-of-multiple n z B h) h))
+
+-- the size of what is lost
+pub size-of-loss : (x : ℕ) → natAbs (negℤ (pos x)) ≡ x
+size-of-loss zero = refl
+size-of-loss (suc x) = refl

@@ -20,3 +20,6 @@ pub mod Counting
 pub mod Walk
 pub mod Tables
 pub mod TableTheorem
+pub mod Numbers
+pub mod Tries
+pub mod Checked

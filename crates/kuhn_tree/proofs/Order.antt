@@ -19,11 +19,12 @@ use Rattle.game.specs.Sets.{Decision, decisions, decisionsAll, isOf, met, first
 use Rattle.game.proofs.Sets.{isOf-key, isOf-seat, met-past}
 use Rattle.game.proofs.Walk.{passed, firsts-append, met-passed, met-in}
 use Rattle.game.proofs.Counting.{In, Once, in-met}
+use Rattle.game.proofs.Numbers.{in-those, those-in}
 use Rattle.kuhn_rules.specs.Rules.{PASS, BET, ended, turn, key, left, remaining}
 use Rattle.kuhn_tree.specs.Tree.{each, m}
 use Rattle.kuhn_tree.specs.Order.{turns, histories, decisionAt, lowestBut, lowest, first, firstOf, joined, inOrder}
 use Rattle.kuhn_tree.specs.Facts.{SetsInOrder}
-use Rattle.kuhn_tree.proofs.Cards.{in-those, those-in, left-of-in, in-of-left, left-other, left-itself, remaining-less, remaining-all}
+use Rattle.kuhn_tree.proofs.Cards.{left-of-in, in-of-left, left-other, left-itself, remaining-less, remaining-all}
 use Rattle.kuhn_tree.proofs.Shape.{hand, deals, kuhn-deals}
 use Rattle.kuhn_tree.proofs.Sets.{turns-once, has-hand, each-has, has-each, May, grid-deals}
 

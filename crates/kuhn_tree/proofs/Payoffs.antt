@@ -11,6 +11,7 @@ use Rattle.finite.specs.Finite.{sum, sumℤ}
 use Rattle.finite.proofs.Lists.{sum-without}
 use Rattle.game.specs.Tree.{Tree, end, chance, decide, Trees, nil, cons, Pays, PaysAll}
 use Rattle.game.specs.Sets.{EveryEnd, EveryEndAll}
+use Rattle.game.proofs.Integers.{size-of-loss}
 use Rattle.kuhn_rules.specs.Rules.{PASS, BET, ended, bets, remaining, contribution, wins, paid-by-others, payoff}
 use Rattle.kuhn_rules.proofs.Facts.{zero-sum}
 use Rattle.kuhn_tree.specs.Follows.{Position, dealt, acted, Follows, FollowsAll}
@@ -27,10 +28,6 @@ sum-constant : (n K : ℕ) → sum n (λ q. K) ≡ n * K
 unfolding sum
 sum-constant zero K = sym (NatL.zero-mul K)
 sum-constant (suc n) K = ap (λ x. x + K) (sum-constant n K) ∙ sym (NatL.suc-mul n K)
-
-size-of-loss : (x : ℕ) → natAbs (negℤ (pos x)) ≡ x
-size-of-loss zero = refl
-size-of-loss (suc x) = refl
 
 module _ (ante bet n : ℕ) where
   contribution-most : (h : List ℕ) (p : ℕ) → contribution ante bet n h p ≤ ante + bet

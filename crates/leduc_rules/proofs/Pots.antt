@@ -55,7 +55,7 @@ bet-bound size b (suc n) q (a ∷ h) s l w =
     let v = r .other-within in
     record { acting-within = omega arith; other-within = omega arith }
 
-seated-bound : (b n : ℕ) (q : Pot) → Within b q → Within b (seated n q)
+pub seated-bound : (b n : ℕ) (q : Pot) → Within b q → Within b (seated n q)
 unfolding seated
 seated-bound b n q w = go (eqb (n % 2) 0)
   where
