@@ -1,0 +1,94 @@
+-- The games' trees have as many nodes and entries as the constants say, and their sets these actions. Assumes nothing.
+use mathlib.Core.Path.{_≡_, refl, sym, ap, ap₂, _∙_}
+use mathlib.Core.Bool.{Bool, true, false, not, cond}
+use mathlib.Core.List.{List, [], _∷_, map}
+use Prim.Native.Nat.{ℕ, zero, suc, _+_, _*_, _≤_, _<_}
+use native.Mathlib.Omega.{arith}
+use lib.Dec.{eqb, ltb, leb}
+use borrow.Author.Tests.{eq-eqb, ne-eqb, eqb-true, eqb-false}
+use lib.ListN.{length, getD, replicate, length-map}
+use Rattle.finite.specs.Finite.{and, or, some, those, has}
+use Rattle.finite.proofs.Tests.{Tested, holds, fails, tested}
+use Rattle.game.specs.Sets.{Decision, size, sets, setActions, entries}
+use Rattle.game.proofs.Sets.{Each, every→sets}
+use Rattle.kuhn_tree.specs.Tree.{kuhnTree}
+use Rattle.kuhn_tree.specs.Counts.{kuhnNodes, kuhnSets, kuhnEntries}
+use Rattle.kuhn_tree.proofs.Facts.{counted}
+use Rattle.kuhn_tree.proofs.Units.{kuhn-every}
+use Rattle.leduc_tree.specs.Tree.{next, leducTree}
+use Rattle.leduc_rules.specs.Rules.{ends-with, folded, closes, behind, raises, may, options, in-play, turn, ended, left, remaining, public-due, due}
+use Rattle.leduc_tree.specs.Turns.{joined, turns, isFirst, firstOnes, firstTurns, actionsInOrder}
+use Rattle.leduc_tree.proofs.Facts.{counts, actions-in-order}
+use Rattle.tables.specs.Games.{isKuhn, treeOf, mostParts}
+use Rattle.tables.specs.Checks.{seats-out}
+use Rattle.tables.specs.Facts.{nodesOf, setsOf, entriesOf}
+use Rattle.tables.specs.Actions.{leducActions, actionsOf}
+use Rattle.tables.specs.declared.Game.{Game}
+use Rattle.tables.proofs.Counts.{kuhn-least}
+
+leduc-counts : (size (leducTree 1 2 4) ≡ 9457) × (length (setActions (leducTree 1 2 4)) ≡ 936) × (entries (leducTree 1 2 4) ≡ 2184)
+leduc-counts = (counts 1 2 4 .0, length-map (sets (leducTree 1 2 4)) (λ x. x .2) ∙ counts 1 2 4 .1, counts 1 2 4 .2)
+
+-- the constant is what the rules give
+computed : actionsInOrder ≡ leducActions
+unfolding leducActions actionsInOrder firstTurns firstOnes isFirst turns joined next and or some those has ends-with folded closes behind raises may options in-play turn ended left remaining public-due due
+computed = refl
+
+leduc-set-actions : setActions (leducTree 1 2 4) ≡ leducActions
+leduc-set-actions = actions-in-order 1 2 4 ∙ computed
+
+all-two : (xs : List Decision) → Each (λ j k a. a ≡ 2) xs → map (λ x. x .2) xs ≡ replicate (length xs) 2
+unfolding Each
+all-two [] h = refl
+all-two (x ∷ xs) h = ap₂ _∷_ (h .0) (all-two xs (h .1))
+
+-- every set of Kuhn has two actions
+kuhn-set-actions : (n : ℕ) → 1 ≤ n → setActions (kuhnTree 1 1 n) ≡ replicate (kuhnSets n) 2
+kuhn-set-actions n w = all-two (sets (kuhnTree 1 1 n)) (every→sets (λ j k a. a ≡ 2) (kuhnTree 1 1 n) (kuhn-every 1 1 n (λ j k a. a ≡ 2) (λ j c h. refl))) ∙ ap (λ k. replicate k 2) (counted 1 1 n w .1)
+
+module _ (g : Game) where
+  pub kuhn-out : g .number ≡ 0 → seats-out g ≡ or (ltb (g .seats) 2) (ltb 10 (g .seats))
+  kuhn-out k = ap (λ t. cond t (or (ltb (g .seats) 2) (ltb 10 (g .seats))) (not (eqb (g .seats) 2))) (eq-eqb (g .number) 0 k)
+
+  pub leduc-out : (g .number ≡ 0 → ⊥) → seats-out g ≡ not (eqb (g .seats) 2)
+  leduc-out k = ap (λ t. cond t (or (ltb (g .seats) 2) (ltb 10 (g .seats))) (not (eqb (g .seats) 2))) (ne-eqb (g .number) 0 k)
+
+  pub kuhn-parts : g .number ≡ 0 → mostParts g ≡ cond (leb (g .seats) 4) 64 16
+  kuhn-parts k = ap (λ t. cond t (cond (leb (g .seats) 4) 64 16) 64) (eq-eqb (g .number) 0 k)
+
+  pub leduc-parts : (g .number ≡ 0 → ⊥) → mostParts g ≡ 64
+  leduc-parts k = ap (λ t. cond t (cond (leb (g .seats) 4) 64 16) 64) (ne-eqb (g .number) 0 k)
+
+  kuhn-tree-is : g .number ≡ 0 → treeOf g ≡ kuhnTree 1 1 (g .seats)
+  unfolding treeOf
+  kuhn-tree-is k = ap (λ t. cond t (kuhnTree 1 1 (g .seats)) (leducTree 1 2 4)) (eq-eqb (g .number) 0 k)
+
+  leduc-tree-is : (g .number ≡ 0 → ⊥) → treeOf g ≡ leducTree 1 2 4
+  unfolding treeOf
+  leduc-tree-is k = ap (λ t. cond t (kuhnTree 1 1 (g .seats)) (leducTree 1 2 4)) (ne-eqb (g .number) 0 k)
+
+  module _ (out : seats-out g ≡ false) where
+    kuhn-one : g .number ≡ 0 → 1 ≤ g .seats
+    kuhn-one k = let w = kuhn-least g k out in omega arith
+
+    nodes-by : Tested (eqb (g .number) 0) → size (treeOf g) ≡ nodesOf g
+    nodes-by (holds t) = ap size (kuhn-tree-is (eqb-true (g .number) 0 t)) ∙ counted 1 1 (g .seats) (kuhn-one (eqb-true (g .number) 0 t)) .0 ∙ ap (λ b. cond b (kuhnNodes (g .seats)) 9457) (sym t)
+    nodes-by (fails t) = ap size (leduc-tree-is (eqb-false (g .number) 0 t)) ∙ leduc-counts .0 ∙ ap (λ b. cond b (kuhnNodes (g .seats)) 9457) (sym t)
+
+    pub nodes-are : size (treeOf g) ≡ nodesOf g
+    nodes-are = nodes-by (tested (eqb (g .number) 0))
+
+    entries-by : Tested (eqb (g .number) 0) → entries (treeOf g) ≡ entriesOf g
+    entries-by (holds t) = ap entries (kuhn-tree-is (eqb-true (g .number) 0 t)) ∙ counted 1 1 (g .seats) (kuhn-one (eqb-true (g .number) 0 t)) .2 ∙ ap (λ b. cond b (kuhnEntries (g .seats)) 2184) (sym t)
+    entries-by (fails t) = ap entries (leduc-tree-is (eqb-false (g .number) 0 t)) ∙ leduc-counts .2 ∙ ap (λ b. cond b (kuhnEntries (g .seats)) 2184) (sym t)
+
+    pub entries-are : entries (treeOf g) ≡ entriesOf g
+    entries-are = entries-by (tested (eqb (g .number) 0))
+
+    actions-by : Tested (eqb (g .number) 0) → setActions (treeOf g) ≡ actionsOf g
+    unfolding actionsOf
+    actions-by (holds t) = ap setActions (kuhn-tree-is (eqb-true (g .number) 0 t)) ∙ kuhn-set-actions (g .seats) (kuhn-one (eqb-true (g .number) 0 t)) ∙ ap (λ b. cond b (replicate (kuhnSets (g .seats)) 2) leducActions) (sym t)
+    actions-by (fails t) = ap setActions (leduc-tree-is (eqb-false (g .number) 0 t)) ∙ leduc-set-actions ∙ ap (λ b. cond b (replicate (kuhnSets (g .seats)) 2) leducActions) (sym t)
+
+    pub actions-are : setActions (treeOf g) ≡ actionsOf g
+    actions-are = actions-by (tested (eqb (g .number) 0))

@@ -1,0 +1,33 @@
+-- A game by its number and seats: its tree, and what is counted of it (document 01, "The tree and its sets" and "Whole units").
+use mathlib.Core.Bool.{Bool, cond}
+use mathlib.Core.List.{List}
+use Prim.Native.Nat.{ℕ}
+use lib.Dec.{eqb}
+use Rattle.game.specs.Tree.{Tree}
+use Rattle.game.specs.Sets.{size, setActions, entries}
+use Rattle.kuhn_tree.specs.Tree as Kuhn
+use Rattle.leduc_tree.specs.Tree as Leduc
+use Rattle.tables.specs.declared.Game.{Game}
+
+-- game number 0 is Kuhn, 1 is Leduc
+abbrev pub isKuhn : Game → Bool
+isKuhn g = eqb (g .number) 0
+
+-- the game's tree, at today's stakes
+unfoldable pub treeOf : Game → Tree
+treeOf g = cond (isKuhn g) (Kuhn.kuhnTree 1 1 (g .seats)) (Leduc.leducTree 1 2 4)
+
+-- C and m of the units (document 01: U = C × D^m)
+abbrev pub C : Game → ℕ
+C g = cond (isKuhn g) (Kuhn.C (g .seats)) Leduc.C
+
+abbrev pub m : Game → ℕ
+m g = cond (isKuhn g) (Kuhn.m (g .seats)) Leduc.m
+
+-- the most parts per set: 64, or 16 for Kuhn 5 and 6
+abbrev pub mostParts : Game → ℕ
+mostParts g = cond (isKuhn g) (Kuhn.largestParts (g .seats)) 64
+
+-- the largest payoff in size
+abbrev pub largestPayoff : Game → ℕ
+largestPayoff g = cond (isKuhn g) (Kuhn.largestPayoff 1 1 (g .seats)) (Leduc.largestPayoff 1 2 4)
