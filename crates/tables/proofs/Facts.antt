@@ -1,27 +1,33 @@
 -- The games' trees have as many nodes and entries as the constants say, and their sets these actions. Assumes nothing.
-use mathlib.Core.Path.{_≡_, refl, sym, ap, ap₂, _∙_}
+use mathlib.Core.Path.{_≡_, refl, sym, ap, ap₂, subst, _∙_}
 use mathlib.Core.Bool.{Bool, true, false, not, cond}
 use mathlib.Core.List.{List, [], _∷_, map}
 use Prim.Native.Nat.{ℕ, zero, suc, _+_, _*_, _≤_, _<_}
 use native.Mathlib.Omega.{arith}
 use lib.Dec.{eqb, ltb, leb}
-use borrow.Author.Tests.{eq-eqb, ne-eqb, eqb-true, eqb-false}
+use borrow.Author.Tests.{eq-eqb, ne-eqb, eqb-true, eqb-false, not-false}
 use lib.ListN.{length, getD, replicate, length-map}
 use Rattle.finite.specs.Finite.{and, or, some, those, has}
 use Rattle.finite.proofs.Tests.{Tested, holds, fails, tested}
-use Rattle.game.specs.Sets.{Decision, size, sets, setActions, entries}
+use Rattle.game.specs.Tree.{Splits, Pays}
+use Rattle.game.specs.Recall.{PerfectRecall}
+use Rattle.game.specs.Sets.{Decision, size, sets, setCount, setActions, entries, SameActions}
+use Rattle.game.proofs.TableTheorem.{reply-table-rival, reply-table-worth, no-rival-table-better}
 use Rattle.game.proofs.Sets.{Each, every→sets}
 use Rattle.kuhn_tree.specs.Tree.{kuhnTree}
-use Rattle.kuhn_tree.specs.Counts.{kuhnNodes, kuhnSets, kuhnEntries}
+use Rattle.kuhn_tree.specs.Tree as KuhnTree
+use Rattle.kuhn_tree.specs.Counts.{dealNodes, kuhnNodes, kuhnSets, kuhnEntries}
+use Rattle.kuhn_tree.proofs.Facts as KuhnFacts
 use Rattle.kuhn_tree.proofs.Facts.{counted}
 use Rattle.kuhn_tree.proofs.Units.{kuhn-every}
 use Rattle.leduc_tree.specs.Tree.{next, leducTree}
 use Rattle.leduc_rules.specs.Rules.{ends-with, folded, closes, behind, raises, may, options, in-play, turn, ended, left, remaining, public-due, due}
 use Rattle.leduc_tree.specs.Turns.{joined, turns, isFirst, firstOnes, firstTurns, actionsInOrder}
 use Rattle.leduc_tree.proofs.Facts.{counts, actions-in-order}
-use Rattle.tables.specs.Games.{isKuhn, treeOf, mostParts}
+use Rattle.leduc_tree.proofs.Facts as LeducFacts
+use Rattle.tables.specs.Games.{isKuhn, treeOf, C, m, mostParts}
 use Rattle.tables.specs.Checks.{seats-out}
-use Rattle.tables.specs.Facts.{nodesOf, setsOf, entriesOf}
+use Rattle.tables.specs.Facts.{nodesOf, setsOf, entriesOf, Counted, kuhn, leduc, Table-of-counts, Fit, Games-fit, units, Reply-best}
 use Rattle.tables.specs.Actions.{leducActions, actionsOf}
 use Rattle.tables.specs.declared.Game.{Game}
 use Rattle.tables.proofs.Counts.{kuhn-least}
@@ -68,7 +74,7 @@ module _ (g : Game) where
   leduc-tree-is k = ap (λ t. cond t (kuhnTree 1 1 (g .seats)) (leducTree 1 2 4)) (ne-eqb (g .number) 0 k)
 
   module _ (out : seats-out g ≡ false) where
-    kuhn-one : g .number ≡ 0 → 1 ≤ g .seats
+    pub kuhn-one : g .number ≡ 0 → 1 ≤ g .seats
     kuhn-one k = let w = kuhn-least g k out in omega arith
 
     nodes-by : Tested (eqb (g .number) 0) → size (treeOf g) ≡ nodesOf g
@@ -92,3 +98,50 @@ module _ (g : Game) where
 
     pub actions-are : setActions (treeOf g) ≡ actionsOf g
     actions-are = actions-by (tested (eqb (g .number) 0))
+
+pub counted-games : Counted
+counted-games g out = (nodes-are g out, sets-are (tested (eqb (g .number) 0)), entries-are g out)
+  where
+    sets-are : Tested (eqb (g .number) 0) → setCount (treeOf g) ≡ setsOf g
+    sets-are (holds t) = ap setCount (kuhn-tree-is g (eqb-true (g .number) 0 t)) ∙ counted 1 1 (g .seats) (kuhn-one g out (eqb-true (g .number) 0 t)) .1 ∙ ap (λ b. cond b (kuhnSets (g .seats)) 936) (sym t)
+    sets-are (fails t) = ap setCount (leduc-tree-is g (eqb-false (g .number) 0 t)) ∙ counts 1 2 4 .1 ∙ ap (λ b. cond b (kuhnSets (g .seats)) 936) (sym t)
+
+pub table-of-counts : Table-of-counts
+unfolding dealNodes or
+table-of-counts = (counted-games (kuhn 2) refl, counted-games (kuhn 3) refl, counted-games (kuhn 4) refl, counted-games (kuhn 5) refl, counted-games (kuhn 6) refl, counted-games leduc refl)
+
+-- ---- what the reply theorem asks
+
+pub games-fit : Games-fit
+games-fit g known out = by (tested (eqb (g .number) 0))
+  where
+    kuhn-fit : eqb (g .number) 0 ≡ true → treeOf g ≡ kuhnTree 1 1 (g .seats) → Fit g
+    kuhn-fit t e = record {
+      splits = subst (λ b. Splits (cond b (KuhnTree.C (g .seats)) 120) (cond b (KuhnTree.m (g .seats)) 8) (treeOf g)) (sym t) (subst (Splits (KuhnTree.C (g .seats)) (KuhnTree.m (g .seats))) (sym e) (KuhnFacts.fans-divide 1 1 (g .seats)));
+      recall = λ i w. subst (PerfectRecall i) (sym e) (KuhnFacts.recalls 1 1 (g .seats) i);
+      actions = subst SameActions (sym e) (KuhnFacts.actions-by-key 1 1 (g .seats));
+      pays = λ i w. subst (λ b. Pays (cond b (KuhnTree.largestPayoff 1 1 (g .seats)) 13) i (treeOf g)) (sym t) (subst (Pays (KuhnTree.largestPayoff 1 1 (g .seats)) i) (sym e) (KuhnFacts.payoffs-bounded 1 1 (g .seats) i (kuhn-least g (eqb-true (g .number) 0 t) out) w));
+    }
+
+    two-seats : (g .number ≡ 0 → ⊥) → g .seats ≡ 2
+    two-seats k = eqb-true (g .seats) 2 (not-false (eqb (g .seats) 2) (sym (leduc-out g k) ∙ out))
+
+    leduc-fit : eqb (g .number) 0 ≡ false → treeOf g ≡ leducTree 1 2 4 → Fit g
+    leduc-fit t e = record {
+      splits = subst (λ b. Splits (cond b (KuhnTree.C (g .seats)) 120) (cond b (KuhnTree.m (g .seats)) 8) (treeOf g)) (sym t) (subst (Splits 120 8) (sym e) (LeducFacts.fans-divide 1 2 4));
+      recall = λ i w. subst (PerfectRecall i) (sym e) (LeducFacts.recalls 1 2 4 i (let s = two-seats (eqb-false (g .number) 0 t) in omega arith));
+      actions = subst SameActions (sym e) (LeducFacts.actions-by-key 1 2 4);
+      pays = λ i w. subst (λ b. Pays (cond b (KuhnTree.largestPayoff 1 1 (g .seats)) 13) i (treeOf g)) (sym t) (subst (Pays 13 i) (sym e) (LeducFacts.payoffs-bounded 1 2 4 i));
+    }
+
+    by : Tested (eqb (g .number) 0) → Fit g
+    by (holds t) = kuhn-fit t (kuhn-tree-is g (eqb-true (g .number) 0 t))
+    by (fails t) = leduc-fit t (leduc-tree-is g (eqb-false (g .number) 0 t))
+
+pub reply-best : Reply-best
+reply-best g D i table known out w d v =
+    let f = games-fit g known out in (
+      reply-table-rival (treeOf g) D (units g D) i table d (f .recall i w) (f .actions) v,
+      reply-table-worth (treeOf g) (C g) (m g) D i table d (f .splits) (f .actions),
+      λ z r. no-rival-table-better (treeOf g) (C g) (m g) D i table z d (f .splits) (f .recall i w) (f .actions) r,
+    )

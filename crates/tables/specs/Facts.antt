@@ -1,16 +1,18 @@
--- How many nodes and entries the games have, as numbers that a program can hold, and the actions of their sets. Proved in proofs/Facts.antt.
+-- What holds of the games by number, proved in proofs/Facts.antt: their counts as numbers that a program can hold, and what the reply theorem asks of their trees.
 use mathlib.Core.Path.{_≡_}
 use mathlib.Core.Bool.{false, cond}
-use mathlib.Core.List.{List}
-use Prim.Native.Nat.{ℕ, _≤_}
-use lib.ListN.{replicate}
-use Rattle.game.specs.Sets.{size, setActions, entries}
+use Prim.Native.Nat.{ℕ, _≤_, _<_}
+use lib.Signed.{_≤ℤ_}
+use Rattle.game.specs.Tree.{Tree, U, Splits, Pays}
+use Rattle.game.specs.Recall.{PerfectRecall}
+use Rattle.game.specs.Sets.{size, setCount, entries, SameActions}
+use Rattle.game.specs.Table.{Table, ValidTable, RivalTable, tableWorth, tableBest, replyTable}
 use Rattle.kuhn_tree.specs.Counts.{kuhnNodes, kuhnSets, kuhnEntries}
-use Rattle.tables.specs.Games.{isKuhn, treeOf}
+use Rattle.tables.specs.Games.{isKuhn, treeOf, C, m, largestPayoff}
 use Rattle.tables.specs.Checks.{seats-out}
 use Rattle.tables.specs.declared.Game.{Game}
 
--- the counts of document 01's table, by game
+-- the counts by game
 abbrev pub nodesOf : Game → ℕ
 nodesOf g = cond (isKuhn g) (kuhnNodes (g .seats)) 9457
 
@@ -19,3 +21,42 @@ setsOf g = cond (isKuhn g) (kuhnSets (g .seats)) 936
 
 abbrev pub entriesOf : Game → ℕ
 entriesOf g = cond (isKuhn g) (kuhnEntries (g .seats)) 2184
+
+-- a tree has so many nodes, sets and entries
+abbrev pub Row : Tree → ℕ → ℕ → ℕ → Type 0
+Row t a b c = (size t ≡ a) × (setCount t ≡ b) × (entries t ≡ c)
+
+-- every game that numbers 1 and 2 let through has these
+abbrev pub Counted : Type 0
+Counted = (g : Game) → seats-out g ≡ false → Row (treeOf g) (nodesOf g) (setsOf g) (entriesOf g)
+
+-- document 01's table of counts
+abbrev pub kuhn : ℕ → Game
+kuhn n = record { number = 0; seats = n }
+
+abbrev pub leduc : Game
+leduc = record { number = 1; seats = 2 }
+
+abbrev pub Table-of-counts : Type 0
+Table-of-counts = Row (treeOf (kuhn 2)) 58 12 24 × Row (treeOf (kuhn 3)) 617 48 96 × Row (treeOf (kuhn 4)) 7886 160 320
+    × Row (treeOf (kuhn 5)) 116437 480 960 × Row (treeOf (kuhn 6)) 1944020 1344 2688 × Row (treeOf leduc) 9457 936 2184
+
+-- what the reply theorem asks of a tree: fans that divide C, at most m decisions on a path, perfect recall, equally many actions at equal keys, bounded payoffs
+pub record Fit (g : Game) : Type 0 where
+  pub splits : Splits (C g) (m g) (treeOf g)
+  pub recall : (i : ℕ) → i < g .seats → PerfectRecall i (treeOf g)
+  pub actions : SameActions (treeOf g)
+  pub pays : (i : ℕ) → i < g .seats → Pays (largestPayoff g) i (treeOf g)
+
+abbrev pub Games-fit : Type 0
+Games-fit = (g : Game) → g .number ≤ 1 → seats-out g ≡ false → Fit g
+
+-- so the reply to a valid table is a rival table, its worth is the best value, and no rival table is worth more
+abbrev pub units : Game → ℕ → ℕ
+units g D = U (C g) D (m g)
+
+abbrev pub Reply-best : Type 0
+Reply-best = (g : Game) (D i : ℕ) (table : Table) → g .number ≤ 1 → seats-out g ≡ false → i < g .seats → 0 < D → ValidTable (treeOf g) D table
+    → RivalTable (treeOf g) D i table (replyTable (treeOf g) D (units g D) table i)
+    × (tableWorth (treeOf g) D (units g D) (replyTable (treeOf g) D (units g D) table i) i ≡ tableBest (treeOf g) D (units g D) table i)
+    × ((z : Table) → RivalTable (treeOf g) D i table z → tableWorth (treeOf g) D (units g D) z i ≤ℤ tableBest (treeOf g) D (units g D) table i)
