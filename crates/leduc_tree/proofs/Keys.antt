@@ -6,7 +6,7 @@ use lib.Dec.{eqb}
 use lib.ListN.{length, getD, take, drop}
 use Rattle.game.specs.Tree.{Key}
 use Rattle.game.specs.Recall.{Path, moved}
-use Rattle.leduc_rules.specs.Rules.{behind, raises, options, in-play}
+use Rattle.leduc_rules.specs.Rules.{closes, behind, raises, options, in-play}
 
 -- the histories of round 1 and round 2
 abbrev pub first-of : Key → List ℕ
@@ -26,10 +26,10 @@ unfolding raises
 to-come [] = 4
 to-come (a ∷ h) = 3 - raises (a ∷ h)
 
--- the most decisions to come: before the public card round 2 is still to be played
+-- the most decisions to come: until round 1 has closed round 2 is still to be played
 unfoldable pub depthOf : Key → ℕ
-unfolding to-come
-depthOf k = cond (eqb (getD k 2 0) 255) (to-come (first-of k) + 4) (to-come (second-of k))
+unfolding to-come closes
+depthOf k = cond (closes (first-of k)) (to-come (second-of k)) (to-come (first-of k) + 4)
 
 -- the place of action a among the legal ones after h, where FOLD may be missing
 abbrev pub place : List ℕ → ℕ → ℕ
