@@ -15,7 +15,7 @@ use Rattle.leduc_rules.specs.Stakes.{ante, raise₁, raise₂}
 use Rattle.leduc_rules.specs.declared.Public.{Public}
 use Rattle.leduc_rules.specs.declared.Public.the-variants.{Hidden, Card}
 use Rattle.leduc.specs.Calls as Leduc
-use Rattle.leduc.specs.Calls.{legal-of, key-of}
+use Rattle.leduc.specs.Calls.{legal-of, legal-refusal, listed, key-of, key-refusal, keyed, written}
 use Rattle.leduc.specs.declared.LeducState.{LeducState}
 
 -- ---- what a case is
@@ -70,9 +70,15 @@ leduc-at cs p h₁ h₂ = record {
   acted2 = length h₂;
 }
 
--- a legal list or a key
 abbrev pub bytes : List ℕ → List ℤ
 bytes bs = map pos bs
+
+-- what the legal-list and key calls leave in an output of twenty bytes, as many as they say: none, if the call was refused
+abbrev pub leduc-legal : LeducState → ℕ → List ℤ
+leduc-legal s t = bytes (take (listed s t 20 .count) (written (legal-refusal s t 20) (legal-of s t) (replicate 20 0)))
+
+abbrev pub leduc-key : LeducState → ℕ → List ℤ
+leduc-key s t = bytes (take (keyed s t 20 .count) (written (key-refusal s t 20) (key-of s t) (replicate 20 0)))
 
 -- what both seats have paid
 abbrev pub paid-in : List ℕ → List ℕ → List ℤ
@@ -89,10 +95,10 @@ cases =
     ∷ case "b" (payoffs (paid kuhn2 (kuhn-at (0 ∷ 1 ∷ []) (BET ∷ PASS ∷ [])))) (plus 1 ∷ minus 1 ∷ [])
     ∷ case "c" (payoffs (paid kuhn2 (kuhn-at (2 ∷ 0 ∷ []) (PASS ∷ BET ∷ BET ∷ [])))) (plus 2 ∷ minus 2 ∷ [])
     ∷ case "d" (refusal (saved-refusal kuhn2 (kuhn-at (0 ∷ 1 ∷ []) (PASS ∷ PASS ∷ BET ∷ [])) 1)) (refusal 14)
-    ∷ case "e" (bytes (legal-of (leduc-at (0 ∷ 5 ∷ []) Hidden [] []) 0)) (bytes (CALL ∷ RAISE ∷ []))
-    ∷ case "f" (bytes (legal-of (leduc-at (0 ∷ 5 ∷ []) Hidden (RAISE ∷ []) []) 1)) (bytes (FOLD ∷ CALL ∷ RAISE ∷ []))
-    ∷ case "g" (bytes (legal-of (leduc-at (0 ∷ 5 ∷ []) Hidden (RAISE ∷ RAISE ∷ []) []) 0)) (bytes (FOLD ∷ CALL ∷ []))
+    ∷ case "e" (leduc-legal (leduc-at (0 ∷ 5 ∷ []) Hidden [] []) 0) (bytes (CALL ∷ RAISE ∷ []))
+    ∷ case "f" (leduc-legal (leduc-at (0 ∷ 5 ∷ []) Hidden (RAISE ∷ []) []) 1) (bytes (FOLD ∷ CALL ∷ RAISE ∷ []))
+    ∷ case "g" (leduc-legal (leduc-at (0 ∷ 5 ∷ []) Hidden (RAISE ∷ RAISE ∷ []) []) 0) (bytes (FOLD ∷ CALL ∷ []))
     ∷ case "h" (leduc-payoffs (leduc-at (0 ∷ 5 ∷ []) (Card 1) (CALL ∷ CALL ∷ []) (CALL ∷ CALL ∷ []))) (plus 1 ∷ minus 1 ∷ [])
     ∷ case "i" (paid-in (RAISE ∷ RAISE ∷ CALL ∷ []) (RAISE ∷ RAISE ∷ CALL ∷ []) ++ leduc-payoffs (leduc-at (0 ∷ 1 ∷ []) (Card 2) (RAISE ∷ RAISE ∷ CALL ∷ []) (RAISE ∷ RAISE ∷ CALL ∷ []))) (plus 13 ∷ plus 13 ∷ plus 0 ∷ plus 0 ∷ [])
-    ∷ case "j" (bytes (key-of (leduc-at (0 ∷ 4 ∷ []) Hidden (RAISE ∷ []) []) 1)) (bytes (1 ∷ 4 ∷ 255 ∷ 1 ∷ 2 ∷ 0 ∷ []))
+    ∷ case "j" (leduc-key (leduc-at (0 ∷ 4 ∷ []) Hidden (RAISE ∷ []) []) 1) (bytes (1 ∷ 4 ∷ 255 ∷ 1 ∷ 2 ∷ 0 ∷ []))
     ∷ []

@@ -14,11 +14,8 @@ pub fn write_at(out: &mut [u8], at: usize, bytes: &[u8])
     requires { ⌜ at + length (now bytes) ≤ length (now out) ⌝ }
     ensures { λ r. ⌜ now (out .exit) ≡ paste (now (out .entry)) at (now (bytes .entry)) (length (now (bytes .entry))) ⌝ }
 {
-    let mut i = 0;
-    while i < bytes.len() {
-        out[at + i] = bytes[i];
-        i += 1;
-    }
+    let count = bytes.len();
+    finite::copy_at(out, at, bytes, count);
 }
 
 // What a key shows of a card: the card itself.

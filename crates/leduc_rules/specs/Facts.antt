@@ -56,6 +56,6 @@ Key-recalls = (cs cs′ : List ℕ) (p p′ : Public) (h₁ h₁′ h₂ h₂′
 abbrev pub Public-told : Type 0
 Public-told = (cs cs′ : List ℕ) (p p′ : Public) (h₁ h₁′ h₂ h₂′ : List ℕ) → Reached cs p h₁ h₂ → Reached cs′ p′ h₁′ h₂′ → shown-public p ≡ shown-public p′ → p ≡ p′
 
--- an action of round 2 before round 1 has closed is refused with 14, whatever it is; so that error has no number of its own
+-- once the histories are well formed (13), an action of round 2 before round 1 has closed is refused with 14, whatever it is; so that error has no number of its own
 abbrev pub Second-too-early : Type 0
 Second-too-early = (blind : Bool) (h₁ h : List ℕ) (a : ℕ) → closes h₁ ≡ false → first (action-checks (barred-by h₁) blind [] (a ∷ h)) ≡ Refusals.closed

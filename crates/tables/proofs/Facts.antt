@@ -27,7 +27,7 @@ use Rattle.leduc_tree.proofs.Facts.{counts, actions-in-order}
 use Rattle.leduc_tree.proofs.Facts as LeducFacts
 use Rattle.tables.specs.Games.{isKuhn, treeOf, C, m, mostParts}
 use Rattle.tables.specs.Checks.{seats-out}
-use Rattle.tables.specs.Facts.{nodesOf, setsOf, entriesOf, Counted, kuhn, leduc, Table-of-counts, Fit, Games-fit, units, Reply-best}
+use Rattle.tables.specs.Facts.{nodesOf, setsOf, entriesOf, Counted, kuhn, leduc, Table-of-counts, Fit, Games-fit, Actions-listed, rootUnits, Reply-best}
 use Rattle.tables.specs.Actions.{leducActions, actionsOf}
 use Rattle.tables.specs.declared.Game.{Game}
 use Rattle.tables.proofs.Counts.{kuhn-least}
@@ -106,6 +106,9 @@ counted-games g out = (nodes-are g out, sets-are (tested (eqb (g .number) 0)), e
     sets-are (holds t) = ap setCount (kuhn-tree-is g (eqb-true (g .number) 0 t)) ∙ counted 1 1 (g .seats) (kuhn-one g out (eqb-true (g .number) 0 t)) .1 ∙ ap (λ b. cond b (kuhnSets (g .seats)) 936) (sym t)
     sets-are (fails t) = ap setCount (leduc-tree-is g (eqb-false (g .number) 0 t)) ∙ counts 1 2 4 .1 ∙ ap (λ b. cond b (kuhnSets (g .seats)) 936) (sym t)
 
+pub actions-listed : Actions-listed
+actions-listed g out = actions-are g out
+
 pub table-of-counts : Table-of-counts
 unfolding dealNodes or
 table-of-counts = (counted-games (kuhn 2) refl, counted-games (kuhn 3) refl, counted-games (kuhn 4) refl, counted-games (kuhn 5) refl, counted-games (kuhn 6) refl, counted-games leduc refl)
@@ -141,7 +144,7 @@ games-fit g known out = by (tested (eqb (g .number) 0))
 pub reply-best : Reply-best
 reply-best g D i table known out w d v =
     let f = games-fit g known out in (
-      reply-table-rival (treeOf g) D (units g D) i table d (f .recall i w) (f .actions) v,
+      reply-table-rival (treeOf g) D (rootUnits g D) i table d (f .recall i w) (f .actions) v,
       reply-table-worth (treeOf g) (C g) (m g) D i table d (f .splits) (f .actions),
       λ z r. no-rival-table-better (treeOf g) (C g) (m g) D i table z d (f .splits) (f .recall i w) (f .actions) r,
     )

@@ -5,11 +5,12 @@ use Prim.Native.Nat.{ℕ, _≤_, _<_}
 use lib.Signed.{_≤ℤ_}
 use Rattle.game.specs.Tree.{Tree, U, Splits, Pays}
 use Rattle.game.specs.Recall.{PerfectRecall}
-use Rattle.game.specs.Sets.{size, setCount, entries, SameActions}
+use Rattle.game.specs.Sets.{size, setCount, setActions, entries, SameActions}
 use Rattle.game.specs.Table.{Table, ValidTable, RivalTable, tableWorth, tableBest, replyTable}
 use Rattle.kuhn_tree.specs.Counts.{kuhnNodes, kuhnSets, kuhnEntries}
 use Rattle.tables.specs.Games.{isKuhn, treeOf, C, m, largestPayoff}
 use Rattle.tables.specs.Checks.{seats-out}
+use Rattle.tables.specs.Actions.{actionsOf}
 use Rattle.tables.specs.declared.Game.{Game}
 
 -- the counts by game
@@ -29,6 +30,10 @@ Row t a b c = (size t ≡ a) × (setCount t ≡ b) × (entries t ≡ c)
 -- every game that numbers 1 and 2 let through has these
 abbrev pub Counted : Type 0
 Counted = (g : Game) → seats-out g ≡ false → Row (treeOf g) (nodesOf g) (setsOf g) (entriesOf g)
+
+-- and its sets, in order, these actions
+abbrev pub Actions-listed : Type 0
+Actions-listed = (g : Game) → seats-out g ≡ false → setActions (treeOf g) ≡ actionsOf g
 
 -- document 01's table of counts
 abbrev pub kuhn : ℕ → Game
@@ -52,11 +57,11 @@ abbrev pub Games-fit : Type 0
 Games-fit = (g : Game) → g .number ≤ 1 → seats-out g ≡ false → Fit g
 
 -- so the reply to a valid table is a rival table, its worth is the best value, and no rival table is worth more
-abbrev pub units : Game → ℕ → ℕ
-units g D = U (C g) D (m g)
+abbrev pub rootUnits : Game → ℕ → ℕ
+rootUnits g D = U (C g) D (m g)
 
 abbrev pub Reply-best : Type 0
 Reply-best = (g : Game) (D i : ℕ) (table : Table) → g .number ≤ 1 → seats-out g ≡ false → i < g .seats → 0 < D → ValidTable (treeOf g) D table
-    → RivalTable (treeOf g) D i table (replyTable (treeOf g) D (units g D) table i)
-    × (tableWorth (treeOf g) D (units g D) (replyTable (treeOf g) D (units g D) table i) i ≡ tableBest (treeOf g) D (units g D) table i)
-    × ((z : Table) → RivalTable (treeOf g) D i table z → tableWorth (treeOf g) D (units g D) z i ≤ℤ tableBest (treeOf g) D (units g D) table i)
+    → RivalTable (treeOf g) D i table (replyTable (treeOf g) D (rootUnits g D) table i)
+    × (tableWorth (treeOf g) D (rootUnits g D) (replyTable (treeOf g) D (rootUnits g D) table i) i ≡ tableBest (treeOf g) D (rootUnits g D) table i)
+    × ((z : Table) → RivalTable (treeOf g) D i table z → tableWorth (treeOf g) D (rootUnits g D) z i ≤ℤ tableBest (treeOf g) D (rootUnits g D) table i)

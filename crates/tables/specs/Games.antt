@@ -1,21 +1,21 @@
 -- A game by its number and seats: its tree, and what is counted of it (document 01, "The tree and its sets" and "Whole units").
 use mathlib.Core.Bool.{Bool, cond}
-use mathlib.Core.List.{List}
 use Prim.Native.Nat.{ℕ}
 use lib.Dec.{eqb}
 use Rattle.game.specs.Tree.{Tree}
-use Rattle.game.specs.Sets.{size, setActions, entries}
+use Rattle.kuhn_rules.specs.Stakes as K
+use Rattle.leduc_rules.specs.Stakes as L
 use Rattle.kuhn_tree.specs.Tree as Kuhn
 use Rattle.leduc_tree.specs.Tree as Leduc
 use Rattle.tables.specs.declared.Game.{Game}
 
--- game number 0 is Kuhn, 1 is Leduc
+-- game number 0 is Kuhn, 1 is Leduc; any other is refused before its tree is asked for
 abbrev pub isKuhn : Game → Bool
 isKuhn g = eqb (g .number) 0
 
 -- the game's tree, at today's stakes
 unfoldable pub treeOf : Game → Tree
-treeOf g = cond (isKuhn g) (Kuhn.kuhnTree 1 1 (g .seats)) (Leduc.leducTree 1 2 4)
+treeOf g = cond (isKuhn g) (Kuhn.kuhnTree K.ante K.stake (g .seats)) (Leduc.leducTree L.ante L.raise₁ L.raise₂)
 
 -- C and m of the units (document 01: U = C × D^m)
 abbrev pub C : Game → ℕ
@@ -30,4 +30,4 @@ mostParts g = cond (isKuhn g) (Kuhn.largestParts (g .seats)) 64
 
 -- the largest payoff in size
 abbrev pub largestPayoff : Game → ℕ
-largestPayoff g = cond (isKuhn g) (Kuhn.largestPayoff 1 1 (g .seats)) (Leduc.largestPayoff 1 2 4)
+largestPayoff g = cond (isKuhn g) (Kuhn.largestPayoff K.ante K.stake (g .seats)) (Leduc.largestPayoff L.ante L.raise₁ L.raise₂)
