@@ -1,17 +1,17 @@
 -- Laws of lists of numbers: their front part, what stands in them, and the numbers below a bound of which a test holds. Assumes nothing.
 use mathlib.Core.Path.{_≡_, refl, sym, ap, ap₂, _∙_}
-use mathlib.Core.Bool.{Bool, true, false, not, cond}
-use mathlib.Core.List.{List, [], _∷_, _++_, append-assoc}
-use Prim.Native.Nat.{ℕ, zero, suc, _+_, _-_, _≤_, _<_}
+use mathlib.Core.Bool.{Bool, true, false, cond}
+use mathlib.Core.List.{List, [], _∷_, _++_}
+use Prim.Native.Nat.{ℕ, zero, suc, _+_, _≤_, _<_}
 use native.Mathlib.Nat as NatL
 use native.Mathlib.Numerals.{add-one}
 use native.Mathlib.Omega.{arith}
 use lib.Dec.{eqb, ltb}
-use lib.ListN.{length, getD, take, set, replicate, length-append, length-set, length-replicate, getD-replicate, List·getD-append, List·getD-eq-default}
+use lib.ListN.{length, getD, take, set, replicate, length-append, length-set, length-replicate, getD-replicate, List·getD-append}
 use lib.Seq.{length-take-le, getD-take, take-suc, getD-at, getD-set-same, getD-set-other, ext-getD}
 use borrow.Author.Tests.{eq-eqb, ne-eqb, eqb-true, eqb-false, lt-ltb, le-ltb, ltb-true}
-use Rattle.finite.specs.Finite.{and, or, some, every, sum, those, has, places}
-use Rattle.finite.proofs.Tests.{Tested, holds, fails, tested, true≢false, iff, both, and-left-fails, and-right-fails, or-left, or-right, neither, below-cases, some-same, none, some-here}
+use Rattle.finite.specs.Finite.{and, or, some, sum, those, has, places}
+use Rattle.finite.proofs.Tests.{Tested, holds, fails, tested, iff, both, and-left-fails, and-right-fails, or-left, or-right, below-cases, some-same}
 
 -- ---- a front part
 

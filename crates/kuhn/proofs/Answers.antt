@@ -1,26 +1,24 @@
 -- Laws of the calls' checks and answers. Assumes nothing.
 use mathlib.Core.Path.{_≡_, refl, sym, ap, ap₂, _∙_}
-use mathlib.Core.Bool.{Bool, true, false, not, cond}
+use mathlib.Core.Bool.{Bool, true, false, not}
 use mathlib.Core.List.{List, [], _∷_, _++_}
 use Prim.Native.Nat.{ℕ, zero, suc, _+_, _*_, _-_, _≤_, _<_}
 use native.Mathlib.Omega.{arith}
-use lib.Dec.{eqb, ltb, leb}
+use lib.Dec.{eqb, ltb}
 use borrow.Author.Tests.{lt-ltb, le-ltb, le-leb, lt-leb, ltb-false, eq-eqb, ne-eqb, eqb-true, not-true, not-false}
 use lib.IntN.{ℤ, pos}
 use lib.ListN.{length, getD, take, drop, replicate}
 use Rattle.refusals.specs.Refusals.{Check, first, _refuses_}
 use Rattle.refusals.proofs.Order.{refused, passed, fails-first, fails-rest}
-use Rattle.finite.specs.Finite.{and, or}
+use Rattle.finite.specs.Finite.{or}
 use Rattle.finite.proofs.Tests.{both, and-left, and-right, and-left-fails, and-right-fails, or-false-left, or-false-right}
 use Rattle.finite.proofs.Lists.{getD-within}
 use Rattle.kuhn_rules.specs.Rules.{ended, overrun, live, over, due, remaining}
-use Rattle.kuhn_rules.specs.Reached.{strange, twice, fair, played, possible, unknown}
+use Rattle.kuhn_rules.specs.Reached.{strange, twice, fair, played, unknown}
 use Rattle.kuhn.specs.Calls.{seats-out, reachable, cardsOf, historyOf, position-checks, step-checks, step-refusal, deal-checks, deal-refusal, legal-of, legal-checks, legal-refusal, key-of, key-checks, key-refusal, payoff-checks, payoff-refusal, payoff-answer, saved-checks, mark, mark-checks, saved-refusal, moved, wrote, written}
 use Rattle.kuhn_rules.specs.Stakes.{payoffs-of}
 use Rattle.kuhn.specs.declared.KuhnPoker.{KuhnPoker}
 use Rattle.kuhn.specs.declared.KuhnState.{KuhnState}
-use Rattle.kuhn.specs.declared.Moved.{Moved}
-use Rattle.kuhn.specs.declared.Written.{Written}
 use Rattle.kuhn_rules.proofs.Histories.{hand-lasts}
 use Rattle.kuhn_rules.proofs.Deals.{outcome-in, outcome-out}
 use Rattle.kuhn.proofs.Positions.{dealt-is, acted-is, reachable-is, reachable-dealt, reachable-acted}

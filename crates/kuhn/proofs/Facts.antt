@@ -1,25 +1,23 @@
 -- The facts of specs/Facts.antt, proved. Assumes nothing.
-use mathlib.Core.Path.{_≡_, refl, sym, ap, ap₂, subst, _∙_}
-use mathlib.Core.Bool.{Bool, true, false, not, cond}
-use mathlib.Core.List.{List, [], _∷_, _++_}
-use Prim.Native.Nat.{ℕ, zero, suc, _+_, _*_, _-_, _≤_, _<_}
+use mathlib.Core.Path.{_≡_, refl, ap, _∙_}
+use mathlib.Core.Bool.{Bool, true, false, not}
+use mathlib.Core.List.{[], _∷_}
+use Prim.Native.Nat.{ℕ, _*_, _-_, _≤_}
 use native.Mathlib.Omega.{arith}
 use lib.Dec.{eqb, ltb, leb}
-use borrow.Author.Tests.{lt-ltb, le-ltb, le-leb, lt-leb, eq-eqb, ltb-false, leb-true, leb-false, eqb-true, not-true, not-false}
-use lib.ListN.{length, getD, take}
-use Rattle.refusals.specs.Refusals.{Check, first, _refuses_}
-use Rattle.refusals.proofs.Order.{refused, passed, fails-first, fails-rest}
-use Rattle.finite.specs.Finite.{and, or, has, those}
-use Rattle.finite.proofs.Tests.{Tested, holds, fails, tested, true≢false, iff, both, neither, and-left, and-right, and-left-fails, and-rest, or-right, or-false-left, or-false-right}
-use Rattle.finite.proofs.Lists.{those-ascending, has-those}
-use Rattle.kuhn_rules.specs.Rules.{ended, overrun, over, left, remaining}
-use Rattle.kuhn_rules.specs.Reached.{Reached, strange, twice, unknown, fair, played, possible}
-use Rattle.kuhn.specs.Calls.{seats-out, cardsOf, historyOf, reachable, saved-checks, mark, mark-checks, saved-refusal}
+use borrow.Author.Tests.{le-ltb, le-leb, eq-eqb, ltb-false, eqb-true, not-false}
+use lib.ListN.{length}
+use Rattle.refusals.specs.Refusals.{first, _refuses_}
+use Rattle.finite.specs.Finite.{and, or}
+use Rattle.finite.proofs.Tests.{both, neither, and-right, or-right, or-false-left, or-false-right}
+use Rattle.kuhn_rules.specs.Rules.{ended, overrun}
+use Rattle.kuhn_rules.specs.Reached.{strange, twice, unknown, fair, played, possible}
+use Rattle.kuhn.specs.Calls.{seats-out, cardsOf, historyOf, reachable, mark, saved-refusal}
 use Rattle.kuhn.specs.Facts.{Sized, Reachable-by-moves, Saved-accepts}
 use Rattle.kuhn.specs.declared.KuhnPoker.{KuhnPoker}
 use Rattle.kuhn.specs.declared.KuhnState.{KuhnState}
 use Rattle.kuhn_rules.proofs.Histories.{hand-lasts}
-use Rattle.kuhn.proofs.Positions.{dealt-is, acted-is, reachable-is, reachable-dealt, reachable-acted, fair-take}
+use Rattle.kuhn.proofs.Positions.{dealt-is, acted-is, reachable-is, reachable-dealt, reachable-acted}
 use Rattle.kuhn.proofs.Answers.{seats-least, seats-most}
 use Rattle.kuhn_rules.proofs.Moves.{reached-possible, possible-reached}
 use Rattle.kuhn_rules.proofs.Facts.{possible-fair, possible-played, fair-tests, played-tests}

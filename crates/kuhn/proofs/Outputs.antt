@@ -1,17 +1,16 @@
 -- What the calls that write leave in their outputs. Assumes nothing.
-use mathlib.Core.Path.{_≡_, refl, sym, ap, ap₂, _∙_}
-use mathlib.Core.Bool.{Bool, true, false, not, cond}
+use mathlib.Core.Path.{_≡_, sym, ap, ap₂, _∙_}
+use mathlib.Core.Bool.{Bool, true, false, cond}
 use mathlib.Core.List.{List, [], _∷_, _++_}
-use Prim.Native.Nat.{ℕ, zero, suc, _+_, _%_, _≤_, _<_}
+use Prim.Native.Nat.{ℕ, suc, _+_, _%_, _≤_, _<_}
 use native.Mathlib.Nat as NatL
 use native.Mathlib.Omega.{arith}
 use lib.Dec.{eqb}
 use borrow.Author.Tests.{eq-eqb, ne-eqb}
 use lib.ListN.{length, getD, take, drop, set}
 use lib.Seq.{paste, length-take-le, getD-take}
-use Rattle.finite.specs.Finite.{and}
 use Rattle.finite.proofs.Tests.{both, and-left-fails, and-right-fails}
-use Rattle.kuhn_rules.specs.Rules.{PASS, BET, live, turn, legal, key}
+use Rattle.kuhn_rules.specs.Rules.{PASS, BET, live, turn, legal}
 use Rattle.kuhn.specs.Calls.{cardsOf, historyOf, legal-of, key-of}
 use Rattle.kuhn.specs.declared.KuhnPoker.{KuhnPoker}
 use Rattle.kuhn.specs.declared.KuhnState.{KuhnState}

@@ -1,14 +1,14 @@
 -- Laws of positions: their tests by the lengths they hold. Assumes nothing.
-use mathlib.Core.Path.{_≡_, refl, sym, ap, ap₂, _∙_}
-use mathlib.Core.Bool.{Bool, true, false, not, cond}
-use mathlib.Core.List.{List, [], _∷_, _++_}
-use Prim.Native.Nat.{ℕ, zero, suc, _+_, _-_, _≤_, _<_}
+use mathlib.Core.Path.{_≡_, ap, ap₂, _∙_}
+use mathlib.Core.Bool.{true, not}
+use mathlib.Core.List.{List}
+use Prim.Native.Nat.{ℕ, _≤_}
 use native.Mathlib.Omega.{arith}
-use lib.Dec.{eqb, ltb, leb}
+use lib.Dec.{eqb, leb}
 use borrow.Author.Tests.{le-leb, leb-true}
-use lib.ListN.{length, getD, take}
+use lib.ListN.{length, take}
 use lib.Seq.{length-take-le}
-use Rattle.finite.specs.Finite.{and, or, some}
+use Rattle.finite.specs.Finite.{and, or}
 use Rattle.finite.proofs.Tests.{both, and-left, and-right, and-rest}
 use Rattle.kuhn_rules.specs.Rules.{ended, live, over}
 use Rattle.kuhn_rules.specs.Reached.{strange, twice, fair, played, possible}

@@ -1,25 +1,24 @@
 -- At the end of a hand one seat wins, and the payoffs add up to 0. Assumes nothing.
 use mathlib.Core.Path.{_≡_, refl, sym, ap, ap₂, subst, _∙_}
 use mathlib.Core.Logic.{_⊎_, inl, inr}
-use mathlib.Core.Bool.{Bool, true, false, not, cond}
-use mathlib.Core.List.{List, [], _∷_, _++_}
-use Prim.Native.Nat.{ℕ, zero, suc, _+_, _-_, _%_, _≤_, _<_}
+use mathlib.Core.Bool.{true, false, not, cond}
+use mathlib.Core.List.{List, [], _∷_}
+use Prim.Native.Nat.{ℕ, zero, suc, _+_, _%_, _≤_, _<_}
 use native.Mathlib.Nat as NatL
 use native.Mathlib.Numerals.{add-one}
 use native.Mathlib.Omega.{arith}
 use lib.Dec.{eqb, ltb, leb}
-use borrow.Author.Tests.{lt-ltb, le-ltb, le-leb, eq-eqb, ne-eqb, ltb-true, ltb-false, leb-true, eqb-true, eqb-false, not-true, not-false}
-use lib.IntN.{ℤ, pos, negsuc, negℤ, _+ℤ_, +ℤ-idl, +ℤ-idr, +ℤ-assoc, +ℤ-comm, +ℤ-invl, +ℤ-invr, pos-+ℤ-pos}
+use borrow.Author.Tests.{eq-eqb, ne-eqb, ltb-true, ltb-false, leb-true, eqb-true, not-true}
+use lib.IntN.{ℤ, pos, negℤ, _+ℤ_, +ℤ-idl, +ℤ-idr, +ℤ-assoc, +ℤ-comm, +ℤ-invl, +ℤ-invr, pos-+ℤ-pos}
 use lib.ListN.{length, getD, take}
-use lib.Seq.{take-all, getD-take}
-use Rattle.finite.specs.Finite.{and, or, some, every, sum, sumℤ, has}
+use lib.Seq.{take-all}
+use Rattle.finite.specs.Finite.{and, or, sum, sumℤ, has}
 use Rattle.finite.proofs.Tests.{Tested, holds, fails, tested, true≢false, both, and-left, and-right, or-left, or-right, or-cases, none-at, some-here, every-at, below-cases}
 use Rattle.finite.proofs.Lists.{has-take}
-use Rattle.kuhn_rules.specs.Rules.{PASS, BET, bet-made, bets, stands, wins, contribution, paid-by-others, payoff, over, ended}
-use Rattle.kuhn_rules.specs.Reached.{Reached, strange, twice, fair, played, possible}
+use Rattle.kuhn_rules.specs.Rules.{PASS, BET, bet-made, bets, stands, wins, contribution, paid-by-others, payoff}
+use Rattle.kuhn_rules.specs.Reached.{strange, twice, fair}
 use Rattle.kuhn_rules.specs.Highest.{Highest}
-use Rattle.kuhn_rules.proofs.Winner.{highest-none, highest-more, wins-highest, folds-lose}
-use Rattle.kuhn_rules.proofs.Moves.{reached-possible}
+use Rattle.kuhn_rules.proofs.Winner.{highest-none, highest-more, wins-highest}
 
 -- ---- sums
 

@@ -1,15 +1,15 @@
 -- Laws of the deal, over the front part of the cards. Assumes nothing.
-use mathlib.Core.Path.{_≡_, refl, sym, ap, ap₂, _∙_}
+use mathlib.Core.Path.{_≡_, refl, sym, ap, _∙_}
 use mathlib.Core.Bool.{Bool, true, false, not, cond}
-use mathlib.Core.List.{List, [], _∷_, _++_}
-use Prim.Native.Nat.{ℕ, zero, suc, _+_, _-_, _≤_, _<_}
+use mathlib.Core.List.{List}
+use Prim.Native.Nat.{ℕ, _+_, _≤_, _<_}
 use native.Mathlib.Omega.{arith}
-use lib.Dec.{eqb, ltb, leb}
+use lib.Dec.{ltb, leb}
 use borrow.Author.Tests.{le-leb, ltb-true, ltb-false}
 use lib.ListN.{length, getD, take, List·getD-eq-default}
 use lib.Seq.{take-take}
-use Rattle.finite.specs.Finite.{and, or, some, has, those}
-use Rattle.finite.proofs.Tests.{Tested, holds, fails, tested, true≢false, both, and-right-fails, some-same}
+use Rattle.finite.specs.Finite.{some, has, those}
+use Rattle.finite.proofs.Tests.{Tested, holds, fails, tested, both, and-right-fails, some-same}
 use Rattle.finite.proofs.Lists.{some-take, those-at, those-below, length-those-kept, length-those-passed}
 use Rattle.kuhn_rules.specs.Rules.{left, remaining}
 use Rattle.kuhn_rules.specs.Reached.{strange, twice}

@@ -1,17 +1,17 @@
 -- The facts of specs/Facts.antt, proved. Assumes nothing.
-use mathlib.Core.Path.{_≡_, refl, sym, ap, ap₂, subst, _∙_}
+use mathlib.Core.Path.{_≡_, refl, sym, ap, _∙_}
 use mathlib.Core.Bool.{Bool, true, false, not, cond}
-use mathlib.Core.List.{List, [], _∷_, _++_}
-use Prim.Native.Nat.{ℕ, zero, suc, _+_, _*_, _-_, _≤_, _<_}
+use mathlib.Core.List.{List, [], _∷_}
+use Prim.Native.Nat.{ℕ, zero, suc, _+_, _<_}
 use native.Mathlib.Omega.{arith}
 use lib.Dec.{eqb, ltb, leb}
-use borrow.Author.Tests.{lt-leb, le-leb, eq-eqb, ne-eqb, ltb-false, eqb-true, not-true}
-use lib.ListN.{length, getD, take}
-use Rattle.finite.specs.Finite.{and, or, has, those}
-use Rattle.finite.proofs.Tests.{Tested, holds, fails, tested, both, and-left, and-right, and-left-fails, and-rest}
+use borrow.Author.Tests.{lt-leb, eq-eqb, ne-eqb, ltb-false, eqb-true, not-true}
+use lib.ListN.{length}
+use Rattle.finite.specs.Finite.{and, or, has}
+use Rattle.finite.proofs.Tests.{Tested, holds, fails, tested, and-left, and-right, and-left-fails, and-rest}
 use Rattle.finite.proofs.Lists.{those-ascending, has-those}
-use Rattle.kuhn_rules.specs.Rules.{PASS, BET, turn, live, over, left, remaining, legal, overrun}
-use Rattle.kuhn_rules.specs.Reached.{Reached, strange, twice, unknown, fair, played, possible}
+use Rattle.kuhn_rules.specs.Rules.{PASS, BET, turn, live, left, remaining, legal, overrun}
+use Rattle.kuhn_rules.specs.Reached.{strange, twice, unknown, fair, played, possible}
 use Rattle.kuhn_rules.specs.Facts.{Decides-reached, Legal-moves, One-winner, Zero-sum, Ascending, All-left, Longest-hand, Key-tells, Key-recalls}
 use Rattle.kuhn_rules.proofs.Histories.{hand-lasts}
 use Rattle.kuhn_rules.proofs.Moves.{reached-possible, possible-reached}

@@ -1,15 +1,15 @@
 -- Laws of the betting, over the front part of a history. Assumes nothing.
-use mathlib.Core.Path.{_≡_, refl, sym, ap, ap₂, _∙_}
-use mathlib.Core.Bool.{Bool, true, false, not, cond}
-use mathlib.Core.List.{List, [], _∷_, _++_}
+use mathlib.Core.Path.{_≡_, refl, sym, ap, _∙_}
+use mathlib.Core.Bool.{Bool, true, false, cond}
+use mathlib.Core.List.{List, [], _∷_}
 use Prim.Native.Nat.{ℕ, zero, suc, _+_, _*_, _-_, _%_, _≤_, _<_}
 use native.Mathlib.Omega.{arith}
-use lib.Dec.{eqb, ltb, leb}
-use borrow.Author.Tests.{lt-ltb, le-ltb, ltb-true, ltb-false, eq-eqb, ne-eqb, eqb-true, eqb-false}
+use lib.Dec.{eqb, ltb}
+use borrow.Author.Tests.{lt-ltb, ltb-true, ltb-false, eq-eqb, ne-eqb, eqb-true, eqb-false}
 use lib.ListN.{length, getD, take}
 use lib.Seq.{length-take-le, getD-take, take-take, take-length}
 use Rattle.finite.specs.Finite.{and, or, some}
-use Rattle.finite.proofs.Tests.{Tested, holds, fails, tested, true≢false, iff, eqb-iff, none, some-here, some-at, some-same}
+use Rattle.finite.proofs.Tests.{Tested, holds, fails, tested, true≢false, iff, eqb-iff, some-here, some-at, some-same}
 use Rattle.finite.proofs.Lists.{some-take}
 use Rattle.kuhn_rules.specs.Rules.{PASS, BET, bet-made, after-bet, ended, overrun, bets, stands}
 use Rattle.kuhn_rules.specs.Reached.{unknown}

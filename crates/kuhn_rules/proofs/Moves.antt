@@ -1,15 +1,15 @@
 -- The test of a position holds of those that legal moves reach, and of no other. Assumes nothing.
 use mathlib.Core.Path.{_≡_, refl, sym, ap, ap₂, subst, _∙_}
-use mathlib.Core.Bool.{Bool, true, false, not}
+use mathlib.Core.Bool.{Bool, true, not}
 use mathlib.Core.List.{List, [], _∷_, _++_}
-use Prim.Native.Nat.{ℕ, zero, suc, _+_, _-_, _≤_, _<_}
+use Prim.Native.Nat.{ℕ, zero, suc, _+_, _≤_, _<_}
 use native.Mathlib.Omega.{arith}
 use lib.Dec.{eqb, leb, ltb, leb·zero}
-use borrow.Author.Tests.{lt-ltb, le-ltb, le-leb, eq-eqb, ne-eqb, ltb-true, ltb-false, leb-true, eqb-true, not-true, not-false}
+use borrow.Author.Tests.{lt-ltb, le-ltb, le-leb, eq-eqb, ltb-true, ltb-false, leb-true, eqb-true, not-true}
 use lib.ListN.{length, getD, take, length-append}
 use lib.Seq.{take-append-seam, take-all, take-suc, take-length, length-take-le, getD-at}
 use Rattle.finite.specs.Finite.{and, or, some, has}
-use Rattle.finite.proofs.Tests.{Tested, holds, fails, tested, true≢false, both, neither, and-left, and-right, and-rest, or-left, or-right, or-rest, or-cases, none-at, some-none}
+use Rattle.finite.proofs.Tests.{both, neither, and-left, and-right, or-left, or-right, or-cases, none-at}
 use Rattle.kuhn_rules.specs.Rules.{BET, due, left, live, ended, overrun}
 use Rattle.kuhn_rules.specs.Reached.{Reached, start, deal, act, strange, twice, unknown, fair, played, possible}
 use Rattle.kuhn_rules.proofs.Deals.{strange-take, twice-take}

@@ -2,16 +2,16 @@
 use mathlib.Core.Path.{_≡_, refl, sym, ap, ap₂, subst, _∙_}
 use mathlib.Core.Logic.{_⊎_, inl, inr}
 use mathlib.Core.Bool.{Bool, true, false, not, cond}
-use mathlib.Core.List.{List, [], _∷_, _++_}
-use Prim.Native.Nat.{ℕ, zero, suc, _+_, _-_, _≤_, _<_}
+use mathlib.Core.List.{List}
+use Prim.Native.Nat.{ℕ, _+_, _-_, _≤_, _<_}
 use native.Mathlib.Omega.{arith}
 use lib.Dec.{eqb, ltb, leb}
 use borrow.Author.Tests.{le-leb, leb-true, eq-eqb, eqb-true}
 use lib.IntN.{ℤ, pos, negℤ}
-use lib.ListN.{length, getD, take, set, replicate}
+use lib.ListN.{getD, take, set, replicate}
 use lib.Seq.{getD-take}
 use Rattle.finite.specs.Finite.{and, or, every, sum, places}
-use Rattle.finite.proofs.Tests.{Tested, holds, fails, tested, true≢false, iff, both, and-left, and-right, and-left-fails, or-left, or-right, or-cases, below-cases, all, every-at}
+use Rattle.finite.proofs.Tests.{Tested, holds, fails, tested, true≢false, iff, both, and-right, and-left-fails, or-left, or-right, or-cases, below-cases, all, every-at}
 use Rattle.finite.proofs.Lists.{sum-without, filled-none, filled-more}
 use Rattle.kuhn_rules.specs.Rules.{stands, wins, contribution, paid-by-others, payoff}
 use Rattle.kuhn_rules.specs.Highest.{Highest}

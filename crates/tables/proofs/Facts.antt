@@ -1,12 +1,12 @@
 -- The games' trees have as many nodes and entries as the constants say, and their sets these actions. Assumes nothing.
 use mathlib.Core.Path.{_≡_, refl, sym, ap, ap₂, subst, _∙_}
-use mathlib.Core.Bool.{Bool, true, false, not, cond}
+use mathlib.Core.Bool.{true, false, not, cond}
 use mathlib.Core.List.{List, [], _∷_, map}
-use Prim.Native.Nat.{ℕ, zero, suc, _+_, _*_, _≤_, _<_}
+use Prim.Native.Nat.{ℕ, _≤_}
 use native.Mathlib.Omega.{arith}
 use lib.Dec.{eqb, ltb, leb}
 use borrow.Author.Tests.{eq-eqb, ne-eqb, eqb-true, eqb-false, not-false}
-use lib.ListN.{length, getD, replicate, length-map}
+use lib.ListN.{length, replicate, length-map}
 use Rattle.finite.specs.Finite.{and, or, some, those, has}
 use Rattle.finite.proofs.Tests.{Tested, holds, fails, tested}
 use Rattle.game.specs.Tree.{Splits, Pays}
@@ -25,7 +25,7 @@ use Rattle.leduc_rules.specs.Rules.{ends-with, folded, closes, behind, raises, 
 use Rattle.leduc_tree.specs.Turns.{joined, turns, isFirst, firstOnes, firstTurns, actionsInOrder}
 use Rattle.leduc_tree.proofs.Facts.{counts, actions-in-order}
 use Rattle.leduc_tree.proofs.Facts as LeducFacts
-use Rattle.tables.specs.Games.{isKuhn, treeOf, C, m, mostParts}
+use Rattle.tables.specs.Games.{treeOf, C, m, mostParts}
 use Rattle.tables.specs.Checks.{seats-out}
 use Rattle.tables.specs.Facts.{nodesOf, setsOf, entriesOf, Counted, kuhn, leduc, Table-of-counts, Fit, Games-fit, Actions-listed, rootUnits, Reply-best}
 use Rattle.tables.specs.Actions.{leducActions, actionsOf}

@@ -1,15 +1,15 @@
 -- Laws of the order of a call's checks. Assumes nothing.
-use mathlib.Core.Path.{_≡_, refl, sym, ap, _∙_}
-use mathlib.Core.Bool.{Bool, true, false, not}
+use mathlib.Core.Path.{_≡_, refl}
+use mathlib.Core.Bool.{Bool, true, false}
 use mathlib.Core.List.{List, [], _∷_, _++_}
-use Prim.Native.Nat.{ℕ, zero, suc, _*_, _≤_}
+use Prim.Native.Nat.{ℕ, suc, _*_, _≤_}
 use native.Mathlib.Omega.{arith}
-use lib.Dec.{eqb, leb, ltb}
+use lib.Dec.{ltb}
 use borrow.Author.Tests.{ltb-false}
 use Rattle.refusals.specs.Refusals.{Check, _refuses_, first}
 use Rattle.game.specs.Sets.{size}
 use Rattle.tables.specs.Games.{treeOf}
-use Rattle.tables.specs.Checks.{seats-out, tree-checks, seat-checks, parts-checks, table-checks, output-checks, reply-checks}
+use Rattle.tables.specs.Checks.{seats-out, tree-checks, parts-checks, table-checks}
 use Rattle.tables.specs.declared.Game.{Game}
 
 -- checks that refuse decide

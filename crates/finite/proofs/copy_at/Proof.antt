@@ -1,16 +1,13 @@
 -- A copy, byte by byte. Assumes nothing.
-use Prim.Native.Nat.{ℕ, _≤_, _<_, _-_, _+_}
+use Prim.Native.Nat.{_≤_, _-_, _+_}
 use mathlib.Core.Path.{_≡_, sym, ap, _∙_}
 use borrow.Author.Needs.{needs}
 use native.Mathlib.Omega.{arith}
 use native.Mathlib.Numerals.{add-one}
-use lib.ListN.{length, getD, set, length-set}
+use lib.ListN.{length, getD, set}
 use lib.Seq.{paste, paste-zero, paste-suc, length-paste}
--- A copy, byte by byte. Assumes nothing.
 use Rattle.finite.proofs.copy_at.Statement.{statement}
 use Rattle.finite.proofs.copy_at.Tie as tie
-use Rattle.finite.proofs.copy_at.Reads as reads
-use Rattle.finite.proofs.copy_at.Lts as lts
 
 abbrev Inv-loop : tie.InvT-loop
 Inv-loop out₀ at source count i₀ out i = (i ≤ count) × (out ≡ paste out₀ at source i)
@@ -18,33 +15,26 @@ Inv-loop out₀ at source count i₀ out i = (i ≤ count) × (out ≡ paste out
 abbrev μ-loop : tie.MeasureT-loop
 μ-loop out₀ at source count i₀ out i = count - i
 
--- src/lib.rt:13:5
 loop-holds : tie.Need-loop-holds Inv-loop μ-loop
 loop-holds c = (search needs, paste-zero (c .args .out .now) (c .args .at) (c .args .source .now))
 
--- src/lib.rt:14:23
 shared-slice-read-out : tie.Need-shared-slice-read-out Inv-loop μ-loop
 shared-slice-read-out c = search needs
 
--- src/lib.rt:14:13
 add-out : tie.Need-add-out Inv-loop μ-loop
 add-out c = search needs
 
--- src/lib.rt:14:9
 slice-write-out : tie.Need-slice-write-out Inv-loop μ-loop
 slice-write-out c =
     let long = ap length (c .before .before .loop .inv .1) ∙ length-paste (c .before .before .before .args .out .now) (c .before .before .before .args .at) (c .before .before .before .args .source .now) (c .before .before .loop .i) (search needs) (search needs) in
     omega arith
 
--- src/lib.rt:15:9
 add-i : tie.Need-add-i Inv-loop μ-loop
 add-i c = search needs
 
--- src/lib.rt:13:5
 loop-less : tie.Need-loop-less Inv-loop μ-loop
 loop-less c = search needs
 
--- src/lib.rt:13:5
 loop-again : tie.Need-loop-again Inv-loop μ-loop
 loop-again c = (
   search needs,
@@ -53,11 +43,9 @@ loop-again c = (
       ∙ ap (paste (c .before .before .before .args .out .now) (c .before .before .before .args .at) (c .before .before .before .args .source .now)) (sym (add-one (c .before .before .loop .i))),
 )
 
--- src/lib.rt:8:1
 same-length : tie.Need-same-length Inv-loop μ-loop
 same-length c = ap length (c .before .loop .inv .1) ∙ length-paste (c .before .before .args .out .now) (c .before .before .args .at) (c .before .before .args .source .now) (c .before .loop .i) (search needs) (search needs)
 
--- src/lib.rt:8:1
 returns : tie.Need-returns Inv-loop μ-loop
 returns c =
     let all : c .before .loop .i ≡ c .before .before .args .count = omega arith in

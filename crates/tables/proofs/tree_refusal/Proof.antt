@@ -1,56 +1,41 @@
 -- The checks of a tree, in order. Assumes nothing.
-use Prim.Native.Nat.{ℕ, _≤_, _<_, _-_, _+_, _*_}
-use mathlib.Core.Path.{_≡_, refl, sym, ap, ap₂, _∙_}
-use mathlib.Core.Bool.{true, false, not, cond}
+use Prim.Native.Nat.{_*_}
+use mathlib.Core.Path.{sym, _∙_}
 use borrow.Author.Needs.{needs}
-use borrow.Author.Tests.{lt-ltb, le-ltb, le-leb, lt-leb, eq-eqb, ne-eqb, not-true, not-false}
+use borrow.Author.Tests.{lt-ltb, le-ltb}
 use native.Mathlib.Omega.{arith}
-use lib.Dec.{ltb, eqb}
-use lib.ListN.{length, getD, take, drop}
-use Rattle.game.specs.Sets.{size, entries, setActions}
-use Rattle.game.specs.Table.{addUp}
+use Rattle.game.specs.Sets.{size}
 use Rattle.tables.specs.Games.{treeOf}
 use Rattle.tables.specs.Checks.{tree-checks}
 use Rattle.tables.proofs.Facts.{nodes-are}
--- The checks of a tree, in order. Assumes nothing.
 use Rattle.tables.proofs.tree_refusal.Statement.{statement}
 use Rattle.tables.proofs.tree_refusal.Tie as tie
-use Rattle.tables.proofs.tree_refusal.Reads as reads
-use Rattle.tables.proofs.tree_refusal.Lts as lts
 
--- src/lib.rt:1110:9
 returns : tie.Need-returns
 unfolding tree-checks
 returns c = rw (lt-ltb _ _ (c .if1 .taken))
 
--- src/lib.rt:1112:8
 seats-outside-requires : tie.Need-seats-outside-requires
 seats-outside-requires c κs = search needs
 
--- src/lib.rt:1113:9
 returns-2 : tie.Need-returns-2
 unfolding tree-checks
 returns-2 c = rw (le-ltb _ _ (c .before .before .if1 .left), sym (c .before .seats-outside .ensures) ∙ c .if2 .taken)
 
--- src/lib.rt:1115:9
 nodes-requires : tie.Need-nodes-requires
 nodes-requires c κs = sym (c .before .seats-outside .ensures) ∙ c .if2 .left
 
--- src/lib.rt:1117:9
 returns-3 : tie.Need-returns-3
 unfolding tree-checks
 returns-3 c = rw (le-ltb _ _ (c .before .before .before .before .if1 .left), sym (c .before .before .before .seats-outside .ensures) ∙ c .before .before .if2 .left, lt-ltb 4000000 (size (treeOf (c .before .before .before .before .before .before .args .g))) (omega (arith, nodes-are (c .before .before .before .before .before .before .args .g) (sym (c .before .before .before .seats-outside .ensures) ∙ c .before .before .if2 .left), c .before .nodes .ensures)))
 
--- src/lib.rt:1119:16
 mul-if4 : tie.Need-mul-if4
 mul-if4 c = omega (arith, c .before .nodes .ensures)
 
--- src/lib.rt:1120:9
 returns-4 : tie.Need-returns-4
 unfolding tree-checks
 returns-4 c = rw (le-ltb _ _ (c .before .before .before .before .before .if1 .left), sym (c .before .before .before .before .seats-outside .ensures) ∙ c .before .before .before .if2 .left, le-ltb 4000000 (size (treeOf (c .before .before .before .before .before .before .before .args .g))) (omega (arith, nodes-are (c .before .before .before .before .before .before .before .args .g) (sym (c .before .before .before .before .seats-outside .ensures) ∙ c .before .before .before .if2 .left), c .before .before .nodes .ensures)), lt-ltb (c .before .before .before .before .before .before .before .args .words) (12 * size (treeOf (c .before .before .before .before .before .before .before .args .g))) (omega (arith, nodes-are (c .before .before .before .before .before .before .before .args .g) (sym (c .before .before .before .before .seats-outside .ensures) ∙ c .before .before .before .if2 .left), c .before .before .nodes .ensures)))
 
--- src/lib.rt:1106:1
 returns-5 : tie.Need-returns-5
 unfolding tree-checks
 returns-5 c = rw (le-ltb _ _ (c .before .before .before .before .before .if1 .left), sym (c .before .before .before .before .seats-outside .ensures) ∙ c .before .before .before .if2 .left, le-ltb 4000000 (size (treeOf (c .before .before .before .before .before .before .before .args .g))) (omega (arith, nodes-are (c .before .before .before .before .before .before .before .args .g) (sym (c .before .before .before .before .seats-outside .ensures) ∙ c .before .before .before .if2 .left), c .before .before .nodes .ensures)), le-ltb (c .before .before .before .before .before .before .before .args .words) (12 * size (treeOf (c .before .before .before .before .before .before .before .args .g))) (omega (arith, nodes-are (c .before .before .before .before .before .before .before .args .g) (sym (c .before .before .before .before .seats-outside .ensures) ∙ c .before .before .before .if2 .left), c .before .before .nodes .ensures)))

@@ -1,28 +1,19 @@
 -- A deal: refused, or one card more. Assumes nothing.
-use Prim.Native.Nat.{ℕ, _≤_, _<_, _+_}
-use mathlib.Core.Path.{_≡_, refl, sym, ap, ap₂, _∙_}
-use mathlib.Core.Bool.{true, false, not, cond}
-use mathlib.Core.List.{[], _∷_, _++_}
+use mathlib.Core.Path.{_≡_, refl, sym, ap, _∙_}
 use borrow.Author.Needs.{needs}
-use borrow.Author.Tests.{not-true, not-false}
 use native.Mathlib.Omega.{arith}
-use lib.ListN.{length, getD, take, drop, set, length-set}
-use Rattle.kuhn.specs.Calls.{deal-refusal, deal-checks, with-card}
-use Rattle.kuhn.proofs.Answers.{position-refused, seats-ten, cards-in, moved-on, not-moved, deal-position, deal-not-due, deal-no-card, deal-fits, deal-card}
+use lib.ListN.{length}
+use Rattle.kuhn.specs.Calls.{with-card}
+use Rattle.kuhn.proofs.Answers.{seats-ten, cards-in, moved-on, not-moved, deal-position, deal-not-due, deal-no-card, deal-fits, deal-card}
 use Rattle.kuhn.proofs.KuhnPoker.apply_chance_node.Statement.{statement}
 use Rattle.kuhn.proofs.KuhnPoker.apply_chance_node.Tie as tie
-use Rattle.kuhn.proofs.KuhnPoker.apply_chance_node.Reads as reads
-use Rattle.kuhn.proofs.KuhnPoker.apply_chance_node.Lts as lts
 
--- src/lib.rt:119:13
 position-refusal-requires : tie.Need-position-refusal-requires
 position-refusal-requires c κs = search needs
 
--- src/lib.rt:121:13
 returns : tie.Need-returns
 returns c = not-moved _ _ _ _ (deal-position (c .before .before .args .self .players) (c .before .before .args .state) _ (c .before .before .args .outcome) (c .before .position-refusal .ensures) (c .if1 .taken)) (c .if1 .taken)
 
--- src/lib.rt:126:13
 returns-2 : tie.Need-returns-2
 returns-2 c =
     let tens : length (c .before .before .before .args .state .cards) ≡ 10 = search needs in
@@ -30,11 +21,9 @@ returns-2 c =
     let ok = sym (c .before .before .position-refusal .ensures) ∙ c .before .if1 .left in
     not-moved 20 _ _ _ (deal-not-due (c .before .before .before .args .self) (c .before .before .before .args .state) tens nineteen ok (c .before .before .before .args .outcome) (c .if2 .taken)) (λ z. omega arith)
 
--- src/lib.rt:132:41
 slice-aggregate-nth-remaining : tie.Need-slice-aggregate-nth-remaining
 slice-aggregate-nth-remaining c = search needs
 
--- src/lib.rt:132:13
 nth-remaining-requires : tie.Need-nth-remaining-requires
 nth-remaining-requires c κs =
     let tens : length (c .before .before .before .before .before .args .state .cards) ≡ 10 = search needs in
@@ -42,7 +31,6 @@ nth-remaining-requires c κs =
     let ok = sym (c .before .before .before .before .position-refusal .ensures) ∙ c .before .before .before .if1 .left in
     (omega (arith, cards-in (c .before .before .before .before .before .args .self .players) (c .before .before .before .before .before .args .state) ok), seats-ten (c .before .before .before .before .before .args .self .players) (c .before .before .before .before .before .args .state) ok)
 
--- src/lib.rt:134:13
 returns-3 : tie.Need-returns-3
 returns-3 c =
     let tens : length (c .before .before .before .before .before .before .before .args .state .cards) ≡ 10 = search needs in
@@ -50,13 +38,11 @@ returns-3 c =
     let ok = sym (c .before .before .before .before .before .before .position-refusal .ensures) ∙ c .before .before .before .before .before .if1 .left in
     not-moved 20 _ _ _ (deal-no-card (c .before .before .before .before .before .before .before .args .self) (c .before .before .before .before .before .before .before .args .state) tens nineteen ok (c .before .before .before .before .before .before .before .args .outcome) (rw (c .before .nth-remaining .ensures) at (c .if3 .taken))) (λ z. omega arith)
 
--- src/lib.rt:139:13
 with-card-requires : tie.Need-with-card-requires
 with-card-requires c κs =
     let ok = sym (c .before .before .before .before .before .before .position-refusal .ensures) ∙ c .before .before .before .before .before .if1 .left in
     (omega (arith, seats-ten (c .before .before .before .before .before .before .before .args .self .players) (c .before .before .before .before .before .before .before .args .state) ok), omega (arith, seats-ten (c .before .before .before .before .before .before .before .args .self .players) (c .before .before .before .before .before .before .before .args .state) ok))
 
--- src/lib.rt:116:5
 returns-4 : tie.Need-returns-4
 returns-4 c =
     let tens : length (c .before .before .before .before .before .before .before .before .args .state .cards) ≡ 10 = search needs in

@@ -1,33 +1,24 @@
 -- The key, written out. Assumes nothing.
-use Prim.Native.Nat.{ℕ, _≤_, _<_, _+_}
-use mathlib.Core.Path.{_≡_, refl, sym, ap, ap₂, _∙_}
-use mathlib.Core.Bool.{true, false, not, cond}
-use mathlib.Core.List.{[], _∷_, _++_}
+use mathlib.Core.Path.{_≡_, refl, sym, ap, _∙_}
+use mathlib.Core.List.{_++_}
 use borrow.Author.Needs.{needs}
-use borrow.Author.Tests.{not-true, not-false}
 use native.Mathlib.Omega.{arith}
-use lib.ListN.{length, getD, take, drop, set, length-set}
-use Rattle.kuhn.specs.Calls.{key-checks, key-of, key-refusal}
+use lib.ListN.{length, getD, drop, length-set}
+use Rattle.kuhn.specs.Calls.{key-of}
 use Rattle.kuhn.proofs.Answers.{cards-in, actions-in, key-position, key-long, key-no-card, key-no-room, key-fits, wrote-on, not-wrote, kept-out, written-on}
 use Rattle.kuhn.proofs.Outputs.{key-front, key-is}
--- The key, written out. Assumes nothing.
 use Rattle.kuhn.proofs.KuhnPoker.information_state_key.Statement.{statement}
 use Rattle.kuhn.proofs.KuhnPoker.information_state_key.Tie as tie
-use Rattle.kuhn.proofs.KuhnPoker.information_state_key.Reads as reads
-use Rattle.kuhn.proofs.KuhnPoker.information_state_key.Lts as lts
 
--- src/lib.rt:198:13
 position-refusal-requires : tie.Need-position-refusal-requires
 position-refusal-requires c κs = search needs
 
--- src/lib.rt:200:13
 returns : tie.Need-returns
 returns c = (
   not-wrote _ _ _ _ (key-position (c .before .before .before .args .self) (c .before .before .before .args .state) _ (c .before .before .before .args .agent) (length (c .before .before .before .args .out .now)) (c .before .position-refusal .ensures) (c .if1 .taken)) (c .if1 .taken),
   kept-out _ (key-of (c .before .before .before .args .state) (c .before .before .before .args .agent)) _ (c .if1 .taken),
 )
 
--- src/lib.rt:208:13
 returns-2 : tie.Need-returns-2
 returns-2 c =
     let tens : length (c .before .before .before .before .args .state .cards) ≡ 10 = search needs in
@@ -35,13 +26,11 @@ returns-2 c =
     let ok = sym (c .before .before .position-refusal .ensures) ∙ c .before .if1 .left in
     (not-wrote 20 _ _ _ (key-no-card (c .before .before .before .before .args .self) (c .before .before .before .before .args .state) tens nineteen ok (c .before .before .before .before .args .agent) (length (c .before .before .before .before .args .out .now)) (c .if2 .taken)) (λ z. omega arith), refl)
 
--- src/lib.rt:215:21
 add-count : tie.Need-add-count
 add-count c =
     let ok = sym (c .before .before .position-refusal .ensures) ∙ c .before .if1 .left in
     omega (arith, actions-in (c .before .before .before .before .args .self .players) (c .before .before .before .before .args .state) ok)
 
--- src/lib.rt:217:13
 returns-3 : tie.Need-returns-3
 returns-3 c =
     let tens : length (c .before .before .before .before .before .args .state .cards) ≡ 10 = search needs in
@@ -49,31 +38,25 @@ returns-3 c =
     let ok = sym (c .before .before .before .position-refusal .ensures) ∙ c .before .before .if1 .left in
     (not-wrote 9 _ _ _ (key-no-room (c .before .before .before .before .before .args .self) (c .before .before .before .before .before .args .state) tens nineteen ok (c .before .before .before .before .before .args .agent) (length (c .before .before .before .before .before .args .out .now)) (c .before .if2 .left) (c .if3 .taken)) (λ z. omega arith), refl)
 
--- src/lib.rt:225:18
 cast-out : tie.Need-cast-out
 cast-out c =
     let ok = sym (c .before .before .before .before .before .position-refusal .ensures) ∙ c .before .before .before .before .if1 .left in
     omega (arith, cards-in (c .before .before .before .before .before .before .before .args .self .players) (c .before .before .before .before .before .before .before .args .state) ok)
 
--- src/lib.rt:225:9
 slice-write-out : tie.Need-slice-write-out
 slice-write-out c = search needs
 
--- src/lib.rt:226:18
 array-read-out : tie.Need-array-read-out
 array-read-out c =
     let ok = sym (c .before .before .before .before .before .position-refusal .ensures) ∙ c .before .before .before .before .if1 .left in
     omega (arith, cards-in (c .before .before .before .before .before .before .before .args .self .players) (c .before .before .before .before .before .before .before .args .state) ok)
 
--- src/lib.rt:226:9
 slice-write-out-2 : tie.Need-slice-write-out-2
 slice-write-out-2 c = simp length-set (omega arith)
 
--- src/lib.rt:227:33
 slice-aggregate-copy-at : tie.Need-slice-aggregate-copy-at
 slice-aggregate-copy-at c = search needs
 
--- src/lib.rt:227:9
 copy-at-requires : tie.Need-copy-at-requires
 copy-at-requires c κs =
     let tens : length (c .before .before .before .before .before .before .before .before .before .args .state .cards) ≡ 10 = search needs in
@@ -81,11 +64,9 @@ copy-at-requires c κs =
     let ok = sym (c .before .before .before .before .before .before .before .position-refusal .ensures) ∙ c .before .before .before .before .before .before .if1 .left in
     (simp length-set (omega arith), omega (arith, actions-in (c .before .before .before .before .before .before .before .before .before .args .self .players) (c .before .before .before .before .before .before .before .before .before .args .state) ok))
 
--- src/lib.rt:194:5
 same-length : tie.Need-same-length
 same-length c = simp length-set at (c .before .before .copy-at .kept .0)
 
--- src/lib.rt:194:5
 returns-4 : tie.Need-returns-4
 returns-4 c =
     let tens : length (c .before .before .before .before .before .before .before .before .before .before .before .before .args .state .cards) ≡ 10 = search needs in

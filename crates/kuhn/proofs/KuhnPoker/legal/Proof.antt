@@ -1,40 +1,30 @@
 -- The legal list, by value. Assumes nothing.
-use Prim.Native.Nat.{ℕ, _≤_, _<_, _+_}
-use mathlib.Core.Path.{_≡_, refl, sym, ap, ap₂, _∙_}
-use mathlib.Core.Bool.{true, false, not, cond}
-use mathlib.Core.List.{[], _∷_, _++_}
+use mathlib.Core.Path.{_≡_, sym, ap, _∙_}
 use borrow.Author.Needs.{needs}
 use borrow.Author.Tests.{not-true, not-false}
-use native.Mathlib.Omega.{arith}
-use lib.ListN.{length, getD, take, drop, set, length-set}
+use lib.ListN.{length}
 use Rattle.kuhn.proofs.Positions.{acted-is}
 use Rattle.kuhn.proofs.Answers.{seats-positive, seats-ten, cards-in, actions-in}
 use Rattle.kuhn.proofs.Outputs.{legal-idle, legal-waits, legal-turn}
 use Rattle.kuhn.proofs.KuhnPoker.legal.Statement.{statement}
 use Rattle.kuhn.proofs.KuhnPoker.legal.Tie as tie
-use Rattle.kuhn.proofs.KuhnPoker.legal.Reads as reads
-use Rattle.kuhn.proofs.KuhnPoker.legal.Lts as lts
 
--- src/lib.rt:184:13
 is-live-requires : tie.Need-is-live-requires
 is-live-requires c κs =
     let ok = c .pre in
     (seats-positive (c .args .self .players) (c .args .state) ok, seats-ten (c .args .self .players) (c .args .state) ok, cards-in (c .args .self .players) (c .args .state) ok, actions-in (c .args .self .players) (c .args .state) ok)
 
--- src/lib.rt:185:13
 returns : tie.Need-returns
 returns c =
     let none = legal-idle (c .before .before .args .self) (c .before .before .args .state) (c .before .before .args .agent) (sym (c .before .is-live .ensures) ∙ not-true _ (c .if1 .taken)) in
     (none, ap length none, search needs)
 
--- src/lib.rt:187:21
 rem-if2 : tie.Need-rem-if2
 rem-if2 c =
     let ok = c .before .before .pre in
     let one = seats-positive (c .before .before .args .self .players) (c .before .before .args .state) ok in
     search needs
 
--- src/lib.rt:188:13
 returns-2 : tie.Need-returns-2
 returns-2 c =
     let tens : length (c .before .before .before .args .state .cards) ≡ 10 = search needs in
@@ -43,7 +33,6 @@ returns-2 c =
     let none = legal-waits (c .before .before .before .args .self) (c .before .before .before .args .state) (c .before .before .before .args .agent) (acted-is (c .before .before .before .args .state) tens nineteen (cards-in (c .before .before .before .args .self .players) (c .before .before .before .args .state) ok) (actions-in (c .before .before .before .args .self .players) (c .before .before .before .args .state) ok)) (c .if2 .taken) in
     (none, ap length none, search needs)
 
--- src/lib.rt:177:5
 returns-3 : tie.Need-returns-3
 returns-3 c =
     let tens : length (c .before .before .before .args .state .cards) ≡ 10 = search needs in

@@ -1,36 +1,26 @@
 -- The legal list, written out. Assumes nothing.
-use Prim.Native.Nat.{ℕ, _≤_, _<_, _+_}
-use mathlib.Core.Path.{_≡_, refl, sym, ap, ap₂, _∙_}
-use mathlib.Core.Bool.{true, false, not, cond}
-use mathlib.Core.List.{[], _∷_, _++_}
+use mathlib.Core.Path.{_≡_, refl, sym, _∙_}
 use borrow.Author.Needs.{needs}
-use borrow.Author.Tests.{not-true, not-false}
 use native.Mathlib.Omega.{arith}
-use lib.ListN.{length, getD, take, drop, set, length-set}
-use Rattle.kuhn.specs.Calls.{legal-checks, legal-of, legal-refusal}
-use Rattle.kuhn.proofs.Answers.{position-refused, legal-position, legal-no-room, legal-fits, wrote-on, not-wrote, kept-out, written-on}
+use lib.ListN.{length}
+use Rattle.kuhn.specs.Calls.{legal-of}
+use Rattle.kuhn.proofs.Answers.{legal-position, legal-no-room, legal-fits, wrote-on, not-wrote, kept-out, written-on}
 use Rattle.kuhn.proofs.Outputs.{front}
 use Rattle.kuhn.proofs.KuhnPoker.legal_actions.Statement.{statement}
 use Rattle.kuhn.proofs.KuhnPoker.legal_actions.Tie as tie
-use Rattle.kuhn.proofs.KuhnPoker.legal_actions.Reads as reads
-use Rattle.kuhn.proofs.KuhnPoker.legal_actions.Lts as lts
 
--- src/lib.rt:150:13
 position-refusal-requires : tie.Need-position-refusal-requires
 position-refusal-requires c κs = search needs
 
--- src/lib.rt:152:13
 returns : tie.Need-returns
 returns c = (
   not-wrote _ _ _ _ (legal-position (c .before .before .before .args .self) (c .before .before .before .args .state) _ (c .before .before .before .args .agent) (length (c .before .before .before .args .out .now)) (c .before .position-refusal .ensures) (c .if1 .taken)) (c .if1 .taken),
   kept-out _ (legal-of (c .before .before .before .args .self) (c .before .before .before .args .state) (c .before .before .before .args .agent)) _ (c .if1 .taken),
 )
 
--- src/lib.rt:158:13
 legal-requires : tie.Need-legal-requires
 legal-requires c κs = sym (c .before .position-refusal .ensures) ∙ c .if1 .left
 
--- src/lib.rt:161:13
 returns-2 : tie.Need-returns-2
 returns-2 c =
     let tens : length (c .before .before .before .before .before .args .state .cards) ≡ 10 = search needs in
@@ -39,21 +29,17 @@ returns-2 c =
     let short = rw (c .before .legal .ensures .1) at (c .if2 .taken) in
     (not-wrote 9 _ _ _ (legal-no-room (c .before .before .before .before .before .args .self) (c .before .before .before .before .before .args .state) tens nineteen ok (c .before .before .before .before .before .args .agent) (length (c .before .before .before .before .before .args .out .now)) short) (λ z. omega arith), refl)
 
--- src/lib.rt:168:33
 slice-aggregate-copy-at : tie.Need-slice-aggregate-copy-at
 slice-aggregate-copy-at c = search needs
 
--- src/lib.rt:168:9
 copy-at-requires : tie.Need-copy-at-requires
 copy-at-requires c κs =
     let two : length (c .before .before .before .before .legal .result .actions) ≡ 2 = search needs in
     (omega arith, omega arith)
 
--- src/lib.rt:146:5
 same-length : tie.Need-same-length
 same-length c = search needs
 
--- src/lib.rt:146:5
 returns-3 : tie.Need-returns-3
 returns-3 c =
     let tens : length (c .before .before .before .before .before .before .before .before .before .before .before .args .state .cards) ≡ 10 = search needs in

@@ -1,35 +1,24 @@
 -- The payoffs: refused, or one for each seat. Assumes nothing.
-use Prim.Native.Nat.{ℕ, _≤_, _<_, _+_}
-use mathlib.Core.Path.{_≡_, refl, sym, ap, ap₂, _∙_}
-use mathlib.Core.Bool.{true, false, not, cond}
-use mathlib.Core.List.{[], _∷_, _++_}
+use mathlib.Core.Path.{_≡_, sym, _∙_}
 use borrow.Author.Needs.{needs}
-use borrow.Author.Tests.{not-true, not-false}
 use native.Mathlib.Omega.{arith}
-use lib.ListN.{length, getD, take, drop, set, length-set}
+use lib.ListN.{length}
 use Rattle.kuhn.proofs.Answers.{paid-out, not-paid, payoff-full, payoff-position, seats-positive, seats-ten, actions-in}
 use Rattle.kuhn.proofs.KuhnPoker.payouts.Statement.{statement}
 use Rattle.kuhn.proofs.KuhnPoker.payouts.Tie as tie
-use Rattle.kuhn.proofs.KuhnPoker.payouts.Reads as reads
-use Rattle.kuhn.proofs.KuhnPoker.payouts.Lts as lts
 
--- src/lib.rt:240:13
 payoff-refusal-requires : tie.Need-payoff-refusal-requires
 payoff-refusal-requires c κs = search needs
 
--- src/lib.rt:243:13
 returns : tie.Need-returns
 returns c = not-paid _ _ (c .before .before .args .self) (c .before .before .args .state) (c .before .payoff-refusal .ensures) (c .if1 .taken)
 
--- src/lib.rt:254:38
 slice-aggregate-payoffs : tie.Need-slice-aggregate-payoffs
 slice-aggregate-payoffs c = search needs
 
--- src/lib.rt:254:46
 slice-aggregate-payoffs-2 : tie.Need-slice-aggregate-payoffs-2
 slice-aggregate-payoffs-2 c = search needs
 
--- src/lib.rt:254:13
 payoffs-requires : tie.Need-payoffs-requires
 payoffs-requires c κs =
     let tens : length (c .before .before .before .before .before .before .args .state .cards) ≡ 10 = search needs in
@@ -37,7 +26,6 @@ payoffs-requires c κs =
     let ok = payoff-position (c .before .before .before .before .before .before .args .self) (c .before .before .before .before .before .before .args .state) (sym (c .before .before .before .before .before .payoff-refusal .ensures) ∙ c .before .before .before .before .if1 .left) in
     (omega (arith, actions-in (c .before .before .before .before .before .before .args .self .players) (c .before .before .before .before .before .before .args .state) ok), seats-positive (c .before .before .before .before .before .before .args .self .players) (c .before .before .before .before .before .before .args .state) ok, seats-ten (c .before .before .before .before .before .before .args .self .players) (c .before .before .before .before .before .before .args .state) ok, omega (arith, seats-ten (c .before .before .before .before .before .before .args .self .players) (c .before .before .before .before .before .before .args .state) ok))
 
--- src/lib.rt:237:5
 returns-2 : tie.Need-returns-2
 returns-2 c =
     let tens : length (c .before .before .before .before .before .before .before .args .state .cards) ≡ 10 = search needs in

@@ -1,35 +1,23 @@
 -- A step: refused, or one action more. Assumes nothing.
-use Prim.Native.Nat.{ℕ, _≤_, _<_}
-use mathlib.Core.Path.{_≡_, refl, sym, ap, ap₂, _∙_}
-use mathlib.Core.Bool.{true, false, not, cond}
+use mathlib.Core.Path.{_≡_, sym, _∙_}
 use borrow.Author.Needs.{needs}
-use borrow.Author.Tests.{not-true, not-false}
-use native.Mathlib.Omega.{arith}
-use lib.ListN.{length, take, set}
+use lib.ListN.{length}
 use Rattle.kuhn.proofs.Answers.{moved-on, not-moved, room-to-act}
--- A step: refused, or one action more. Assumes nothing.
 use Rattle.kuhn.proofs.KuhnPoker.step.Statement.{statement}
 use Rattle.kuhn.proofs.KuhnPoker.step.Tie as tie
-use Rattle.kuhn.proofs.KuhnPoker.step.Reads as reads
-use Rattle.kuhn.proofs.KuhnPoker.step.Lts as lts
-use Rattle.kuhn.proofs.KuhnPoker.step_refusal.Reads as step-refusal-reads
 
--- src/lib.rt:84:13
 step-refusal-requires : tie.Need-step-refusal-requires
 step-refusal-requires c κs = search needs
 
--- src/lib.rt:86:13
 returns : tie.Need-returns
 returns c = not-moved _ _ _ _ (c .before .step-refusal .ensures) (c .if1 .taken)
 
--- src/lib.rt:88:13
 with-action-requires : tie.Need-with-action-requires
 with-action-requires c κs =
     let ten : length (c .before .before .args .state .cards) ≡ 10 = search needs in
     let nineteen : length (c .before .before .args .state .history) ≡ 19 = search needs in
     room-to-act (c .before .before .args .self) (c .before .before .args .state) ten nineteen (sym (c .before .step-refusal .ensures) ∙ c .if1 .left)
 
--- src/lib.rt:81:5
 returns-2 : tie.Need-returns-2
 returns-2 c = moved-on _ _ _ _ _ (c .before .before .step-refusal .ensures) (c .before .if1 .left) (c .with-action .ensures)
 

@@ -1,30 +1,21 @@
 -- The checks of the call, in order. Assumes nothing.
-use Prim.Native.Nat.{ℕ, _≤_, _<_}
-use mathlib.Core.Path.{_≡_, refl, sym, ap, ap₂, _∙_}
-use mathlib.Core.Bool.{true, false, not, cond}
+use mathlib.Core.Path.{sym, ap, _∙_}
+use mathlib.Core.Bool.{not}
 use borrow.Author.Needs.{needs}
-use borrow.Author.Tests.{not-true, not-false}
-use native.Mathlib.Omega.{arith}
-use lib.ListN.{length, take, set}
 use Rattle.kuhn.specs.Calls.{step-refusal, step-checks}
 use mathlib.Core.List.{[]}
 use Rattle.refusals.proofs.Order.{refused, passed}
 use Rattle.kuhn.proofs.Answers.{position-refused, position-passed, seats-positive, seats-ten, cards-in, actions-in}
 use Rattle.kuhn.proofs.KuhnPoker.step_refusal.Statement.{statement}
 use Rattle.kuhn.proofs.KuhnPoker.step_refusal.Tie as tie
-use Rattle.kuhn.proofs.KuhnPoker.step_refusal.Reads as reads
-use Rattle.kuhn.proofs.KuhnPoker.step_refusal.Lts as lts
 
--- src/lib.rt:99:13
 position-refusal-requires : tie.Need-position-refusal-requires
 position-refusal-requires c κs = search needs
 
--- src/lib.rt:101:13
 returns : tie.Need-returns
 unfolding step-refusal
 returns c = position-refused (c .before .before .args .self .players) (c .before .before .args .state) _ (step-checks (c .before .before .args .self .players) (c .before .before .args .state)) (c .before .position-refusal .ensures) (c .if1 .taken)
 
--- src/lib.rt:103:13
 is-live-requires : tie.Need-is-live-requires
 is-live-requires c κs =
     let ok = sym (c .before .position-refusal .ensures) ∙ c .if1 .left in
@@ -32,14 +23,12 @@ is-live-requires c κs =
     let s = c .before .before .args .state in
     (seats-positive n s ok, seats-ten n s ok, cards-in n s ok, actions-in n s ok)
 
--- src/lib.rt:104:13
 returns-2 : tie.Need-returns-2
 unfolding step-refusal
 returns-2 c =
     sym (position-passed (c .before .before .before .before .args .self .players) (c .before .before .before .before .args .state) _ (step-checks (c .before .before .before .before .args .self .players) (c .before .before .before .before .args .state)) (c .before .before .before .position-refusal .ensures) (c .before .before .if1 .left)
     ∙ refused 20 [] (ap not (sym (c .before .is-live .ensures)) ∙ c .if2 .taken))
 
--- src/lib.rt:96:5
 returns-3 : tie.Need-returns-3
 unfolding step-refusal
 returns-3 c =

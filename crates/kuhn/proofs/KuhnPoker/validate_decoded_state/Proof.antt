@@ -1,41 +1,27 @@
 -- A saved position: its checks, then its end mark. Assumes nothing.
-use Prim.Native.Nat.{ℕ, _≤_, _<_, _+_}
-use mathlib.Core.Path.{_≡_, refl, sym, ap, ap₂, _∙_}
-use mathlib.Core.Bool.{true, false, not, cond}
-use mathlib.Core.List.{[], _∷_, _++_}
+use mathlib.Core.Path.{sym, ap, _∙_}
 use borrow.Author.Needs.{needs}
-use borrow.Author.Tests.{not-true, not-false}
-use native.Mathlib.Omega.{arith}
-use lib.ListN.{length, getD, take, drop, set, length-set}
-use borrow.Author.Tests.{eq-eqb, ne-eqb}
 use Rattle.kuhn.proofs.Answers.{saved-refused, saved-mark, saved-passed, saved-seats, saved-most, saved-acted}
 use Rattle.kuhn.proofs.KuhnPoker.validate_decoded_state.Statement.{statement}
 use Rattle.kuhn.proofs.KuhnPoker.validate_decoded_state.Tie as tie
-use Rattle.kuhn.proofs.KuhnPoker.validate_decoded_state.Reads as reads
-use Rattle.kuhn.proofs.KuhnPoker.validate_decoded_state.Lts as lts
 
--- src/lib.rt:280:13
 saved-refusal-requires : tie.Need-saved-refusal-requires
 saved-refusal-requires c κs = search needs
 
--- src/lib.rt:282:13
 returns : tie.Need-returns
 returns c = ap (λ k. record { refusal = k; state = c .before .before .args .state }) (saved-refused (c .before .before .args .self) (c .before .before .args .state) _ (c .before .before .args .done) (c .before .saved-refusal .ensures) (c .if1 .taken))
 
--- src/lib.rt:284:20
 end-mark-requires : tie.Need-end-mark-requires
 end-mark-requires c κs =
     let ok = sym (c .before .saved-refusal .ensures) ∙ c .if1 .left in
     let most = saved-most (c .before .before .args .self .players) (c .before .before .args .state) ok in
     (saved-seats (c .before .before .args .self .players) (c .before .before .args .state) ok, most, saved-acted (c .before .before .args .self .players) (c .before .before .args .state) ok)
 
--- src/lib.rt:285:13
 returns-2 : tie.Need-returns-2
 returns-2 c =
     let ok = sym (c .before .before .before .saved-refusal .ensures) ∙ c .before .before .if1 .left in
     ap (λ k. record { refusal = k; state = c .before .before .before .before .args .state }) (saved-mark (c .before .before .before .before .args .self) (c .before .before .before .before .args .state) (c .before .before .before .before .args .done) ok (λ q. c .if2 .taken (q ∙ sym (c .before .end-mark .ensures))))
 
--- src/lib.rt:277:5
 returns-3 : tie.Need-returns-3
 returns-3 c =
     let ok = sym (c .before .before .before .saved-refusal .ensures) ∙ c .before .before .if1 .left in

@@ -1,35 +1,25 @@
 -- A fair deal: its three tests in turn. Assumes nothing.
-use Prim.Native.Nat.{ℕ, _≤_, _<_}
-use mathlib.Core.Path.{_≡_, sym, ap, _∙_}
-use mathlib.Core.Bool.{true, false, not}
+use mathlib.Core.Path.{sym, ap, _∙_}
+use mathlib.Core.Bool.{not}
 use borrow.Author.Needs.{needs}
-use borrow.Author.Tests.{lt-ltb, le-ltb, le-leb, lt-leb, eq-eqb, ne-eqb}
-use native.Mathlib.Omega.{arith}
-use lib.ListN.{length, take}
-use Rattle.finite.proofs.Tests.{and-left-fails, and-right-fails, and-rest, or-left, or-rest}
+use borrow.Author.Tests.{le-leb, lt-leb}
+use Rattle.finite.proofs.Tests.{and-left-fails, and-right-fails, and-rest}
 use Rattle.kuhn.proofs.Positions.{fair-take}
 use Rattle.kuhn.proofs.position.fairly_dealt.Statement.{statement}
 use Rattle.kuhn.proofs.position.fairly_dealt.Tie as tie
-use Rattle.kuhn.proofs.position.fairly_dealt.Reads as reads
-use Rattle.kuhn.proofs.position.fairly_dealt.Lts as lts
 
--- src/position.rt:33:9
 returns : tie.Need-returns
 returns c = sym (fair-take _ _ _ (c .before .before .pre) ∙ and-left-fails _ (lt-leb _ _ (c .if1 .taken)))
 
--- src/position.rt:35:8
 card-outside-requires : tie.Need-card-outside-requires
 card-outside-requires c κs = search needs
 
--- src/position.rt:36:9
 returns-2 : tie.Need-returns-2
 returns-2 c = sym (fair-take _ _ _ (c .before .before .before .before .pre) ∙ and-right-fails _ (and-left-fails _ (ap not (sym (c .before .card-outside .ensures) ∙ c .if2 .taken))))
 
--- src/position.rt:38:6
 card-twice-requires : tie.Need-card-twice-requires
 card-twice-requires c κs = search needs
 
--- src/position.rt:28:1
 returns-3 : tie.Need-returns-3
 returns-3 c = sym (fair-take _ _ _ (c .before .before .before .before .before .pre) ∙ and-rest _ (le-leb _ _ (c .before .before .before .if1 .left)) ∙ and-rest _ (ap not (sym (c .before .before .card-outside .ensures) ∙ c .before .if2 .left)) ∙ ap not (sym (c .card-twice .ensures)))
 

@@ -1,68 +1,54 @@
 -- The test of a position, in turn. Assumes nothing.
-use Prim.Native.Nat.{ℕ, _≤_, _<_}
-use mathlib.Core.Path.{_≡_, sym, ap, _∙_}
-use mathlib.Core.Bool.{true, false, not}
+use mathlib.Core.Path.{_≡_, sym, _∙_}
 use borrow.Author.Needs.{needs}
 use borrow.Author.Tests.{lt-leb, not-true, not-false}
 use native.Mathlib.Omega.{arith}
-use lib.ListN.{length, take}
+use lib.ListN.{length}
 use Rattle.finite.proofs.Tests.{and-left-fails, and-right-fails, and-rest}
 use Rattle.kuhn.specs.Calls.{reachable}
 use Rattle.kuhn.proofs.Positions.{reachable-is}
 use Rattle.kuhn.proofs.position.is_reachable.Statement.{statement}
 use Rattle.kuhn.proofs.position.is_reachable.Tie as tie
-use Rattle.kuhn.proofs.position.is_reachable.Reads as reads
-use Rattle.kuhn.proofs.position.is_reachable.Lts as lts
 
--- src/position.rt:60:9
 returns : tie.Need-returns
 unfolding reachable
 returns c = sym (and-left-fails _ (and-left-fails _ (lt-leb _ _ (c .if1 .taken))))
 
--- src/position.rt:63:9
 returns-2 : tie.Need-returns-2
 unfolding reachable
 returns-2 c = sym (and-left-fails _ (and-right-fails _ (lt-leb _ _ (c .if2 .taken))))
 
--- src/position.rt:66:22
 slice-aggregate-fairly-dealt : tie.Need-slice-aggregate-fairly-dealt
 slice-aggregate-fairly-dealt c = search needs
 
--- src/position.rt:66:9
 fairly-dealt-requires : tie.Need-fairly-dealt-requires
 fairly-dealt-requires c κs =
     let ten : length (c .before .before .before .before .args .state .cards) ≡ 10 = search needs in
     omega arith
 
--- src/position.rt:67:9
 returns-3 : tie.Need-returns-3
 returns-3 c =
     let ten : length (c .before .before .before .before .before .before .args .state .cards) ≡ 10 = search needs in
     let nineteen : length (c .before .before .before .before .before .before .args .state .history) ≡ 19 = search needs in
     sym (reachable-is (c .before .before .before .before .before .before .args .state) ten nineteen (search needs) (search needs) (c .before .before .before .before .before .before .args .n) ∙ and-left-fails _ (sym (c .before .fairly-dealt .ensures) ∙ not-true _ (c .if3 .taken)))
 
--- src/position.rt:69:8
 acts-early-requires : tie.Need-acts-early-requires
 acts-early-requires c κs = search needs
 
--- src/position.rt:70:9
 returns-4 : tie.Need-returns-4
 returns-4 c =
     let ten : length (c .before .before .before .before .before .before .before .before .args .state .cards) ≡ 10 = search needs in
     let nineteen : length (c .before .before .before .before .before .before .before .before .args .state .history) ≡ 19 = search needs in
     sym (reachable-is (c .before .before .before .before .before .before .before .before .args .state) ten nineteen (search needs) (search needs) (c .before .before .before .before .before .before .before .before .args .n) ∙ and-right-fails _ (and-left-fails _ (not-true _ (sym (c .before .acts-early .ensures) ∙ c .if4 .taken))))
 
--- src/position.rt:73:17
 slice-aggregate-well-played : tie.Need-slice-aggregate-well-played
 slice-aggregate-well-played c = search needs
 
--- src/position.rt:73:5
 well-played-requires : tie.Need-well-played-requires
 well-played-requires c κs =
     let nineteen : length (c .before .before .before .before .before .before .before .before .before .before .args .state .history) ≡ 19 = search needs in
     (omega arith, search needs, search needs)
 
--- src/position.rt:53:1
 returns-5 : tie.Need-returns-5
 returns-5 c =
     let ten : length (c .before .before .before .before .before .before .before .before .before .before .before .args .state .cards) ≡ 10 = search needs in

@@ -1,21 +1,17 @@
 -- Whether a seat has bet: not among the actions passed. Assumes nothing.
-use Prim.Native.Nat.{ℕ, _≤_, _<_, _-_, _%_}
-use native.Mathlib.Omega.{arith}
+use Prim.Native.Nat.{_≤_, _-_, _%_}
 use mathlib.Core.Path.{_≡_, sym, _∙_}
 use mathlib.Core.Logic.{⊎-elim}
-use mathlib.Core.Bool.{true, false}
+use mathlib.Core.Bool.{false}
 use borrow.Author.Needs.{needs}
 use borrow.Author.Tests.{eq-eqb, ne-eqb}
-use lib.Dec.{ltb, eqb}
-use lib.ListN.{length, getD}
+use lib.Dec.{eqb}
+use lib.ListN.{getD}
 use Rattle.finite.specs.Finite.{some, and}
 use Rattle.finite.proofs.Tests.{some-none, none-more, none-passed, some-here, both, and-left-fails, and-right-fails}
 use Rattle.kuhn_rules.proofs.Histories.{bets-take}
--- Whether a seat has bet: not among the actions passed. Assumes nothing.
 use Rattle.kuhn_rules.proofs.betting.bet_by.Statement.{statement}
 use Rattle.kuhn_rules.proofs.betting.bet_by.Tie as tie
-use Rattle.kuhn_rules.proofs.betting.bet_by.Reads as reads
-use Rattle.kuhn_rules.proofs.betting.bet_by.Lts as lts
 
 abbrev Inv-loop : tie.InvT-loop
 Inv-loop history acted n player i₀ i = (i ≤ acted) × (some i (λ k. and (eqb (k % n) player) (eqb (getD history k 0) 1)) ≡ false)
@@ -23,35 +19,27 @@ Inv-loop history acted n player i₀ i = (i ≤ acted) × (some i (λ k. and (eq
 abbrev μ-loop : tie.MeasureT-loop
 μ-loop history acted n player i₀ i = acted - i
 
--- src/betting.rt:81:5
 loop-holds : tie.Need-loop-holds Inv-loop μ-loop
 loop-holds c = (search needs, some-none _)
 
--- src/betting.rt:82:12
 rem-if1 : tie.Need-rem-if1 Inv-loop μ-loop
 rem-if1 c = search needs
 
--- src/betting.rt:82:31
 shared-slice-read-if2 : tie.Need-shared-slice-read-if2 Inv-loop μ-loop
 shared-slice-read-if2 c = search needs
 
--- src/betting.rt:83:13
 returns : tie.Need-returns Inv-loop μ-loop
 returns c = sym (bets-take _ _ _ _ (c .before .before .before .before .before .pre .0) ∙ some-here _ _ (c .before .before .before .before .loop .i) (search needs) (both (eq-eqb _ _ (c .before .before .if1 .taken)) (c .if2 .taken)))
 
--- src/betting.rt:85:9
 add-i : tie.Need-add-i Inv-loop μ-loop
 add-i c = search needs
 
--- src/betting.rt:81:5
 loop-less : tie.Need-loop-less Inv-loop μ-loop
 loop-less c = search needs
 
--- src/betting.rt:81:5
 loop-again : tie.Need-loop-again Inv-loop μ-loop
 loop-again c = (search needs, none-more _ _ (c .before .before .loop .inv .1) (⊎-elim (λ w. and-right-fails _ (w .2 .left)) (λ w. and-left-fails _ (ne-eqb _ _ (w .left))) (c .if1 .came)))
 
--- src/betting.rt:76:1
 returns-2 : tie.Need-returns-2 Inv-loop μ-loop
 returns-2 c = sym (bets-take _ _ _ _ (c .before .before .pre .0) ∙ none-passed _ _ _ (c .before .loop .inv .0) (search needs) (c .before .loop .inv .1))
 

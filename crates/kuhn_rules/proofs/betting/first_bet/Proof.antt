@@ -3,11 +3,9 @@ use Prim.Native.Nat.{ℕ, _≤_, _<_, _-_}
 use mathlib.Core.Path.{_≡_}
 use borrow.Author.Count.{below-more}
 use borrow.Author.Needs.{needs}
-use lib.ListN.{length, getD}
+use lib.ListN.{getD}
 use Rattle.kuhn_rules.proofs.betting.first_bet.Statement.{statement}
 use Rattle.kuhn_rules.proofs.betting.first_bet.Tie as tie
-use Rattle.kuhn_rules.proofs.betting.first_bet.Reads as reads
-use Rattle.kuhn_rules.proofs.betting.first_bet.Lts as lts
 
 abbrev Inv-loop : tie.InvT-loop
 Inv-loop history acted i₀ i = (i ≤ acted) × ((k : ℕ) → k < i → getD history k 0 ≡ 1 → ⊥)
@@ -15,31 +13,24 @@ Inv-loop history acted i₀ i = (i ≤ acted) × ((k : ℕ) → k < i → getD h
 abbrev μ-loop : tie.MeasureT-loop
 μ-loop history acted i₀ i = acted - i
 
--- src/betting.rt:23:5
 loop-holds : tie.Need-loop-holds Inv-loop μ-loop
 loop-holds c = search needs
 
--- src/betting.rt:24:12
 shared-slice-read-if1 : tie.Need-shared-slice-read-if1 Inv-loop μ-loop
 shared-slice-read-if1 c = search needs
 
--- src/betting.rt:25:13
 returns : tie.Need-returns Inv-loop μ-loop
 returns c = search needs
 
--- src/betting.rt:27:9
 add-i : tie.Need-add-i Inv-loop μ-loop
 add-i c = search needs
 
--- src/betting.rt:23:5
 loop-less : tie.Need-loop-less Inv-loop μ-loop
 loop-less c = search needs
 
--- src/betting.rt:23:5
 loop-again : tie.Need-loop-again Inv-loop μ-loop
 loop-again c = (search needs, below-more _ _ (c .before .before .before .loop .inv .1) (c .if1 .left))
 
--- src/betting.rt:16:1
 returns-2 : tie.Need-returns-2 Inv-loop μ-loop
 returns-2 c = search needs
 

@@ -1,30 +1,20 @@
 -- The end of a hand, by the place of the first bet. Assumes nothing.
-use Prim.Native.Nat.{ℕ, _≤_, _<_, _-_, _+_}
-use mathlib.Core.Path.{_≡_, sym, ap, _∙_}
-use mathlib.Core.Bool.{true, false, cond}
+use mathlib.Core.Path.{sym}
 use borrow.Author.Needs.{needs}
-use lib.ListN.{length, getD, take}
 use native.Mathlib.Omega.{arith}
 use Rattle.kuhn_rules.proofs.Histories.{ended-quiet, ended-bet}
--- The end of a hand, by the place of the first bet. Assumes nothing.
 use Rattle.kuhn_rules.proofs.betting.is_terminal.Statement.{statement}
 use Rattle.kuhn_rules.proofs.betting.is_terminal.Tie as tie
-use Rattle.kuhn_rules.proofs.betting.is_terminal.Reads as reads
-use Rattle.kuhn_rules.proofs.betting.is_terminal.Lts as lts
 
--- src/betting.rt:37:9
 first-bet-requires : tie.Need-first-bet-requires
 first-bet-requires c κs = search needs
 
--- src/betting.rt:39:18
 add-result : tie.Need-add-result
 add-result c = search needs
 
--- src/betting.rt:33:1
 returns : tie.Need-returns
 returns c = sym (ended-bet _ _ _ _ (c .before .before .before .pre .1) (c .before .before .before .pre .0) (c .before .first-bet .ensures .1 .0) (c .if1 .taken) (c .before .first-bet .ensures .1 .1 (c .if1 .taken)))
 
--- src/betting.rt:33:1
 returns-2 : tie.Need-returns-2
 returns-2 c = sym (ended-quiet _ _ _ (c .before .before .before .pre .0) (λ k w. c .before .first-bet .ensures .1 .0 k (omega arith)))
 

@@ -1,19 +1,16 @@
 -- Whether some action is unknown: none of those passed is. Assumes nothing.
-use Prim.Native.Nat.{ℕ, _≤_, _<_, _-_, _%_}
-use native.Mathlib.Omega.{arith}
+use Prim.Native.Nat.{_≤_, _-_}
 use mathlib.Core.Path.{_≡_, sym, _∙_}
-use mathlib.Core.Bool.{true, false}
+use mathlib.Core.Bool.{false}
 use borrow.Author.Needs.{needs}
-use borrow.Author.Tests.{lt-ltb, le-ltb, eq-eqb, ne-eqb}
-use lib.Dec.{ltb, eqb}
-use lib.ListN.{length, getD}
-use Rattle.finite.specs.Finite.{some, and}
+use borrow.Author.Tests.{lt-ltb, le-ltb}
+use lib.Dec.{ltb}
+use lib.ListN.{getD}
+use Rattle.finite.specs.Finite.{some}
 use Rattle.finite.proofs.Tests.{some-none, none-more, none-passed, some-here}
 use Rattle.kuhn_rules.proofs.Histories.{unknown-take}
 use Rattle.kuhn_rules.proofs.betting.unknown_action.Statement.{statement}
 use Rattle.kuhn_rules.proofs.betting.unknown_action.Tie as tie
-use Rattle.kuhn_rules.proofs.betting.unknown_action.Reads as reads
-use Rattle.kuhn_rules.proofs.betting.unknown_action.Lts as lts
 
 abbrev Inv-loop : tie.InvT-loop
 Inv-loop history acted i₀ i = (i ≤ acted) × (some i (λ k. ltb 1 (getD history k 0)) ≡ false)
@@ -21,31 +18,24 @@ Inv-loop history acted i₀ i = (i ≤ acted) × (some i (λ k. ltb 1 (getD hist
 abbrev μ-loop : tie.MeasureT-loop
 μ-loop history acted i₀ i = acted - i
 
--- src/betting.rt:66:5
 loop-holds : tie.Need-loop-holds Inv-loop μ-loop
 loop-holds c = (search needs, some-none _)
 
--- src/betting.rt:67:36
 shared-slice-read-if1 : tie.Need-shared-slice-read-if1 Inv-loop μ-loop
 shared-slice-read-if1 c = search needs
 
--- src/betting.rt:68:13
 returns : tie.Need-returns Inv-loop μ-loop
 returns c = sym (unknown-take _ _ (c .before .before .before .before .pre) ∙ some-here _ _ (c .before .before .before .loop .i) (search needs) (lt-ltb _ _ (c .if1 .taken)))
 
--- src/betting.rt:70:9
 add-i : tie.Need-add-i Inv-loop μ-loop
 add-i c = search needs
 
--- src/betting.rt:66:5
 loop-less : tie.Need-loop-less Inv-loop μ-loop
 loop-less c = search needs
 
--- src/betting.rt:66:5
 loop-again : tie.Need-loop-again Inv-loop μ-loop
 loop-again c = (search needs, none-more _ _ (c .before .before .before .loop .inv .1) (le-ltb _ _ (c .if1 .left)))
 
--- src/betting.rt:61:1
 returns-2 : tie.Need-returns-2 Inv-loop μ-loop
 returns-2 c = sym (unknown-take _ _ (c .before .before .pre) ∙ none-passed _ _ _ (c .before .loop .inv .0) (search needs) (c .before .loop .inv .1))
 

@@ -1,17 +1,14 @@
 -- Whether a card appears twice: none of those passed has come before. Assumes nothing.
-use Prim.Native.Nat.{ℕ, _≤_, _<_, _-_, _+_}
-use mathlib.Core.Path.{_≡_, sym, ap, _∙_}
-use mathlib.Core.Bool.{true, false, cond}
+use Prim.Native.Nat.{_≤_, _-_}
+use mathlib.Core.Path.{_≡_, sym, _∙_}
+use mathlib.Core.Bool.{false}
 use borrow.Author.Needs.{needs}
-use lib.ListN.{length, getD, take}
+use lib.ListN.{getD, take}
 use Rattle.finite.specs.Finite.{some, has}
 use Rattle.finite.proofs.Tests.{some-none, none-more, none-passed, some-here}
 use Rattle.kuhn_rules.proofs.Deals.{twice-take}
--- Whether a card appears twice: none of those passed has come before. Assumes nothing.
 use Rattle.kuhn_rules.proofs.cards.card_twice.Statement.{statement}
 use Rattle.kuhn_rules.proofs.cards.card_twice.Tie as tie
-use Rattle.kuhn_rules.proofs.cards.card_twice.Reads as reads
-use Rattle.kuhn_rules.proofs.cards.card_twice.Lts as lts
 
 abbrev Inv-loop : tie.InvT-loop
 Inv-loop cards dealt i₀ i = (i ≤ dealt) × (some i (λ k. has (getD cards k 0) (take k cards)) ≡ false)
@@ -19,39 +16,30 @@ Inv-loop cards dealt i₀ i = (i ≤ dealt) × (some i (λ k. has (getD cards k 
 abbrev μ-loop : tie.MeasureT-loop
 μ-loop cards dealt i₀ i = dealt - i
 
--- src/cards.rt:47:5
 loop-holds : tie.Need-loop-holds Inv-loop μ-loop
 loop-holds c = (search needs, some-none _)
 
--- src/cards.rt:48:36
 shared-slice-read-wide : tie.Need-shared-slice-read-wide Inv-loop μ-loop
 shared-slice-read-wide c = search needs
 
--- src/cards.rt:48:31
 wide-requires : tie.Need-wide-requires Inv-loop μ-loop
 wide-requires c κs = search needs
 
--- src/cards.rt:48:12
 contains-requires : tie.Need-contains-requires Inv-loop μ-loop
 contains-requires c κs = search needs
 
--- src/cards.rt:49:13
 returns : tie.Need-returns Inv-loop μ-loop
 returns c = sym (twice-take _ _ (c .before .before .before .before .before .before .before .pre) ∙ some-here _ _ (c .before .before .before .before .before .loop .i) (search needs) (rw (← (c .before .before .wide .ensures)) (sym (c .before .contains .ensures) ∙ c .if1 .taken)))
 
--- src/cards.rt:51:9
 add-i : tie.Need-add-i Inv-loop μ-loop
 add-i c = search needs
 
--- src/cards.rt:47:5
 loop-less : tie.Need-loop-less Inv-loop μ-loop
 loop-less c = search needs
 
--- src/cards.rt:47:5
 loop-again : tie.Need-loop-again Inv-loop μ-loop
 loop-again c = (search needs, none-more _ _ (c .before .before .before .before .before .loop .inv .1) (rw (← (c .before .before .wide .ensures)) (sym (c .before .contains .ensures) ∙ c .if1 .left)))
 
--- src/cards.rt:42:1
 returns-2 : tie.Need-returns-2 Inv-loop μ-loop
 returns-2 c = sym (twice-take _ _ (c .before .before .before .pre) ∙ none-passed _ _ _ (c .before .loop .inv .0) (search needs) (c .before .loop .inv .1))
 

@@ -1,19 +1,16 @@
 -- Whether a card is among the first: it is none of those passed. Assumes nothing.
-use Prim.Native.Nat.{ℕ, _≤_, _<_, _-_}
+use Prim.Native.Nat.{_≤_, _-_}
 use mathlib.Core.Path.{_≡_, sym, _∙_}
-use mathlib.Core.Bool.{true, false}
+use mathlib.Core.Bool.{false}
 use borrow.Author.Needs.{needs}
-use borrow.Author.Tests.{lt-ltb, le-ltb, eq-eqb, ne-eqb}
-use lib.Dec.{ltb, eqb}
-use lib.ListN.{length, getD}
-use Rattle.finite.specs.Finite.{some, has}
+use borrow.Author.Tests.{eq-eqb, ne-eqb}
+use lib.Dec.{eqb}
+use lib.ListN.{getD}
+use Rattle.finite.specs.Finite.{some}
 use Rattle.finite.proofs.Tests.{some-none, none-more, none-passed, some-here}
 use Rattle.finite.proofs.Lists.{has-take}
--- Whether a card is among the first: it is none of those passed. Assumes nothing.
 use Rattle.kuhn_rules.proofs.cards.contains.Statement.{statement}
 use Rattle.kuhn_rules.proofs.cards.contains.Tie as tie
-use Rattle.kuhn_rules.proofs.cards.contains.Reads as reads
-use Rattle.kuhn_rules.proofs.cards.contains.Lts as lts
 
 abbrev Inv-loop : tie.InvT-loop
 Inv-loop cards count c i₀ i = (i ≤ count) × (some i (λ k. eqb (getD cards k 0) c) ≡ false)
@@ -21,35 +18,27 @@ Inv-loop cards count c i₀ i = (i ≤ count) × (some i (λ k. eqb (getD cards 
 abbrev μ-loop : tie.MeasureT-loop
 μ-loop cards count c i₀ i = count - i
 
--- src/cards.rt:17:5
 loop-holds : tie.Need-loop-holds Inv-loop μ-loop
 loop-holds c = (search needs, some-none _)
 
--- src/cards.rt:18:17
 shared-slice-read-wide : tie.Need-shared-slice-read-wide Inv-loop μ-loop
 shared-slice-read-wide c = search needs
 
--- src/cards.rt:18:12
 wide-requires : tie.Need-wide-requires Inv-loop μ-loop
 wide-requires c κs = search needs
 
--- src/cards.rt:19:13
 returns : tie.Need-returns Inv-loop μ-loop
 returns c = sym (has-take _ _ _ (c .before .before .before .before .before .before .pre) ∙ some-here _ _ (c .before .before .before .before .loop .i) (search needs) (eq-eqb _ _ (sym (c .before .wide .ensures) ∙ c .if1 .taken)))
 
--- src/cards.rt:21:9
 add-i : tie.Need-add-i Inv-loop μ-loop
 add-i c = search needs
 
--- src/cards.rt:17:5
 loop-less : tie.Need-loop-less Inv-loop μ-loop
 loop-less c = search needs
 
--- src/cards.rt:17:5
 loop-again : tie.Need-loop-again Inv-loop μ-loop
 loop-again c = (search needs, none-more _ _ (c .before .before .before .before .loop .inv .1) (ne-eqb _ _ (λ q. c .if1 .left (c .before .wide .ensures ∙ q))))
 
--- src/cards.rt:12:1
 returns-2 : tie.Need-returns-2 Inv-loop μ-loop
 returns-2 c = sym (has-take _ _ _ (c .before .before .before .pre) ∙ none-passed _ _ _ (c .before .loop .inv .0) (search needs) (c .before .loop .inv .1))
 

@@ -1,18 +1,13 @@
 -- The card of an outcome: as many are left below the next card as were passed. Assumes nothing.
-use Prim.Native.Nat.{ℕ, _≤_, _<_, _-_, _+_}
-use mathlib.Core.Path.{_≡_, sym, ap, _∙_}
-use mathlib.Core.Bool.{true, false, cond}
+use Prim.Native.Nat.{_≤_, _-_, _+_}
+use mathlib.Core.Path.{_≡_, sym}
 use borrow.Author.Needs.{needs}
-use lib.ListN.{length, getD, take}
-use native.Mathlib.Omega.{arith}
+use lib.ListN.{length, take}
 use Rattle.finite.specs.Finite.{those}
 use Rattle.kuhn_rules.specs.Rules.{left}
 use Rattle.kuhn_rules.proofs.Deals.{none-below, card-found, card-passed, no-card-found}
--- The card of an outcome: as many are left below the next card as were passed. Assumes nothing.
 use Rattle.kuhn_rules.proofs.cards.nth_remaining.Statement.{statement}
 use Rattle.kuhn_rules.proofs.cards.nth_remaining.Tie as tie
-use Rattle.kuhn_rules.proofs.cards.nth_remaining.Reads as reads
-use Rattle.kuhn_rules.proofs.cards.nth_remaining.Lts as lts
 
 abbrev Inv-loop : tie.InvT-loop
 Inv-loop cards dealt n outcome c₀ passed₀ c passed = (c ≤ n + 1) × (passed ≡ length (those c (left n (take dealt cards)))) × (passed ≤ outcome) × (passed ≤ c)
@@ -20,39 +15,30 @@ Inv-loop cards dealt n outcome c₀ passed₀ c passed = (c ≤ n + 1) × (passe
 abbrev μ-loop : tie.MeasureT-loop
 μ-loop cards dealt n outcome c₀ passed₀ c passed = n + 1 - c
 
--- src/cards.rt:63:5
 loop-holds : tie.Need-loop-holds Inv-loop μ-loop
 loop-holds c = (search needs, none-below _, search needs, search needs)
 
--- src/cards.rt:64:13
 left-requires : tie.Need-left-requires Inv-loop μ-loop
 left-requires c κs = search needs
 
--- src/cards.rt:65:22
 add-if1 : tie.Need-add-if1 Inv-loop μ-loop
 add-if1 c = search needs
 
--- src/cards.rt:66:13
 returns : tie.Need-returns Inv-loop μ-loop
 returns c = sym (card-found _ _ _ _ _ _ (c .before .before .before .loop .inv .1) (c .before .before .before .loop .inv .2) (search needs) (c .before .left .ensures .0) (c .if1 .taken))
 
--- src/cards.rt:68:9
 add-passed : tie.Need-add-passed Inv-loop μ-loop
 add-passed c = search needs
 
--- src/cards.rt:69:9
 add-c : tie.Need-add-c Inv-loop μ-loop
 add-c c = search needs
 
--- src/cards.rt:63:5
 loop-less : tie.Need-loop-less Inv-loop μ-loop
 loop-less c = search needs
 
--- src/cards.rt:63:5
 loop-again : tie.Need-loop-again Inv-loop μ-loop
 loop-again c = (search needs, card-passed _ _ _ (c .before .before .before .before .before .args .outcome) _ _ (c .before .before .before .loop .inv .1) (c .before .before .before .loop .inv .2) (search needs) (c .before .left .ensures .0), search needs, search needs)
 
--- src/cards.rt:57:1
 returns-2 : tie.Need-returns-2 Inv-loop μ-loop
 returns-2 c = sym (no-card-found _ _ _ _ _ 0 (c .before .loop .inv .1) (c .before .loop .inv .2) (c .loop-test .left) (c .before .loop .inv .0))
 

@@ -1,20 +1,14 @@
 -- The pot: what the seats passed have paid. Assumes nothing.
-use Prim.Native.Nat.{ℕ, _≤_, _<_, _-_, _+_, _*_}
+use Prim.Native.Nat.{_≤_, _-_, _+_, _*_}
 use mathlib.Core.Path.{_≡_, sym, ap, ap₂, _∙_}
-use mathlib.Core.Bool.{true, false, cond}
-use mathlib.Core.Logic.{inl, inr}
 use borrow.Author.Needs.{needs}
 use native.Mathlib.Omega.{arith}
-use lib.ListN.{length, getD, take}
+use lib.ListN.{take}
 use Rattle.finite.specs.Finite.{sum}
 use Rattle.finite.proofs.Lists.{sum-more, sum-none}
 use Rattle.kuhn_rules.specs.Rules.{contribution}
--- The pot: what the seats passed have paid. Assumes nothing.
--- The pot: what the seats passed have paid. Assumes nothing.
 use Rattle.kuhn_rules.proofs.money.pot.Statement.{statement}
 use Rattle.kuhn_rules.proofs.money.pot.Tie as tie
-use Rattle.kuhn_rules.proofs.money.pot.Reads as reads
-use Rattle.kuhn_rules.proofs.money.pot.Lts as lts
 
 abbrev Inv-loop : tie.InvT-loop
 Inv-loop history acted n total₀ player₀ total player = (player ≤ n) × (total ≡ sum player (contribution 1 1 n (take acted history))) × (total ≤ 2 * player)
@@ -22,31 +16,24 @@ Inv-loop history acted n total₀ player₀ total player = (player ≤ n) × (to
 abbrev μ-loop : tie.MeasureT-loop
 μ-loop history acted n total₀ player₀ total player = n - player
 
--- src/money.rt:44:5
 loop-holds : tie.Need-loop-holds Inv-loop μ-loop
 loop-holds c = (search needs, sum-none _, search needs)
 
--- src/money.rt:45:18
 contributed-requires : tie.Need-contributed-requires Inv-loop μ-loop
 contributed-requires c κs = search needs
 
--- src/money.rt:45:9
 add-total : tie.Need-add-total Inv-loop μ-loop
 add-total c = search needs
 
--- src/money.rt:46:9
 add-player : tie.Need-add-player Inv-loop μ-loop
 add-player c = search needs
 
--- src/money.rt:44:5
 loop-less : tie.Need-loop-less Inv-loop μ-loop
 loop-less c = search needs
 
--- src/money.rt:44:5
 loop-again : tie.Need-loop-again Inv-loop μ-loop
 loop-again c = (search needs, ap₂ _+_ (c .before .before .loop .inv .1) (c .contributed .ensures .0) ∙ sym (sum-more _ _), search needs)
 
--- src/money.rt:38:1
 returns : tie.Need-returns Inv-loop μ-loop
 returns c =
     let all : c .before .loop .player ≡ c .before .before .before .args .n = omega arith in

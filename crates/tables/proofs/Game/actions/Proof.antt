@@ -1,30 +1,22 @@
 -- The constant actions of a set. Assumes nothing.
-use Prim.Native.Nat.{ℕ, _≤_, _<_, _-_, _+_, _*_}
-use mathlib.Core.Path.{_≡_, refl, sym, ap, ap₂, _∙_}
+use mathlib.Core.Path.{_≡_, _∙_}
 use borrow.Author.Needs.{needs}
 use native.Mathlib.Omega.{arith}
-use lib.ListN.{length, getD}
+use lib.ListN.{getD}
 use Rattle.tables.specs.Actions.{leducActions}
 use Rattle.tables.proofs.Counts.{kuhn-actions, leduc-sets, leduc-actions, leduc-at-most}
--- The constant actions of a set. Assumes nothing.
 use Rattle.tables.proofs.Game.actions.Statement.{statement}
 use Rattle.tables.proofs.Game.actions.Tie as tie
-use Rattle.tables.proofs.Game.actions.Reads as reads
-use Rattle.tables.proofs.Game.actions.Lts as lts
 
--- src/lib.rt:1031:13
 returns : tie.Need-returns
 returns c = (kuhn-actions (c .before .before .args .self) (c .if1 .taken) (c .before .before .args .set) (c .before .before .pre), search needs)
 
--- src/lib.rt:1033:22
 array-read-two-or-three : tie.Need-array-read-two-or-three
 array-read-two-or-three c = omega (arith, leduc-sets (c .before .before .args .self) (c .if1 .left))
 
--- src/lib.rt:1033:9
 two-or-three-requires : tie.Need-two-or-three-requires
 two-or-three-requires c κs = search needs
 
--- src/lib.rt:1026:5
 returns-2 : tie.Need-returns-2
 unfolding leducActions
 returns-2 c =
