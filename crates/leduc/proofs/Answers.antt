@@ -9,11 +9,12 @@ use lib.ListN.{length, getD, take, drop}
 use borrow.Author.Tests.{eqb-true, not-false, ltb-true, lt-ltb, le-ltb, le-leb, lt-leb, eq-eqb, ne-eqb}
 use Rattle.refusals.specs.Refusals.{Check, first, _refuses_}
 use Rattle.finite.specs.Finite.{and, those}
-use Rattle.leduc_rules.specs.Rules.{ended, due, live, left, remaining}
-use Rattle.leduc_rules.proofs.Deals.{nth-fits}
-use Rattle.leduc_rules.proofs.Checks.{first-pass, first-stop}
-use Rattle.leduc.specs.Calls.{cardsOf, seenOf, roundOne, roundTwo, reachable, legal-of, key-of, mark, saved-checks}
-use Rattle.leduc.specs.Calls.{deal-refusal, step-refusal, legal-refusal, key-refusal, payoff-refusal, saved-refusal}
+use Rattle.leduc_betting.specs.Betting.{ended}
+use Rattle.leduc_rules.specs.Rules.{due, live}
+use Rattle.leduc_betting.specs.Cards.{left, remaining}
+use Rattle.leduc_betting.proofs.Deals.{nth-fits}
+use Rattle.leduc_betting.proofs.Checks.{first-pass, first-stop}
+use Rattle.leduc.specs.Calls.{cardsOf, seenOf, roundOne, roundTwo, reachable, legal-of, key-of, mark, saved-checks, deal-refusal, step-refusal, legal-refusal, key-refusal, payoff-refusal, saved-refusal}
 use Rattle.leduc.specs.declared.LeducState.{LeducState}
 use Rattle.refusals.proofs.Order.{fails-first}
 use Rattle.leduc.proofs.Order.{saved-firm, passes-front}

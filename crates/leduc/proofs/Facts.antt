@@ -12,10 +12,12 @@ use Rattle.refusals.specs.Refusals.{Check, first, _refuses_}
 use Rattle.refusals.proofs.Order.{fails-first, fails-rest}
 use Rattle.finite.specs.Finite.{and, or}
 use Rattle.finite.proofs.Tests.{Tested, holds, fails, tested, both, neither, or-left, or-right, or-cases, or-false-right, true≢false}
-use Rattle.leduc_rules.specs.Rules.{closes, ended, hidden, seen, public-due, due}
-use Rattle.leduc_rules.specs.Reached.{Reached, strange, twice, possible}
-use Rattle.leduc_rules.specs.Checks.{barred-by, malformed, action-checks, card-checks, round-checks, public-checks}
-use Rattle.leduc_rules.proofs.Checks.{cards-pass, round-pass, round-firm, second-checks}
+use Rattle.leduc_betting.specs.Betting.{closes, ended}
+use Rattle.leduc_betting.specs.Cards.{hidden, seen, strange, twice}
+use Rattle.leduc_rules.specs.Rules.{public-due, due}
+use Rattle.leduc_rules.specs.Reached.{Reached, possible}
+use Rattle.leduc_betting.specs.Checks.{barred-by, malformed, action-checks, card-checks, round-checks, public-checks}
+use Rattle.leduc_betting.proofs.Checks.{cards-pass, round-pass, round-firm, second-checks}
 use Rattle.leduc_rules.proofs.Lawful.{actions-played, blind-empty, fits-length, first-passes, second-passes}
 use Rattle.leduc_rules.proofs.Reaching.{Possible, possible-parts}
 use Rattle.leduc_rules.proofs.Moves.{possible-all, reached-parts, parts-reached}

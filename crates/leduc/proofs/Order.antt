@@ -8,13 +8,13 @@ use borrow.Author.Tests.{eq-eqb, ne-eqb, eqb-true, not-false, ltb-false}
 use lib.Dec.{eqb, ltb}
 use lib.ListN.{take}
 use Rattle.refusals.specs.Refusals.{Check, first, _refuses_}
-use Rattle.leduc_rules.specs.Rules.{hidden, seen}
+use Rattle.leduc_betting.specs.Cards.{hidden, seen}
 use Rattle.refusals.proofs.Order.{fails-first}
 use Rattle.finite.proofs.Tests.{or-false-left}
-use Rattle.leduc_rules.specs.Reached.{unknown}
-use Rattle.leduc_rules.specs.Checks.{barred-by, malformed, action-checks, card-checks, round-checks, public-checks}
+use Rattle.leduc_betting.specs.Betting.{unknown}
+use Rattle.leduc_betting.specs.Checks.{barred-by, malformed, action-checks, card-checks, round-checks, public-checks}
 use Rattle.leduc_rules.proofs.Lawful.{fits-length}
-use Rattle.leduc_rules.proofs.Checks.{Firm, firm-append, first-pass, round-firm, second-checks}
+use Rattle.leduc_betting.proofs.Checks.{Firm, firm-append, first-pass, round-firm, second-checks}
 use Rattle.leduc.specs.Calls.{seenOf, roundOne, roundTwo, saved-checks}
 use Rattle.leduc.specs.declared.LeducState.{LeducState}
 

@@ -10,9 +10,11 @@ use lib.Seq.{length-take-le}
 use borrow.Author.Tests.{le-leb, lt-leb, leb-true}
 use Rattle.finite.specs.Finite.{and, or}
 use Rattle.finite.proofs.Tests.{and-left, and-right, and-left-fails, and-right-fails}
-use Rattle.leduc_rules.specs.Rules.{closes, ended, live, hidden, seen}
+use Rattle.leduc_betting.specs.Betting.{closes, ended, played}
+use Rattle.leduc_rules.specs.Rules.{live}
+use Rattle.leduc_betting.specs.Cards.{hidden, seen, strange, twice}
 use Rattle.leduc_rules.proofs.Reaching.{Possible, possible-parts, live-open, ended-dealt}
-use Rattle.leduc_rules.specs.Reached.{strange, twice, played, possible}
+use Rattle.leduc_rules.specs.Reached.{possible}
 use Rattle.leduc.specs.Calls.{cardsOf, seenOf, roundOne, roundTwo, reachable}
 use Rattle.leduc.specs.declared.LeducState.{LeducState}
 

@@ -9,12 +9,14 @@ use lib.ListN.{length, getD, take, drop, set, replicate}
 use Rattle.refusals.specs.Refusals.{Check, first, _refuses_}
 use Rattle.refusals.specs.Refusals as Refusals
 use Rattle.finite.specs.Finite.{and, or}
-use Rattle.leduc_rules.specs.Rules.{closes, counted, in-play, ended, hidden, seen, remaining, due, live, legal, key, payoff}
+use Rattle.leduc_betting.specs.Betting.{closes, counted, in-play, ended}
+use Rattle.leduc_betting.specs.Cards.{hidden, seen, remaining}
+use Rattle.leduc_rules.specs.Rules.{due, live, legal, key, payoff}
 use Rattle.leduc_rules.specs.Stakes.{ante, raise₁, raise₂}
 use Rattle.leduc_rules.specs.Reached.{possible}
-use Rattle.leduc_rules.specs.Checks.{barred-by, card-checks, round-checks, public-checks}
-use Rattle.leduc_rules.specs.declared.Public.{Public}
-use Rattle.leduc_rules.specs.declared.Public.the-variants.{Hidden, Card}
+use Rattle.leduc_betting.specs.Checks.{barred-by, card-checks, round-checks, public-checks}
+use Rattle.leduc_betting.specs.declared.Public.{Public}
+use Rattle.leduc_betting.specs.declared.Public.the-variants.{Hidden, Card}
 use Rattle.leduc.specs.declared.LeducState.{LeducState}
 use Rattle.leduc.specs.declared.Moved.{Moved}
 use Rattle.leduc.specs.declared.Written.{Written}

@@ -19,7 +19,7 @@ use crate::state::state_gains;
 use crate::state::step_action;
 use crate::state::with_action;
 use crate::state::with_card;
-use leduc_rules::Public;
+use leduc_betting::Public;
 ghost use mathlib.Core.Path.{_≡_};
 ghost use lib.IntN.{pos};
 ghost use lib.ListN.{length, replicate};
@@ -62,15 +62,15 @@ pub struct Payoffs {
 }
 
 impl LeducPoker {
-    pub const FOLD: u8 = leduc_rules::FOLD;
+    pub const FOLD: u8 = leduc_betting::FOLD;
 
-    pub const CALL: u8 = leduc_rules::CALL;
+    pub const CALL: u8 = leduc_betting::CALL;
 
-    pub const RAISE: u8 = leduc_rules::RAISE;
+    pub const RAISE: u8 = leduc_betting::RAISE;
 
-    pub const DECK: u8 = leduc_rules::DECK;
+    pub const DECK: u8 = leduc_betting::DECK;
 
-    pub const RAISES: usize = leduc_rules::RAISES;
+    pub const RAISES: usize = leduc_betting::RAISES;
 
     pub const SEATS: usize = leduc_rules::SEATS;
 

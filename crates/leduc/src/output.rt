@@ -1,6 +1,6 @@
 // What a call writes into lent memory.
 use crate::LeducState;
-use leduc_rules::Public;
+use leduc_betting::Public;
 ghost use mathlib.Core.Path.{_≡_};
 ghost use Prim.Native.Nat.{_+_, _≤_, _<_};
 ghost use mathlib.Core.List.{[], _∷_};

@@ -9,8 +9,8 @@ ghost use mathlib.Core.Path.{_≡_};
 ghost use mathlib.Core.Bool.{false};
 ghost use mathlib.Core.List.{_++_};
 ghost use Rattle.refusals.specs.Refusals.{first};
-ghost use Rattle.leduc_rules.specs.Rules.{hidden};
-ghost use Rattle.leduc_rules.specs.Checks.{barred-by, round-checks, public-checks};
+ghost use Rattle.leduc_betting.specs.Cards.{hidden};
+ghost use Rattle.leduc_betting.specs.Checks.{barred-by, round-checks, public-checks};
 ghost use Rattle.leduc.specs.Calls.{roundOne, roundTwo, saved-checks};
 
 // Numbers 13 to 17, of both rounds.

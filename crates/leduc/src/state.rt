@@ -1,25 +1,27 @@
 // A position taken apart into its cards and the two rounds, and put together with one card or action more.
 use crate::LeducPoker;
 use crate::LeducState;
-use leduc_rules::Public;
-use leduc_rules::betting::action_made;
-use leduc_rules::betting::is_terminal;
-use leduc_rules::betting::round_over;
-use leduc_rules::cards::all_seen;
-use leduc_rules::cards::nth_remaining;
+use leduc_betting::Public;
+use leduc_betting::betting::action_made;
+use leduc_betting::betting::is_terminal;
+use leduc_betting::betting::round_over;
+use leduc_betting::cards::all_seen;
+use leduc_betting::cards::nth_remaining;
+use leduc_betting::options::Legal;
+use leduc_betting::options::legal_in;
 use leduc_rules::money::Gains;
 use leduc_rules::money::settled;
-use leduc_rules::play::Legal;
 use leduc_rules::play::cards_fit;
 use leduc_rules::play::is_due;
 use leduc_rules::play::is_hidden;
 use leduc_rules::play::is_live;
-use leduc_rules::play::legal_in;
 use leduc_rules::play::rounds_fit;
 ghost use mathlib.Core.Path.{_≡_};
 ghost use Prim.Native.Nat.{_≤_, _<_};
 ghost use lib.ListN.{getD, take};
-ghost use Rattle.leduc_rules.specs.Rules.{closes, ended, counted, remaining, due, live};
+ghost use Rattle.leduc_betting.specs.Betting.{closes, ended, counted};
+ghost use Rattle.leduc_betting.specs.Cards.{remaining};
+ghost use Rattle.leduc_rules.specs.Rules.{due, live};
 ghost use Rattle.leduc.specs.Calls.{reachable, cardsOf, seenOf, roundOne, roundTwo, in-playOf, legal-of, with-card, with-action, payoff-of, mark};
 
 // Whether a position can be reached from the start by legal moves.

@@ -1,10 +1,6 @@
--- Laws of Leduc's rules and checks.
-pub mod Histories
-pub mod Deals
+-- Laws of Leduc's rules.
 pub mod Amounts
 pub mod Pots
-pub mod Checks
-pub mod Rounds
 pub mod Reaching
 pub mod Moves
 pub mod Facts

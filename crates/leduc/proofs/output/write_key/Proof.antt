@@ -8,7 +8,7 @@ use Rattle.leduc.proofs.Writing.{at-front, write-four, head-of, key-par
 use mathlib.Core.Path.{_≡_, sym, ap, ap₂, _∙_}
 use native.Mathlib.Omega.{arith}
 use lib.ListN.{length}
-use Rattle.leduc_rules.proofs.Deals.{front-length}
+use Rattle.leduc_betting.proofs.Deals.{front-length}
 use borrow.Author.Needs.{needs}
 use Rattle.leduc.proofs.output.write_key.Statement.{statement}
 use Rattle.leduc.proofs.output.write_key.Tie as tie

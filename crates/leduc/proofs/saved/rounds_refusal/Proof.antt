@@ -1,16 +1,15 @@
 -- Numbers 13 to 17, of both rounds. Assumes nothing.
-use Rattle.leduc.proofs.Positions.{second-length}
+use Rattle.leduc.proofs.Positions.{second-length, second-part}
 use mathlib.Core.Path.{_≡_, sym, ap, _∙_}
 use mathlib.Core.Bool.{false}
 use native.Mathlib.Omega.{arith}
 use lib.ListN.{length}
 use lib.Seq.{length-take-le}
 use Rattle.refusals.specs.Refusals.{first}
-use Rattle.leduc_rules.specs.Checks.{round-checks}
+use Rattle.leduc_betting.specs.Checks.{round-checks}
 use Rattle.leduc.specs.Calls.{roundOne}
-use Rattle.leduc_rules.proofs.Deals.{front-length}
-use Rattle.leduc.proofs.Positions.{second-part}
-use Rattle.leduc_rules.proofs.Checks.{round-pass, round-stop, too-long, second-same}
+use Rattle.leduc_betting.proofs.Deals.{front-length}
+use Rattle.leduc_betting.proofs.Checks.{round-pass, round-stop, too-long, second-same}
 use borrow.Author.Needs.{needs}
 use Rattle.leduc.proofs.saved.rounds_refusal.Statement.{statement}
 use Rattle.leduc.proofs.saved.rounds_refusal.Tie as tie

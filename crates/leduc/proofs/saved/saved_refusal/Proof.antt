@@ -1,10 +1,9 @@
 -- Numbers 10 to 17. Assumes nothing.
 use lib.ListN.{take}
-use Rattle.leduc_rules.specs.Rules.{seen}
-use Rattle.leduc.proofs.Order.{rounds-checks}
+use Rattle.leduc_betting.specs.Cards.{seen}
+use Rattle.leduc.proofs.Order.{rounds-checks, cards-missing, cards-there}
 use mathlib.Core.Path.{sym, _∙_}
-use Rattle.leduc_rules.proofs.Checks.{cards-pass, cards-stop}
-use Rattle.leduc.proofs.Order.{cards-missing, cards-there}
+use Rattle.leduc_betting.proofs.Checks.{cards-pass, cards-stop}
 use borrow.Author.Needs.{needs}
 use Rattle.leduc.proofs.saved.saved_refusal.Statement.{statement}
 use Rattle.leduc.proofs.saved.saved_refusal.Tie as tie

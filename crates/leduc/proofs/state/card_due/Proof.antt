@@ -4,7 +4,7 @@ use native.Mathlib.Omega.{arith}
 use lib.ListN.{length}
 use Rattle.leduc_rules.specs.Rules.{due}
 use Rattle.leduc.specs.Calls.{cardsOf, roundOne}
-use Rattle.leduc_rules.proofs.Deals.{front-length}
+use Rattle.leduc_betting.proofs.Deals.{front-length}
 use Rattle.leduc.proofs.Positions.{second-part}
 use borrow.Author.Needs.{needs}
 use Rattle.leduc.proofs.state.card_due.Statement.{statement}

@@ -2,7 +2,7 @@
 use mathlib.Core.Path.{_≡_}
 use native.Mathlib.Omega.{arith}
 use lib.ListN.{length}
-use Rattle.leduc_rules.proofs.Deals.{front-length}
+use Rattle.leduc_betting.proofs.Deals.{front-length}
 use borrow.Author.Needs.{needs}
 use Rattle.leduc.proofs.state.first_closed.Statement.{statement}
 use Rattle.leduc.proofs.state.first_closed.Tie as tie

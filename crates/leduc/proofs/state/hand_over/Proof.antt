@@ -2,9 +2,9 @@
 use mathlib.Core.Path.{_≡_, ap, _∙_}
 use native.Mathlib.Omega.{arith}
 use lib.ListN.{length}
-use Rattle.leduc_rules.specs.Rules.{ended}
+use Rattle.leduc_betting.specs.Betting.{ended}
 use Rattle.leduc.specs.Calls.{roundOne}
-use Rattle.leduc_rules.proofs.Deals.{front-length}
+use Rattle.leduc_betting.proofs.Deals.{front-length}
 use Rattle.leduc.proofs.Positions.{second-part}
 use borrow.Author.Needs.{needs}
 use Rattle.leduc.proofs.state.hand_over.Statement.{statement}

@@ -6,9 +6,10 @@ use native.Mathlib.Omega.{arith}
 use lib.Dec.{eqb}
 use lib.ListN.{length}
 use Rattle.finite.specs.Finite.{and}
-use Rattle.leduc_rules.specs.Rules.{legal, options, in-play, turn}
+use Rattle.leduc_rules.specs.Rules.{legal}
+use Rattle.leduc_betting.specs.Betting.{options, in-play, turn}
 use Rattle.leduc.specs.Calls.{roundOne}
-use Rattle.leduc_rules.proofs.Deals.{front-length}
+use Rattle.leduc_betting.proofs.Deals.{front-length}
 use Rattle.leduc.proofs.Positions.{second-part}
 use borrow.Author.Needs.{needs}
 use Rattle.leduc.proofs.state.legal_list.Statement.{statement}

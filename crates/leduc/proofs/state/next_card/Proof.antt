@@ -2,8 +2,8 @@
 use mathlib.Core.Path.{_≡_, ap, _∙_}
 use native.Mathlib.Omega.{arith}
 use lib.ListN.{length, getD}
-use Rattle.leduc_rules.specs.Rules.{remaining}
-use Rattle.leduc_rules.proofs.Deals.{front-length}
+use Rattle.leduc_betting.specs.Cards.{remaining}
+use Rattle.leduc_betting.proofs.Deals.{front-length}
 use borrow.Author.Needs.{needs}
 use Rattle.leduc.proofs.state.next_card.Statement.{statement}
 use Rattle.leduc.proofs.state.next_card.Tie as tie

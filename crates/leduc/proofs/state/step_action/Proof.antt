@@ -2,8 +2,8 @@
 use mathlib.Core.Path.{_≡_, sym, ap, _∙_}
 use native.Mathlib.Omega.{arith}
 use lib.ListN.{length}
-use Rattle.leduc_rules.specs.Rules.{counted, in-play}
-use Rattle.leduc_rules.proofs.Deals.{front-length}
+use Rattle.leduc_betting.specs.Betting.{counted, in-play}
+use Rattle.leduc_betting.proofs.Deals.{front-length}
 use Rattle.leduc.proofs.Positions.{second-part}
 use borrow.Author.Needs.{needs}
 use Rattle.leduc.proofs.state.step_action.Statement.{statement}
