@@ -1,11 +1,11 @@
 -- The definitions give what document 01 says, in all its cases at once: by computing. Assumes nothing.
 use mathlib.Core.Path.{refl}
-use Rattle.finite.specs.Finite.{and, or, some, every, sum, has, places}
+use Rattle.finite.specs.Finite.{and, or, some, every, sum, has, places, those}
 use Rattle.kuhn_rules.specs.Rules.{bet-made, after-bet, ended, overrun, bets, stands, contribution, wins, paid-by-others, payoff}
 use Rattle.kuhn_rules.specs.Reached.{strange, twice, unknown, fair, played, possible}
 use Rattle.kuhn_rules.specs.Stakes.{payoffs-of}
-use Rattle.kuhn.specs.Calls.{reachable, payoff-refusal, saved-refusal}
-use Rattle.finite.specs.Finite.{those}
+use Rattle.kuhn_positions.specs.Positions.{reachable}
+use Rattle.kuhn.specs.Calls.{payoff-refusal, saved-refusal}
 use Rattle.leduc_betting.specs.Betting as LeducBetting
 use Rattle.leduc_betting.specs.Cards as LeducCards
 use Rattle.leduc_rules.specs.Rules as LeducRules

@@ -8,7 +8,7 @@ use lib.ListN.{length, take, replicate}
 use Rattle.kuhn_rules.specs.Rules.{PASS, BET}
 use Rattle.kuhn.specs.Calls.{paid, saved-refusal}
 use Rattle.kuhn.specs.declared.KuhnPoker.{KuhnPoker}
-use Rattle.kuhn.specs.declared.KuhnState.{KuhnState}
+use Rattle.kuhn_positions.specs.declared.KuhnState.{KuhnState}
 use Rattle.kuhn.specs.declared.Payoffs.{Payoffs}
 use Rattle.leduc_betting.specs.Betting.{FOLD, CALL, RAISE}
 use Rattle.leduc_rules.specs.Rules.{contribution}
