@@ -10,9 +10,10 @@ use Rattle.leduc_betting.specs.Betting as LeducBetting
 use Rattle.leduc_betting.specs.Cards as LeducCards
 use Rattle.leduc_rules.specs.Rules as LeducRules
 use Rattle.leduc_rules.specs.Reached as LeducReached
+use Rattle.leduc_positions.specs.Positions as LeducPositions
 use Rattle.leduc.specs.Calls as LeducCalls
 use Rattle.cases.specs.Cases.{Agree, cases}
 
 pub cases-agree : Agree cases
-unfolding and or some every sum has places bet-made after-bet ended overrun bets stands contribution wins paid-by-others payoff strange twice unknown fair played possible reachable payoff-refusal payoffs-of saved-refusal those LeducBetting.ends-with LeducBetting.folded LeducBetting.closes LeducBetting.open-round LeducBetting.behind LeducBetting.raises LeducBetting.may LeducBetting.options LeducBetting.in-play LeducBetting.turn LeducBetting.ended LeducRules.public-due LeducRules.due LeducRules.live LeducRules.legal LeducRules.key LeducRules.matched LeducRules.bet LeducRules.seated LeducRules.after-round LeducRules.contribution LeducRules.folds LeducRules.pairs LeducRules.beats LeducRules.wins LeducRules.payoff LeducCards.strange LeducCards.twice LeducBetting.played LeducReached.possible LeducCalls.reachable LeducCalls.payoff-refusal LeducCalls.legal-refusal LeducCalls.key-refusal
+unfolding and or some every sum has places bet-made after-bet ended overrun bets stands contribution wins paid-by-others payoff strange twice unknown fair played possible reachable payoff-refusal payoffs-of saved-refusal those LeducBetting.ends-with LeducBetting.folded LeducBetting.closes LeducBetting.open-round LeducBetting.behind LeducBetting.raises LeducBetting.may LeducBetting.options LeducBetting.in-play LeducBetting.turn LeducBetting.ended LeducRules.public-due LeducRules.due LeducRules.live LeducRules.legal LeducRules.key LeducRules.matched LeducRules.bet LeducRules.seated LeducRules.after-round LeducRules.contribution LeducRules.folds LeducRules.pairs LeducRules.beats LeducRules.wins LeducRules.payoff LeducCards.strange LeducCards.twice LeducBetting.played LeducReached.possible LeducPositions.reachable LeducCalls.payoff-refusal LeducCalls.legal-refusal LeducCalls.key-refusal
 cases-agree = refl

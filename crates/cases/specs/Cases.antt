@@ -16,8 +16,9 @@ use Rattle.leduc_rules.specs.Stakes.{ante, raise₁, raise₂}
 use Rattle.leduc_betting.specs.declared.Public.{Public}
 use Rattle.leduc_betting.specs.declared.Public.the-variants.{Hidden, Card}
 use Rattle.leduc.specs.Calls as Leduc
-use Rattle.leduc.specs.Calls.{legal-of, legal-refusal, listed, key-of, key-refusal, keyed, written}
-use Rattle.leduc.specs.declared.LeducState.{LeducState}
+use Rattle.leduc_positions.specs.Positions.{legal-of}
+use Rattle.leduc.specs.Calls.{legal-refusal, listed, key-of, key-refusal, keyed, written}
+use Rattle.leduc_positions.specs.declared.LeducState.{LeducState}
 
 -- ---- what a case is
 

@@ -7,7 +7,8 @@ ghost use mathlib.Core.List.{[], _∷_};
 ghost use lib.ListN.{length, getD};
 ghost use lib.Seq.{paste};
 ghost use Rattle.leduc_rules.specs.Rules.{shown-public};
-ghost use Rattle.leduc.specs.Calls.{cardsOf, key-of, written};
+ghost use Rattle.leduc_positions.specs.Positions.{cardsOf};
+ghost use Rattle.leduc.specs.Calls.{key-of, written};
 
 // The bytes, written from a place on.
 pub fn write_at(out: &mut [u8], at: usize, bytes: &[u8])

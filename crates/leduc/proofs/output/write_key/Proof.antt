@@ -2,8 +2,8 @@
 use mathlib.Core.List.{[], _∷_, _++_}
 use Prim.Native.Nat.{_+_, _-_, _%_}
 use lib.ListN.{take, drop, length-append}
-use Rattle.leduc.specs.Calls.{roundOne, roundTwo}
-use Rattle.leduc.proofs.Positions.{second-part, second-length}
+use Rattle.leduc_positions.specs.Positions.{roundOne, roundTwo}
+use Rattle.leduc_positions.proofs.Positions.{second-part, second-length}
 use Rattle.leduc.proofs.Writing.{at-front, write-four, head-of, key-parts}
 use mathlib.Core.Path.{_≡_, sym, ap, ap₂, _∙_}
 use native.Mathlib.Omega.{arith}
