@@ -20,7 +20,7 @@ use Rattle.leduc_rules.specs.Facts.{Zero-sum, Ascending, All-left, Longe
 use Rattle.leduc_betting.specs.declared.Public.{Public}
 use Rattle.leduc_betting.specs.declared.Public.the-variants.{Hidden, Card}
 use Rattle.leduc_betting.proofs.Rounds.{all-of, rounds, round-rule, closed-unfolded}
-use Rattle.leduc_rules.proofs.Amounts.{gained}
+use Rattle.leduc_rules.proofs.Gains.{gained}
 use Rattle.leduc_rules.proofs.Reaching.{Possible}
 use Rattle.leduc_rules.proofs.Moves.{reached-parts, still-hidden, hidden-none, strange-more}
 

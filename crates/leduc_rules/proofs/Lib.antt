@@ -1,5 +1,5 @@
 -- Laws of Leduc's rules.
-pub mod Amounts
+pub mod Gains
 pub mod Pots
 pub mod Reaching
 pub mod Moves

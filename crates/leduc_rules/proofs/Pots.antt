@@ -12,7 +12,7 @@ use Rattle.leduc_betting.specs.Betting.{CALL, RAISE}
 use Rattle.leduc_rules.specs.Rules.{matched, bet, seated, after-round, contribution, wins, payoff}
 use Rattle.leduc_betting.specs.declared.Public.{Public}
 use Rattle.leduc_rules.specs.declared.Pot.{Pot}
-use Rattle.leduc_rules.proofs.Amounts.{gained}
+use Rattle.leduc_rules.proofs.Gains.{gained}
 
 abbrev pub pot-of : ℕ → ℕ → Pot
 pot-of a o = record { acting = a; other = o }
