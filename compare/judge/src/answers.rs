@@ -1,12 +1,13 @@
 //! `answers GAME`: the judge's answers to the records of standard input, for GAME kuhn or leduc.
 
+use judge::list::answer;
 use judge::{kuhn_lists, leduc_lists};
 use std::{env, io};
 
 fn main() -> io::Result<()> {
     let answer = match env::args().nth(1).as_deref() {
-        Some("kuhn") => kuhn_lists::answer,
-        Some("leduc") => leduc_lists::answer,
+        Some("kuhn") => answer::<kuhn_lists::Given>,
+        Some("leduc") => answer::<leduc_lists::Given>,
         _ => panic!("usage: answers kuhn, or answers leduc"),
     };
     for record in io::stdin().lines() {

@@ -2,6 +2,7 @@
 //! It writes the lists that the proved programs replay. README.md has their format.
 
 pub mod answer;
+pub mod calls;
 pub mod kuhn;
 pub mod kuhn_lists;
 pub mod kuhn_paper;

@@ -1,6 +1,6 @@
 //! The lists themselves: what the paper's moves reach, and that the committed files are what the seed makes.
 
-use judge::list::List;
+use judge::list::{answer, List};
 use judge::{kuhn_lists, kuhn_paper, leduc_lists, leduc_paper};
 use reinfors_core::game::{Actor, Game};
 use reinfors_games::leduc::{LeducPoker, LeducState};
@@ -89,6 +89,6 @@ fn committed_lists_are_the_seeds() {
 fn records_can_be_answered_alone() {
     let answered = |list: &List, answer: fn(&str) -> String| list.stdin.lines().map(answer).collect::<String>();
     let (kuhn, leduc) = (kuhn_lists::list(judge::SEED), leduc_lists::list(judge::SEED));
-    assert!(answered(&kuhn, kuhn_lists::answer) == kuhn.stdout);
-    assert!(answered(&leduc, leduc_lists::answer) == leduc.stdout);
+    assert!(answered(&kuhn, answer::<kuhn_lists::Given>) == kuhn.stdout);
+    assert!(answered(&leduc, answer::<leduc_lists::Given>) == leduc.stdout);
 }

@@ -70,7 +70,7 @@ fn cases_a_to_d() {
     assert_eq!(kuhn_payoffs(&[0, 1], &[0, 0]), [-1, 1]);
     assert_eq!(kuhn_payoffs(&[0, 1], &[1, 0]), [1, -1]);
     assert_eq!(kuhn_payoffs(&[2, 0], &[0, 1, 1]), [2, -2]);
-    assert_eq!(judge::kuhn::validate(2, &saved_pass_pass_bet(), 1), 14);
+    assert_eq!(judge::calls::validate(&KUHN_2, &saved_pass_pass_bet(), 1), 14);
 }
 
 fn saved_pass_pass_bet() -> judge::kuhn::Position {
