@@ -11,6 +11,8 @@ pub mod leduc_lists;
 pub mod leduc_paper;
 pub mod line;
 pub mod list;
+pub mod listing;
+pub mod listing_lists;
 pub mod random;
 
 use reinfors_core::reward::Reward;

@@ -3,7 +3,7 @@
 use crate::calls::{rules_line, saved_line, start_line, Judged};
 use std::fs;
 use std::io;
-use std::path::Path;
+use std::path::{Path, PathBuf};
 
 /// No list is larger, and no program's output: `rt try` cuts a run off at 1,048,576 bytes.
 const MOST_GIVEN: usize = 2_000_000;
@@ -108,18 +108,15 @@ impl List {
         self.counts[refusal as usize] += 1;
     }
 
-    /// Writes the two files of a program that is there, once each of `numbers` has stood in an answer at least twenty times.
+    /// Writes the two files of a program, once each of `numbers` has stood in an answer at least twenty times.
     pub fn write(&self, folder: &Path, program: &str, numbers: &[usize]) -> io::Result<()> {
         for &number in numbers {
             assert!(self.counts[number] >= 20, "{program}: too few answers {number}");
         }
         assert!(self.stdin.len() <= MOST_GIVEN, "{program}: too much is given");
         assert!(self.stdout.len() <= MOST_WRITTEN, "{program}: too much is written");
-        let folder = folder.join(program);
-        if !folder.is_dir() {
-            println!("{program}: no such program, so no list");
-            return Ok(());
-        }
+        let folder = home(folder, program);
+        fs::create_dir_all(&folder)?;
         fs::write(folder.join("stdin"), &self.stdin)?;
         fs::write(folder.join("stdout"), &self.stdout)?;
         println!("{program}: {} lines, stdin {}, stdout {} bytes", self.lines, self.stdin.len(), self.stdout.len());
@@ -128,6 +125,15 @@ impl List {
         }
         Ok(())
     }
+}
+
+/// The folder of a program's list: among the crates, or with those whose program is not there yet.
+pub fn home(crates: &Path, program: &str) -> PathBuf {
+    let there = crates.join(program);
+    if there.is_dir() {
+        return there;
+    }
+    Path::new(env!("CARGO_MANIFEST_DIR")).join("../lists-pending").join(program)
 }
 
 /// The numbers of a record, one after the other.
