@@ -42,10 +42,25 @@ impl Listed for LeducPoker {
     }
 }
 
+/// The words of work memory that a node takes.
+pub const WORDS: u64 = 12;
+
 /// How many nodes a tree has, and its sets in order.
 pub struct Listing {
     pub nodes: u64,
     pub sets: Vec<[u8; RECORD]>,
+}
+
+impl Listing {
+    /// The words of work memory that the call needs.
+    pub fn words(&self) -> u64 {
+        WORDS * self.nodes
+    }
+
+    /// The bytes of output that it needs.
+    pub fn room(&self) -> u64 {
+        (RECORD * self.sets.len()) as u64
+    }
 }
 
 /// The listing of a game; none where the Rust refuses its tree as too large. The Rust hands out each set's key, seat and

@@ -2,32 +2,29 @@
 
 use crate::line::Line;
 use crate::list::{List, Words};
-use crate::listing::{listing, Listing, RECORD};
+use crate::listing::{listing, Listing, RECORD, WORDS};
 use crate::random::Random;
 use reinfors_games::kuhn::KuhnPoker;
 use reinfors_games::leduc::LeducPoker;
 use std::sync::OnceLock;
 
-const KUHN: u64 = 0;
-const LEDUC: u64 = 1;
-
-/// The words of work memory that a node takes.
-const WORDS: u64 = 12;
+pub const KUHN: u64 = 0;
+pub const LEDUC: u64 = 1;
 
 /// What place p of the work memory and of the output holds before a call: this and p more, in the output as a byte.
 const UNTOUCHED: u64 = 200;
 
 /// One call: the game's number, its seats, the words of work memory and the bytes of output that are lent.
-#[derive(Clone, Copy)]
-struct Call {
-    game: u64,
-    seats: u64,
-    words: u64,
-    room: u64,
+#[derive(Clone, Copy, Debug)]
+pub struct Call {
+    pub game: u64,
+    pub seats: u64,
+    pub words: u64,
+    pub room: u64,
 }
 
 /// The listing of a game whose seats are right, made once; none where its tree is too large.
-fn listing_of(game: u64, seats: u64) -> Option<&'static Listing> {
+pub fn listing_of(game: u64, seats: u64) -> Option<&'static Listing> {
     static KUHNS: [OnceLock<Option<Listing>>; 11] = [const { OnceLock::new() }; 11];
     static LEDUCS: OnceLock<Option<Listing>> = OnceLock::new();
     if game == KUHN {
@@ -50,7 +47,7 @@ impl Call {
     }
 
     /// The listing, or the number of the first check that refuses the call.
-    fn asked(&self) -> Result<&'static Listing, u64> {
+    pub fn asked(&self) -> Result<&'static Listing, u64> {
         if self.game > LEDUC {
             return Err(1);
         }
@@ -58,10 +55,10 @@ impl Call {
             return Err(2);
         }
         let listing = listing_of(self.game, self.seats).ok_or(3u64)?;
-        if self.words < WORDS * listing.nodes {
+        if self.words < listing.words() {
             return Err(4);
         }
-        if self.room < (RECORD * listing.sets.len()) as u64 {
+        if self.room < listing.room() {
             return Err(9);
         }
         Ok(listing)
@@ -118,7 +115,7 @@ pub fn list(seed: u64) -> List {
     let games = [(KUHN, 2), (KUHN, 3), (KUHN, 4), (LEDUC, 2)];
     for (game, seats) in games {
         let listing = listing_of(game, seats).expect("a small tree");
-        let (words, room) = (WORDS * listing.nodes, (RECORD * listing.sets.len()) as u64);
+        let (words, room) = (listing.words(), listing.room());
         let mut lent = |words, room| list.listing(Call::lent(game, seats, words, room));
         enough(words, room, &mut lent);
         too_few_words(words, room, &mut random, &mut lent);
