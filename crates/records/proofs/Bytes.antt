@@ -1,13 +1,15 @@
 -- Bytes stored in runs, and the bytes of a record. Assumes nothing.
 use mathlib.Core.Path.{_≡_, refl, sym, ap, ap₂, _∙_}
-use mathlib.Core.List.{List, [], _∷_, _++_, append-nil}
-use Prim.Native.Nat.{ℕ, zero, suc, _+_, _-_, _≤_}
+use mathlib.Core.List.{List, [], _∷_, _++_, map}
+use Prim.Native.Nat.{ℕ, zero, suc, _+_, _-_, _*_, _≤_}
 use native.Mathlib.Omega.{arith}
 use lib.ListN.{length, take, drop, set, replicate, length-append, length-replicate, length-set}
 use lib.Seq.{sets, sets-eq, length-sets, paste, length-take-le, take-all, take-append-add}
-use Rattle.records.specs.Listing.{padded, Cards, bytesOf, flat}
+use Rattle.game.specs.Tree.{Tree}
+use Rattle.records.specs.Listing.{padded, Cards, bytesOf, firstNode, flat, listing}
 use Rattle.records.specs.Written.{Wrote}
-use Rattle.game.specs.Sets.{Decision}
+use Rattle.game.specs.Sets.{Decision, setCount}
+use Rattle.game.specs.Sets as Sets
 
 -- ---- runs of bytes, one after another
 pub sets-append : (xs ys l : List ℕ) (i : ℕ) → sets l i (xs ++ ys) ≡ sets (sets l i xs) (i + length xs) ys
@@ -79,6 +81,16 @@ length-bytes x cards = omega (
   length-append (padded 6 (cards .1)) (x .2 ∷ 0 ∷ []),
   length-padded 6 (cards .1),
 )
+
+length-flat : (ls : List Decision) (g : Decision → Cards) → length (flat (map (λ x. bytesOf x (g x)) ls)) ≡ 24 * length ls
+unfolding flat
+length-flat [] g = refl
+length-flat (x ∷ ls) g = omega (arith, length-append (bytesOf x (g x)) (flat (map (λ y. bytesOf y (g y)) ls)), length-bytes x (g x), length-flat ls g)
+
+-- and a listing 24 per set
+pub length-listing : (t : Tree) (cardsOf : ℕ → Cards) → length (listing t cardsOf) ≡ 24 * setCount t
+unfolding listing
+length-listing t cardsOf = length-flat (Sets.sets t) (λ x. cardsOf (firstNode t x))
 
 -- two stores keep the length
 pub length-two : (l : List ℕ) (i a j b : ℕ) → length (set (set l i a) j b) ≡ length l

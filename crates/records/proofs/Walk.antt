@@ -1,7 +1,7 @@
 -- A walk over the nodes of a tree with what each shows: the sets are listed at the nodes that a test finds to be the first of their set. Assumes nothing.
 use mathlib.Core.Path.{_≡_, refl, sym, ap, ap₂, _∙_}
 use mathlib.Core.Bool.{Bool, true, false, not, cond}
-use mathlib.Core.List.{List, [], _∷_, _++_, map}
+use mathlib.Core.List.{List, [], _∷_, _++_, append-assoc, map}
 use Prim.Native.Nat.{ℕ, zero, suc, _+_}
 use native.Mathlib.Nat as NatL
 use native.Mathlib.Omega.{arith}
@@ -28,7 +28,7 @@ module _ {A : Type 0} where
   marked-append (deal a) b = deal (marked-append a b)
   marked-append (act a) b = act (marked-append a b)
 
-  marked-decisions : {ts : List Tree} {qs : List A} {xs : List (Decision × A)} → Marked ts qs xs → decisionsOf ts ≡ map (λ x. x .0) xs
+  pub marked-decisions : {ts : List Tree} {qs : List A} {xs : List (Decision × A)} → Marked ts qs xs → decisionsOf ts ≡ map (λ x. x .0) xs
   unfolding decisionsOf decisionOf
   marked-decisions none = refl
   marked-decisions (over a) = marked-decisions a
@@ -71,6 +71,15 @@ module _ {A : Type 0} where
       unfoldable pub kept : List (Decision × A) → List ℕ
       kept [] = []
       kept (x ∷ xs) = let r : List ℕ = kept xs in cond (f (x .1)) (B (x .0) (x .1) ++ r) r
+
+      pub kept-append : (xs ys : List (Decision × A)) → kept (xs ++ ys) ≡ kept xs ++ kept ys
+      unfolding kept
+      kept-append [] ys = refl
+      kept-append (x ∷ xs) ys = at (f (x .1)) (kept-append xs ys)
+        where
+          at : (b : Bool) → kept (xs ++ ys) ≡ kept xs ++ kept ys → cond b (B (x .0) (x .1) ++ kept (xs ++ ys)) (kept (xs ++ ys)) ≡ cond b (B (x .0) (x .1) ++ kept xs) (kept xs) ++ kept ys
+          at true e = ap (λ l. B (x .0) (x .1) ++ l) e ∙ sym (append-assoc (B (x .0) (x .1)) (kept xs) (kept ys))
+          at false e = e
 
       kept-firsts : (front : List Decision) (xs : List (Decision × A)) (g : Decision → A) (d : A)
           → ((y : Decision) → met (y .0) (y .1) front ≡ false → g y ≡ firstMark (y .0) (y .1) xs d)

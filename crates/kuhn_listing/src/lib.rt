@@ -1,0 +1,1 @@
+// The listing of Kuhn's sets.
