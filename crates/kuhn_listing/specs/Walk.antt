@@ -1,8 +1,9 @@
 -- What the walk of the code writes, by the rule on the cards: a tool of private contracts, equal to the listing (proofs/Facts.antt).
 use mathlib.Core.Bool.{cond}
 use mathlib.Core.List.{List, [], _∷_, _++_}
-use Prim.Native.Nat.{ℕ, zero, suc, _≤_, _<_}
+use Prim.Native.Nat.{ℕ, zero, suc, _-_, _≤_, _<_}
 use lib.ListN.{getD}
+use Rattle.finite.specs.Finite.{those}
 use Rattle.kuhn_rules.specs.Rules.{ended, turn, left, remaining}
 use Rattle.kuhn_tree.specs.Order.{turns, histories, decisionAt, lowest, first}
 use Rattle.records.specs.Listing.{bytesOf}
@@ -31,6 +32,11 @@ unfoldable pub dealRecords : ℕ → ℕ → List ℕ → List ℕ
 unfolding recordsOf joined histories
 dealRecords n zero cs = recordsOf n cs (histories n)
 dealRecords n (suc k) cs = joined (remaining n cs) (λ c. dealRecords n k (cs ++ (c ∷ [])))
+
+-- the cards cs dealt to so many seats, then to the next seat a card below a bound, lower cards first
+unfoldable pub nextDeals : (n dealt : ℕ) → List ℕ → ℕ → List ℕ
+unfolding joined dealRecords
+nextDeals n dealt cs bound = joined (those bound (left n cs)) (λ c. dealRecords n (n - suc dealt) (cs ++ (c ∷ [])))
 
 -- the first cards of so many seats are in the deck
 abbrev pub InDeck : ℕ → ℕ → List ℕ → Type 0

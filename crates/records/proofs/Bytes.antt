@@ -1,5 +1,5 @@
 -- Bytes stored in runs, and the bytes of a record. Assumes nothing.
-use mathlib.Core.Path.{_≡_, refl, sym, ap, ap₂, _∙_}
+use mathlib.Core.Path.{_≡_, refl, sym, ap, ap₂, subst, _∙_}
 use mathlib.Core.List.{List, [], _∷_, _++_, map}
 use Prim.Native.Nat.{ℕ, zero, suc, _+_, _-_, _*_, _≤_}
 use native.Mathlib.Omega.{arith}
@@ -18,11 +18,14 @@ sets-append (a ∷ xs) ys l i =
     let e : i + suc (length xs) ≡ suc i + length xs = omega arith in
     rw e (sets-append xs ys (set l i a) (suc i))
 
-pub wrote-none : (old : List ℕ) (at : ℕ) → Wrote old old [] at at
-wrote-none old at = record { next = omega arith; wrote = refl }
+pub wrote-as : {old new xs ys : List ℕ} {at r : ℕ} → xs ≡ ys → Wrote old new xs at r → Wrote old new ys at r
+wrote-as {old = old} {new = new} {at = at} {r = r} e w = subst (λ l. Wrote old new l at r) e w
 
-pub wrote-append : (a b d xs ys : List ℕ) (i j k : ℕ) → Wrote a b xs i j → Wrote b d ys j k → Wrote a d (xs ++ ys) i k
-wrote-append a b d xs ys i j k v w = record {
+pub wrote-nothing : {old xs : List ℕ} {at : ℕ} → xs ≡ [] → Wrote old old xs at at
+wrote-nothing e = wrote-as (sym e) (record { next = omega arith; wrote = refl })
+
+pub wrote-append : {a b d xs ys : List ℕ} {i j k : ℕ} → Wrote a b xs i j → Wrote b d ys j k → Wrote a d (xs ++ ys) i k
+wrote-append {a = a} {xs = xs} {ys = ys} {i = i} v w = record {
   next = omega (arith, v .next, w .next, length-append xs ys);
   wrote = w .wrote ∙ ap₂ (λ l p. sets l p ys) (v .wrote) (v .next) ∙ sym (sets-append xs ys a i);
 }
@@ -47,7 +50,7 @@ take-zeros zero k l = refl
 take-zeros (suc n) zero l = absurd (omega arith)
 take-zeros (suc n) (suc k) l = ap (λ r. 0 ∷ r) (take-zeros n k (omega arith))
 
-drop-zeros : (n k : ℕ) → n ≤ k → drop n (zeros k) ≡ zeros (k - n)
+pub drop-zeros : (n k : ℕ) → n ≤ k → drop n (zeros k) ≡ zeros (k - n)
 drop-zeros zero k l = let e : k ≡ k - 0 = omega arith in ap zeros e
 drop-zeros (suc n) zero l = absurd (omega arith)
 drop-zeros (suc n) (suc k) l = let e : k - n ≡ suc k - suc n = omega arith in drop-zeros n k (omega arith) ∙ ap zeros e
