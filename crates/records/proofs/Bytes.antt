@@ -1,10 +1,11 @@
 -- Bytes stored in runs, and the bytes of a record. Assumes nothing.
 use mathlib.Core.Path.{_≡_, refl, sym, ap, ap₂, subst, _∙_}
-use mathlib.Core.List.{List, [], _∷_, _++_, map}
-use Prim.Native.Nat.{ℕ, zero, suc, _+_, _-_, _*_, _≤_}
+use mathlib.Core.List.{List, [], _∷_, _++_, append-assoc, map}
+use Prim.Native.Nat.{ℕ, zero, suc, _+_, _-_, _*_, _≤_, _<_}
+use native.Mathlib.Numerals.{add-one}
 use native.Mathlib.Omega.{arith}
 use lib.ListN.{length, take, drop, set, replicate, length-append, length-replicate, length-set}
-use lib.Seq.{sets, sets-eq, length-sets, paste, length-take-le, take-all, take-append-add}
+use lib.Seq.{sets, sets-eq, length-sets, paste, length-take-le, take-all, take-append-add, take-append-seam, drop-append-add, set-append-seam}
 use Rattle.game.specs.Tree.{Tree}
 use Rattle.records.specs.Listing.{padded, Cards, bytesOf, firstNode, flat, listing}
 use Rattle.records.specs.Written.{Wrote}
@@ -62,6 +63,30 @@ padded-short k l w = ap (λ n. take n (l ++ replicate k 0)) e ∙ take-append-ad
   where
     e : k ≡ length l + (k - length l)
     e = omega arith
+
+-- one more, stored behind what is there
+pub padded-set : (k : ℕ) (xs : List ℕ) (i y : ℕ) → length xs ≡ i → i < k → set (padded k xs) i y ≡ padded k (xs ++ (y ∷ []))
+padded-set k xs i y e l = ap₂ (λ d n. set d n y) (padded-short k xs (omega arith) ∙ ap (λ n. xs ++ zeros n) one-less) (sym e) ∙ set-append-seam xs 0 (zeros (k - suc (length xs))) y
+    ∙ sym (append-assoc xs (y ∷ []) (zeros (k - suc (length xs)))) ∙ ap (λ n. (xs ++ (y ∷ [])) ++ zeros (k - n)) (sym long)
+    ∙ sym (padded-short k (xs ++ (y ∷ [])) (omega (arith, long)))
+  where
+    one-less : k - length xs ≡ suc (k - suc (length xs))
+    one-less = omega arith
+
+    long : length (xs ++ (y ∷ [])) ≡ suc (length xs)
+    long = length-append xs (y ∷ []) ∙ add-one (length xs)
+
+-- n more, copied behind it
+pub padded-run : (k : ℕ) (xs : List ℕ) (i : ℕ) (ys : List ℕ) (n : ℕ) → length xs ≡ i → i + n ≤ k → n ≤ length ys → paste (padded k xs) i ys n ≡ padded k (xs ++ take n ys)
+padded-run k xs i ys n e l w = ap₂ (λ d j. paste d j ys n) (padded-short k xs (omega arith)) (sym e)
+    ∙ ap₂ (λ a b. (a ++ take n ys) ++ b) (take-append-seam xs (zeros (k - length xs))) (drop-append-add xs (zeros (k - length xs)) n ∙ drop-zeros n (k - length xs) (omega arith) ∙ ap zeros rest)
+    ∙ sym (padded-short k (xs ++ take n ys) (omega (arith, long)))
+  where
+    long : length (xs ++ take n ys) ≡ length xs + n
+    long = length-append xs (take n ys) ∙ ap (λ j. length xs + j) (length-take-le n ys w)
+
+    rest : k - length xs - n ≡ k - length (xs ++ take n ys)
+    rest = omega (arith, long)
 
 -- the first n of s, copied onto zeros
 pub padded-paste : (k : ℕ) (s : List ℕ) (n : ℕ) → n ≤ k → n ≤ length s → paste (zeros k) 0 s n ≡ padded k (take n s)
