@@ -10,7 +10,7 @@ use lib.Dec.{leb}
 use lib.ListN.{length, getD, take, drop, set, length-append}
 use lib.Seq.{length-take-le, getD-take, take-suc-set, getD-set-same, getD-set-other, sets, paste}
 use borrow.Author.Tests.{le-leb}
-use Rattle.finite.specs.Finite.{and, some, those, has}
+use Rattle.finite.specs.Finite.{some, those, has}
 use Rattle.finite.proofs.Tests.{Tested, holds, fails, tested, both, and-right-fails, none-at, below-cases}
 use Rattle.finite.proofs.Lists.{those-kept, those-passed}
 use Rattle.kuhn_rules.specs.Rules.{PASS, BET, ended, turn, left, remaining}

@@ -11,12 +11,12 @@ use borrow.Author.Tests.{eq-eqb}
 use Rattle.finite.specs.Finite.{every, those}
 use Rattle.finite.proofs.Tests.{Tested, holds, fails, tested, both}
 use Rattle.finite.proofs.Lists.{those-kept, those-passed}
-use Rattle.game.specs.Tree.{Tree, fan, Trees, nil, cons}
+use Rattle.game.specs.Tree.{Tree, fan, nil, cons}
 use Rattle.game.specs.Sets.{Decision, preorder, preorderAll, decisions, decisionsAll, met}
 use Rattle.game.proofs.Sets.{met-past, decisions-of-nodes}
 use Rattle.game.proofs.Walk.{passed}
 use Rattle.game.proofs.Counting.{In, Once}
-use Rattle.kuhn_rules.specs.Rules.{PASS, BET, ended, turn, key, live, left, remaining}
+use Rattle.kuhn_rules.specs.Rules.{PASS, BET, ended, turn, key, left, remaining}
 use Rattle.kuhn_tree.specs.Tree.{each, m}
 use Rattle.kuhn_tree.specs.Follows.{Position, dealt, acted, positions, positionsAll}
 use Rattle.kuhn_tree.specs.Order.{turns, histories, decisionAt, lowest, first}

@@ -1,6 +1,6 @@
 -- What holds of Kuhn's listing, proved in proofs/Facts.antt.
 use mathlib.Core.Path.{_≡_}
-use mathlib.Core.List.{List, [], _∷_}
+use mathlib.Core.List.{[], _∷_}
 use Prim.Native.Nat.{ℕ, _*_, _≤_}
 use lib.ListN.{length}
 use Rattle.game.specs.Sets.{setCount}

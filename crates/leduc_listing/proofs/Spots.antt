@@ -1,17 +1,15 @@
 -- What the rules say of a spot that holds its cards and actions in arrays: the turn, the legal count, the rule for the first node, the key. Assumes nothing.
 use mathlib.Core.Path.{_≡_, refl, sym, ap, ap₂, _∙_}
-use mathlib.Core.Logic.{inl, inr}
-use mathlib.Core.Bool.{Bool, true, false, not, cond}
+use mathlib.Core.Bool.{true, false, not, cond}
 use mathlib.Core.List.{List, [], _∷_, _++_, append-assoc}
 use Prim.Native.Nat.{ℕ, zero, suc, _+_, _-_, _%_, _≤_, _<_}
-use native.Mathlib.Nat as NatL
 use native.Mathlib.Numerals.{add-one}
 use native.Mathlib.Omega.{arith}
 use lib.Dec.{eqb, ltb}
 use lib.ListN.{length, getD, take, set, length-append}
 use lib.Seq.{length-take-le, getD-take, take-suc-set, paste}
 use borrow.Author.Tests.{eq-eqb, ne-eqb, lt-ltb, le-ltb, ltb-false, not-true}
-use Rattle.finite.specs.Finite.{and, or, has}
+use Rattle.finite.specs.Finite.{and, has}
 use Rattle.finite.proofs.Tests.{both, neither, or-false-left}
 use Rattle.finite.proofs.Lists.{getD-within}
 use Rattle.game.proofs.Counting.{In}

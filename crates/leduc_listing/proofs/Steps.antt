@@ -2,7 +2,7 @@
 use mathlib.Core.Path.{_≡_, refl, sym, ap, ap₂, _∙_}
 use mathlib.Core.Bool.{Bool, true, false, not, cond}
 use mathlib.Core.List.{List, [], _∷_, _++_, append-nil, append-assoc, map}
-use Prim.Native.Nat.{ℕ, zero, suc, _+_, _-_, _≤_, _<_}
+use Prim.Native.Nat.{ℕ, zero, suc, _+_, _-_, _≤_}
 use native.Mathlib.Omega.{arith}
 use lib.ListN.{length, length-append}
 use lib.Seq.{sets}
@@ -10,7 +10,7 @@ use Rattle.finite.specs.Finite.{or, those}
 use Rattle.finite.proofs.Tests.{Tested, holds, fails, tested}
 use Rattle.finite.proofs.Lists.{those-kept, those-passed}
 use Rattle.leduc_rules.specs.Rules.{seen, left, remaining, may, options, in-play, live, shown-public}
-use Rattle.leduc_tree.specs.Tree.{Position, dealt, acted, due, ended, actor, key, choices, next, Next, card, action, nothing, start, fuel}
+use Rattle.leduc_tree.specs.Tree.{Position, dealt, acted, due, ended, actor, key, choices, next, card, action, nothing, start}
 use Rattle.leduc_tree.specs.Turns as Turns
 use Rattle.leduc_tree.specs.Turns.{turns, isFirst, decisionAt}
 use Rattle.leduc_tree.specs.Follows.{acts}

@@ -1,5 +1,5 @@
 -- The walk over Leduc's cards and actions writes the listing of its tree. Assumes nothing.
-use mathlib.Core.Path.{_≡_, refl, sym, ap, ap₂, subst, subst₂, _∙_}
+use mathlib.Core.Path.{_≡_, refl, sym, ap, subst, subst₂, _∙_}
 use mathlib.Core.Bool.{Bool, true, false, not, cond}
 use mathlib.Core.List.{List, [], _∷_, _++_, map}
 use Prim.Native.Nat.{ℕ, zero, suc}
@@ -8,18 +8,18 @@ use lib.ListN.{length}
 use borrow.Author.Tests.{eq-eqb}
 use Rattle.finite.specs.Finite.{and, or, some, those, has}
 use Rattle.finite.proofs.Tests.{both, and-left, and-right, true≢false}
-use Rattle.game.specs.Tree.{Key, Tree, fan, Trees}
+use Rattle.game.specs.Tree.{Key, Tree, fan}
 use Rattle.game.specs.Reply.{same}
 use Rattle.game.specs.Sets.{Decision, preorder, preorderAll, isOf, met}
 use Rattle.game.proofs.Tries.{Trie, finds, add, finds-add}
 use Rattle.game.proofs.Tries as Tries
-use Rattle.leduc_rules.specs.Rules.{ends-with, folded, closes, behind, raises, may, options, in-play, turn, ended, left, remaining, public-due, due, key, live, legal}
+use Rattle.leduc_rules.specs.Rules.{ends-with, folded, closes, behind, raises, may, options, in-play, turn, ended, left, remaining, public-due, due, key, legal}
 use Rattle.leduc_rules.specs.Stakes.{ante, raise₁, raise₂}
 use Rattle.leduc_tree.specs.Tree.{Position, start, actor, choices, payoff, afterDeal, afterAction, Next, card, action, nothing, next, each, below, fuel, leducTree}
 use Rattle.leduc_tree.specs.Tree as Tree
 use Rattle.leduc_tree.specs.Follows.{acts, afterLegal}
 use Rattle.leduc_tree.specs.Turns.{joined, turns, isFirst, decisionAt}
-use Rattle.leduc_tree.proofs.Growth.{Case, is-card, is-over, is-action, case}
+use Rattle.leduc_tree.proofs.Growth.{Case, is-action, case}
 use Rattle.records.specs.Listing.{listing, bytesOf}
 use Rattle.records.proofs.Walk.{Marked, none, over, deal, act, marked-append, Tells, kept, listed-by-walk}
 use Rattle.leduc_listing.specs.Listing.{positions, positionsAll, cardsOf, tree, leducListing}

@@ -5,7 +5,7 @@ use Prim.Native.Nat.{ℕ, _+_, _≤_}
 use lib.ListN.{take}
 use Rattle.finite.specs.Finite.{those}
 use Rattle.leduc_rules.specs.Rules.{seen, left, in-play, may}
-use Rattle.leduc_tree.specs.Tree.{Position, dealt, acted, due, ended, next, fuel}
+use Rattle.leduc_tree.specs.Tree.{Position, dealt, acted, due, ended, next}
 use Rattle.leduc_tree.specs.Follows.{acts}
 use Rattle.leduc_tree.specs.Turns.{turns, isFirst, decisionAt}
 use Rattle.records.specs.Listing.{bytesOf}

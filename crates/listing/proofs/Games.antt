@@ -8,7 +8,7 @@ use lib.Dec.{eqb, leb, ltb}
 use lib.ListN.{length, getD, drop}
 use lib.Seq.{sets, sets-eq}
 use borrow.Author.Tests.{eq-eqb, ne-eqb, eqb-true, eqb-false, leb-true, leb-false, ltb-true, ltb-false, lt-ltb, le-ltb}
-use Rattle.refusals.specs.Refusals.{Check, _refuses_, first}
+use Rattle.refusals.specs.Refusals.{_refuses_, first}
 use Rattle.refusals.proofs.Order.{refused, passed}
 use Rattle.finite.proofs.Tests.{Tested, holds, fails, tested}
 use Rattle.game.specs.Sets.{size, setCount}
@@ -16,7 +16,7 @@ use Rattle.kuhn_tree.specs.Tree.{kuhnTree}
 use Rattle.kuhn_tree.specs.Follows as Kuhn-tree
 use Rattle.leduc_tree.specs.Tree.{leducTree}
 use Rattle.tables.specs.declared.Game.{Game}
-use Rattle.tables.specs.Games.{isKuhn, treeOf}
+use Rattle.tables.specs.Games.{treeOf}
 use Rattle.tables.specs.Checks.{seats-out, tree-checks}
 use Rattle.tables.specs.Facts.{nodesOf, setsOf}
 use Rattle.tables.proofs.Counts.{nodes-table, kuhn-least, kuhn-most, kuhn-nodes, sets-at-most, leduc-sets}
@@ -28,7 +28,6 @@ use Rattle.kuhn_listing.specs.Listing as Kuhn
 use Rattle.kuhn_listing.specs.Listing.{kuhnListing}
 use Rattle.leduc_listing.specs.Listing as Leduc
 use Rattle.leduc_listing.specs.Listing.{leducListing}
-use Rattle.listing.specs.declared.ListingAnswer.{ListingAnswer}
 use Rattle.listing.specs.Calls.{cardsAt, listingOf, listing-checks, listing-refusal, answer, written}
 
 -- ---- which game is listed

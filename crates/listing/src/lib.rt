@@ -1,7 +1,6 @@
 // The listing of a game's sets: 24 bytes per set, in set order.
 use tables::Game;
 ghost use mathlib.Core.Path.{_≡_};
-ghost use mathlib.Core.Bool.{false};
 ghost use Prim.Native.Nat.{_≤_};
 ghost use lib.ListN.{length};
 ghost use lib.Seq.{sets};

@@ -2,14 +2,14 @@
 use mathlib.Core.Path.{_≡_, refl, sym, ap, ap₂, _∙_}
 use mathlib.Core.Bool.{Bool, true, false, not, cond}
 use mathlib.Core.List.{List, [], _∷_, _++_, append-assoc, map}
-use Prim.Native.Nat.{ℕ, zero, suc, _+_}
+use Prim.Native.Nat.{ℕ, suc, _+_}
 use native.Mathlib.Nat as NatL
 use native.Mathlib.Omega.{arith}
 use lib.ListN.{getD}
 use Rattle.finite.proofs.Tests.{Tested, holds, fails, tested}
 use Rattle.game.specs.Tree.{Key, Tree, end, chance, decide, Trees, fan}
 use Rattle.game.specs.Reply.{same}
-use Rattle.game.specs.Sets.{Decision, preorder, decisions, decisionOf, decisionsOf, isOf, met, firsts, sets, decides, numbers}
+use Rattle.game.specs.Sets.{Decision, preorder, decisionOf, decisionsOf, isOf, met, firsts, sets, decides, numbers}
 use Rattle.game.proofs.Sets.{isOf-self, met-past, not-here, decisions-of-nodes}
 use Rattle.game.proofs.Walk.{passed}
 use Rattle.records.specs.Listing.{firstNode, flat}

@@ -1,5 +1,5 @@
 -- The deals of the lower cards first, then what stands below this card. The measure counts the seats without a card, then the cards below the bound. Assumes nothing.
-use mathlib.Core.Path.{_≡_, refl, sym, ap, _∙_}
+use mathlib.Core.Path.{refl, sym, ap, _∙_}
 use native.Mathlib.Omega.{arith}
 use borrow.Author.Needs.{needs}
 use lib.ListN.{length, take, length-append}

@@ -1,5 +1,5 @@
 -- The records from a history on: none, or the node's and those after a pass and after a bet. The measure is the actions left. Assumes nothing.
-use mathlib.Core.Path.{_≡_, refl, sym, _∙_}
+use mathlib.Core.Path.{refl, sym, _∙_}
 use native.Mathlib.Omega.{arith}
 use borrow.Author.Needs.{needs}
 use lib.ListN.{take}

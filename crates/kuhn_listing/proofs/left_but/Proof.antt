@@ -1,5 +1,5 @@
 -- A card that is left, and not another. Assumes nothing.
-use mathlib.Core.Path.{_≡_, sym, ap, _∙_}
+use mathlib.Core.Path.{sym, ap, _∙_}
 use mathlib.Core.Bool.{not}
 use borrow.Author.Needs.{needs}
 use Rattle.finite.proofs.Tests.{and-rest, and-left-fails}

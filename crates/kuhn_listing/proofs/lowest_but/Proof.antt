@@ -4,7 +4,6 @@ use mathlib.Core.Path.{_≡_, sym, ap, _∙_}
 use mathlib.Core.Bool.{false, not}
 use borrow.Author.Needs.{needs}
 use native.Mathlib.Omega.{arith}
-use lib.ListN.{getD}
 use Rattle.finite.specs.Finite.{some}
 use Rattle.finite.proofs.Tests.{some-none, none-more, none-passed, some-here}
 use Rattle.kuhn_listing.proofs.Rule.{free, lowest-is}

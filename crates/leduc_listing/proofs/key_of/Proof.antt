@@ -2,7 +2,7 @@
 use mathlib.Core.Path.{_≡_, ap, _∙_}
 use Prim.Native.Nat.{_+_}
 use native.Mathlib.Omega.{arith}
-use lib.ListN.{length, getD, take, length-set}
+use lib.ListN.{length, getD, length-set}
 use Rattle.leduc_listing.proofs.Spots.{key-stored, key-told}
 use Rattle.records.specs.Listing.{padded}
 use borrow.Author.Needs.{needs}

@@ -7,7 +7,6 @@ use Rattle.listing.proofs.Games.{kuhn-from, kuhn-to, kuhn-listed, leduc
 use borrow.Author.Needs.{needs}
 use Rattle.listing.proofs.write_listing.Statement.{statement}
 use Rattle.listing.proofs.write_listing.Tie as tie
-use Rattle.leduc_listing.proofs.list_sets.Reads as list-sets-reads′
 
 list-sets-requires : tie.Need-list-sets-requires
 list-sets-requires c κs = (kuhn-from (c .before .before .before .before .args .g) (c .before .before .before .before .args .words) (c .before .before .before .before .pre .0) (c .before .if1 .taken), kuhn-to (c .before .before .before .before .args .g) (c .before .before .before .before .args .words) (c .before .before .before .before .pre .0) (c .before .if1 .taken), omega (arith, c .before .before .before .before .pre .1, ap length (kuhn-listed (c .before .before .before .before .args .g) (c .before .if1 .taken))))
