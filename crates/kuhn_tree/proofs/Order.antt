@@ -29,7 +29,7 @@ use Rattle.kuhn_tree.proofs.Shape.{hand, deals, kuhn-deals}
 use Rattle.kuhn_tree.proofs.Sets.{turns-once, has-hand, each-has, has-each, May, grid-deals}
 
 -- ---- below a full deal
-map-append : {A B : Type 0} (f : A → B) (xs ys : List A) → map f (xs ++ ys) ≡ map f xs ++ map f ys
+pub map-append : {A B : Type 0} (f : A → B) (xs ys : List A) → map f (xs ++ ys) ≡ map f xs ++ map f ys
 map-append f [] ys = refl
 map-append f (x ∷ xs) ys = ap (λ l. f x ∷ l) (map-append f xs ys)
 
@@ -46,7 +46,7 @@ module _ (ante bet n : ℕ) where
       ts a = turns n r (ended n (h ++ (a ∷ []))) (h ++ (a ∷ []))
 
 -- another history is another set
-other-history : (n : ℕ) (cs g h : List ℕ) → (g ≡ h → ⊥) → isOf (turn n h) (key cs h (turn n h)) (decisionAt n cs g) ≡ false
+pub other-history : (n : ℕ) (cs g h : List ℕ) → (g ≡ h → ⊥) → isOf (turn n h) (key cs h (turn n h)) (decisionAt n cs g) ≡ false
 other-history n cs g h d = at (tested (isOf (turn n h) (key cs h (turn n h)) (decisionAt n cs g)))
   where
     at : Tested (isOf (turn n h) (key cs h (turn n h)) (decisionAt n cs g)) → isOf (turn n h) (key cs h (turn n h)) (decisionAt n cs g) ≡ false
@@ -174,12 +174,12 @@ module _ (ante bet n : ℕ) (one : 1 ≤ n) where
       may-back n cs c (d .0) (getD (d .1) 1 0) v (deals-may k (cs ++ (c ∷ [])) d (omega (arith, length-append cs (c ∷ []))) e)
 
   -- the decisions in front meet just those sets for which an earlier deal has the card
-  abbrev Meets : List Decision → List ℕ → Type 0
+  abbrev pub Meets : List Decision → List ℕ → Type 0
   Meets front cs = (h : List ℕ) (x : ℕ) → In h (histories n) → May n cs (turn n h) x → met (turn n h) (turn n h ∷ x ∷ h) front ≡ not (lowest n cs (turn n h) x)
 
   module _ (k : ℕ) (cs : List ℕ) (cards : length cs + suc k ≡ n) (deck : length (remaining n cs) ≡ suc (suc k)) where
     -- what the cards below b lead to
-    under : ℕ → List Decision
+    unfoldable pub under : ℕ → List Decision
     under b = decisionsAll (each (those b (left n cs)) (λ c. deals ante bet n k (cs ++ (c ∷ []))))
 
     module _ (c : ℕ) (in-deck : In c (remaining n cs)) (h : List ℕ) (x : ℕ) (w : In h (histories n)) (may : May n (cs ++ (c ∷ [])) (turn n h) x) where
@@ -225,7 +225,7 @@ module _ (ante bet n : ℕ) (one : 1 ≤ n) where
       met-under : met j (j ∷ x ∷ h) (under c) ≡ earlier
       met-under = iff (λ e. let (d, a, b) = met-in j (j ∷ x ∷ h) (under c) e in found d a b) lies
 
-    meets-more : (front : List Decision) → Meets front cs → (c : ℕ) → In c (remaining n cs) → Meets (passed (under c) front) (cs ++ (c ∷ []))
+    pub meets-more : (front : List Decision) → Meets front cs → (c : ℕ) → In c (remaining n cs) → Meets (passed (under c) front) (cs ++ (c ∷ []))
     meets-more front g c v h x w q = met-passed (turn n h) (turn n h ∷ x ∷ h) (under c) front
         ∙ ap₂ (λ a b. cond a true b) (met-under c v h x w q) (g h x w (may-back n cs c (turn n h) x v q))
         ∙ turned (eqb (length cs) (turn n h)) (lower n cs c x) (lowest n cs (turn n h) x) ∙ ap not (sym (lowest-more n cs c (turn n h) x))

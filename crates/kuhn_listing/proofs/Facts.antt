@@ -1,0 +1,25 @@
+-- The statements of specs/Facts.antt, each by its proof. Assumes nothing.
+use mathlib.Core.Path.{refl}
+use Rattle.finite.specs.Finite.{and, or, some, every, those, has}
+use Rattle.game.specs.Tree.{fan}
+use Rattle.game.specs.Reply.{same}
+use Rattle.game.specs.Sets.{preorder, decisions, isOf, met, firsts, sets, decides, numbers}
+use Rattle.kuhn_rules.specs.Rules.{bet-made, after-bet, ended, left, remaining, legal}
+use Rattle.kuhn_tree.specs.Tree.{next, each, below, kuhnTree}
+use Rattle.kuhn_tree.specs.Follows.{dealt, acted, positions, positionOf}
+use Rattle.records.specs.Listing.{padded, bytesOf, flat, listing}
+use Rattle.records.proofs.Bytes.{length-listing}
+use Rattle.kuhn_listing.specs.Listing.{cardsOf, tree, kuhnListing}
+use Rattle.kuhn_listing.specs.Facts.{Walked, Long, Two-seats}
+use Rattle.kuhn_listing.proofs.Walk as Walk
+
+pub walked : Walked
+walked = Walk.walked
+
+pub long : Long
+unfolding kuhnListing
+long n = length-listing (tree n) (λ a. cardsOf (positionOf (tree n) n a))
+
+pub two-seats : Two-seats
+unfolding kuhnListing listing flat bytesOf padded positions dealt acted kuhnTree below next each preorder decisions fan same isOf met firsts sets decides numbers bet-made after-bet ended left remaining legal and or some every those has
+two-seats = refl

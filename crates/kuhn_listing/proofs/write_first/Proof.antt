@@ -1,0 +1,82 @@
+-- The record of a node that is the first of its set. Assumes nothing.
+use mathlib.Core.Path.{sym, _∙_}
+use native.Mathlib.Nat as NatL
+use native.Mathlib.Omega.{arith}
+use borrow.Author.Tests.{not-true, not-false}
+use Rattle.kuhn_listing.proofs.Steps.{wrote-later, node-length, wrote-here}
+use borrow.Author.Needs.{needs}
+use Rattle.kuhn_listing.proofs.write_first.Statement.{statement}
+use Rattle.kuhn_listing.proofs.write_first.Tie as tie
+
+rem-seat : tie.Need-rem-seat
+rem-seat c = search needs
+
+slice-aggregate-is-first : tie.Need-slice-aggregate-is-first
+slice-aggregate-is-first c = search needs
+
+is-first-requires : tie.Need-is-first-requires
+is-first-requires c κs = (NatL.mod-lt (c .before .before .args .acted) (c .before .before .pre .0 .0), search needs, c .before .before .pre .0 .3)
+
+returns : tie.Need-returns
+returns c = wrote-later (c .before .before .before .before .args .n) (c .before .before .before .before .args .acted) (c .before .before .before .before .args .t4) (c .before .before .before .before .args .t5) (c .before .before .before .before .pre .0 .0) (search needs) (c .before .before .before .before .args .out .now) (c .before .before .before .before .args .at) (sym (c .before .is-first .ensures) ∙ not-true _ (c .if1 .taken))
+
+cast-key-of : tie.Need-cast-key-of
+cast-key-of c = omega (arith, NatL.mod-lt (c .before .before .before .before .args .acted) (c .before .before .before .before .pre .0 .0))
+
+array-read-key-of : tie.Need-array-read-key-of
+array-read-key-of c = omega (arith, NatL.mod-lt (c .before .before .before .before .args .acted) (c .before .before .before .before .pre .0 .0))
+
+slice-aggregate-key-of : tie.Need-slice-aggregate-key-of
+slice-aggregate-key-of c = search needs
+
+key-of-requires : tie.Need-key-of-requires
+key-of-requires c κs = search needs
+
+slice-aggregate-in-six : tie.Need-slice-aggregate-in-six
+slice-aggregate-in-six c = search needs
+
+in-six-requires : tie.Need-in-six-requires
+in-six-requires c κs = search needs
+
+cast-put-record : tie.Need-cast-put-record
+cast-put-record c = omega (arith, NatL.mod-lt (c .before .before .before .before .before .before .before .before .before .args .acted) (c .before .before .before .before .before .before .before .before .before .pre .0 .0))
+
+add-put-record : tie.Need-add-put-record
+add-put-record c = search needs
+
+cast-put-record-2 : tie.Need-cast-put-record-2
+cast-put-record-2 c = search needs
+
+put-record-requires : tie.Need-put-record-requires
+put-record-requires c κs = omega (arith, c .before .before .before .before .before .before .before .before .before .pre .1, node-length (c .before .before .before .before .before .before .before .before .before .args .n) (c .before .before .before .before .before .before .before .before .before .args .acted) (c .before .before .before .before .before .before .before .before .before .args .t4) (c .before .before .before .before .before .before .before .before .before .args .t5) (c .before .before .before .before .before .before .before .before .before .pre .0 .0) (search needs) (sym (c .before .before .before .before .before .before .is-first .ensures) ∙ not-false _ (c .before .before .before .before .before .if1 .left)))
+
+add-result : tie.Need-add-result
+add-result c = search needs
+
+same-length : tie.Need-same-length
+same-length c = search needs
+
+returns-2 : tie.Need-returns-2
+returns-2 c = wrote-here (c .before .before .before .before .before .before .before .before .before .before .before .before .args .n) (c .before .before .before .before .before .before .before .before .before .before .before .before .args .acted) (c .before .before .before .before .before .before .before .before .before .before .before .before .args .t4) (c .before .before .before .before .before .before .before .before .before .before .before .before .args .t5) (c .before .before .before .before .before .before .before .before .before .before .before .before .pre .0 .0) (search needs) (c .before .before .before .before .before .before .before .before .before .before .before .before .args .out .now) _ (c .before .before .before .before .before .before .before .before .before .before .before .before .args .at) _ _ (sym (c .before .before .before .before .before .before .before .before .before .is-first .ensures) ∙ not-false _ (c .before .before .before .before .before .before .before .before .if1 .left)) (c .before .before .before .before .before .before .key-of .ensures) (c .before .before .before .before .in-six .ensures) (c .before .before .put-record .ensures)
+
+pub write-first-spec : {M : Type 1} → statement M
+write-first-spec =
+    tie.close
+    (tie.spec
+    rem-seat
+    slice-aggregate-is-first
+    is-first-requires
+    returns
+    cast-key-of
+    array-read-key-of
+    slice-aggregate-key-of
+    key-of-requires
+    slice-aggregate-in-six
+    in-six-requires
+    cast-put-record
+    add-put-record
+    cast-put-record-2
+    put-record-requires
+    add-result
+    same-length
+    returns-2)

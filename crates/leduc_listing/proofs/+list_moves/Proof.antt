@@ -1,0 +1,257 @@
+-- The lower moves first, then the node after this one and its moves. The measure counts the moves left, then those below the bound. Assumes nothing.
+use mathlib.Core.Path.{refl, sym, _∙_}
+use native.Mathlib.Omega.{arith}
+use borrow.Author.Needs.{needs}
+use borrow.Author.Tests.{not-true, not-false}
+use Rattle.records.proofs.Bytes.{wrote-as, wrote-nothing}
+use Rattle.leduc_listing.specs.Walk.{placed}
+use Rattle.leduc_listing.proofs.Steps.{moves-none, moves-spent, moves-passed, fewer-moves, moves-length, wrote-moves}
+use Prim.Native.Nat.{ℕ, _+_, _*_, _<_}
+use borrow.Fn.Kinds.{In}
+use borrow.Fn.PlainCycle.{Measures, is, falls, and}
+use Rattle.leduc_listing.proofs.list_moves.Reads as list-moves
+use Rattle.leduc_listing.proofs.list_moves.Kinds as list-moves-kinds
+use Rattle.leduc_listing.proofs.+list_moves.Lts-list_moves as list-moves-lts
+use Rattle.leduc_listing.proofs.after.Reads as after-reads
+use Rattle.leduc_listing.proofs.is_move.Reads as is-move-reads
+use Rattle.leduc_listing.proofs.move_bound.Reads as move-bound-reads
+use Rattle.leduc_listing.proofs.write_first.Reads as write-first-reads
+use Rattle.leduc_listing.proofs.+list_moves.{statement}
+use Rattle.leduc_listing.proofs.+list_moves.Tie.{close}
+
+abbrev μ-list-moves : Measures 1 list-moves-kinds.ps ℕ
+μ-list-moves κs a = 8 * a .1 .1 .1 .0 + a .1 .1 .1 .1 .0
+
+abbrev list-moves-at : ℕ → In 1 list-moves-kinds.ps
+list-moves-at t =
+    and 1 list-moves-kinds.ps (is 1 list-moves-kinds.ps μ-list-moves t) list-moves.Pre
+
+abbrev list-moves-below : ℕ → In 1 list-moves-kinds.ps
+list-moves-below t =
+    and 1 list-moves-kinds.ps (falls 1 list-moves-kinds.ps _<_ μ-list-moves t) list-moves.Pre
+
+list-moves-returns : (t : ℕ) → list-moves-lts.Need-returns (
+  list-moves-below t,
+  list-moves.Post,
+  is-move-reads.Asked,
+  is-move-reads.Learnt,
+  after-reads.Asked,
+  after-reads.Learnt,
+  write-first-reads.Asked,
+  write-first-reads.Learnt,
+  move-bound-reads.Asked,
+  move-bound-reads.Learnt,
+) (list-moves-at t) list-moves.Post
+list-moves-returns t c = wrote-nothing (moves-none (c .before .before .args .left) (placed (c .before .before .args .s)) (c .before .before .args .bound) (c .if1 .taken))
+
+list-moves-returns-2 : (t : ℕ) → list-moves-lts.Need-returns-2 (
+  list-moves-below t,
+  list-moves.Post,
+  is-move-reads.Asked,
+  is-move-reads.Learnt,
+  after-reads.Asked,
+  after-reads.Learnt,
+  write-first-reads.Asked,
+  write-first-reads.Learnt,
+  move-bound-reads.Asked,
+  move-bound-reads.Learnt,
+) (list-moves-at t) list-moves.Post
+list-moves-returns-2 t c = wrote-nothing (moves-spent (c .before .before .before .args .left) (placed (c .before .before .before .args .s)) (c .before .before .before .args .bound) (c .if2 .taken))
+
+list-moves-sub-a : (t : ℕ) → list-moves-lts.Need-sub-a (
+  list-moves-below t,
+  list-moves.Post,
+  is-move-reads.Asked,
+  is-move-reads.Learnt,
+  after-reads.Asked,
+  after-reads.Learnt,
+  write-first-reads.Asked,
+  write-first-reads.Learnt,
+  move-bound-reads.Asked,
+  move-bound-reads.Learnt,
+) (list-moves-at t) list-moves.Post
+list-moves-sub-a t c = search needs
+
+list-moves-list-moves-requires : (t : ℕ) → list-moves-lts.Need-list-moves-requires (
+  list-moves-below t,
+  list-moves.Post,
+  is-move-reads.Asked,
+  is-move-reads.Learnt,
+  after-reads.Asked,
+  after-reads.Learnt,
+  write-first-reads.Asked,
+  write-first-reads.Learnt,
+  move-bound-reads.Asked,
+  move-bound-reads.Learnt,
+) (list-moves-at t) list-moves.Post
+list-moves-list-moves-requires t c κs = (omega (arith, c .before .before .before .before .pre .0, c .before .before .if1 .left), ((c .before .before .before .before .pre .1 .0 .0, omega (arith, c .before .before .before .before .pre .1 .0 .1)), omega (arith, c .before .before .before .before .pre .1 .1, fewer-moves (c .before .before .before .before .args .left) (placed (c .before .before .before .before .args .s)) (c .before .before .before .before .args .bound) (c .before .before .if1 .left))))
+
+list-moves-is-move-requires : (t : ℕ) → list-moves-lts.Need-is-move-requires (
+  list-moves-below t,
+  list-moves.Post,
+  is-move-reads.Asked,
+  is-move-reads.Learnt,
+  after-reads.Asked,
+  after-reads.Learnt,
+  write-first-reads.Asked,
+  write-first-reads.Learnt,
+  move-bound-reads.Asked,
+  move-bound-reads.Learnt,
+) (list-moves-at t) list-moves.Post
+list-moves-is-move-requires t c κs = record { seats = c .before .before .before .before .before .before .before .pre .1 .0 .0 .seats; places = omega (arith, c .before .before .before .before .before .before .before .pre .1 .0 .0 .places) }
+
+list-moves-same-length : (t : ℕ) → list-moves-lts.Need-same-length (
+  list-moves-below t,
+  list-moves.Post,
+  is-move-reads.Asked,
+  is-move-reads.Learnt,
+  after-reads.Asked,
+  after-reads.Learnt,
+  write-first-reads.Asked,
+  write-first-reads.Learnt,
+  move-bound-reads.Asked,
+  move-bound-reads.Learnt,
+) (list-moves-at t) list-moves.Post
+list-moves-same-length t c = search needs
+
+list-moves-returns-3 : (t : ℕ) → list-moves-lts.Need-returns-3 (
+  list-moves-below t,
+  list-moves.Post,
+  is-move-reads.Asked,
+  is-move-reads.Learnt,
+  after-reads.Asked,
+  after-reads.Learnt,
+  write-first-reads.Asked,
+  write-first-reads.Learnt,
+  move-bound-reads.Asked,
+  move-bound-reads.Learnt,
+) (list-moves-at t) list-moves.Post
+list-moves-returns-3 t c = wrote-as (sym (moves-passed (c .before .before .before .before .before .before .before .before .before .args .left) (placed (c .before .before .before .before .before .before .before .before .before .args .s)) (c .before .before .before .before .before .before .before .before .before .args .bound) (c .before .before .before .before .before .before .before .if1 .left) (sym (c .before .is-move .ensures) ∙ not-true _ (c .if3 .taken)))) (c .before .before .before .before .list-moves .ensures)
+
+list-moves-after-requires : (t : ℕ) → list-moves-lts.Need-after-requires (
+  list-moves-below t,
+  list-moves.Post,
+  is-move-reads.Asked,
+  is-move-reads.Learnt,
+  after-reads.Asked,
+  after-reads.Learnt,
+  write-first-reads.Asked,
+  write-first-reads.Learnt,
+  move-bound-reads.Asked,
+  move-bound-reads.Learnt,
+) (list-moves-at t) list-moves.Post
+list-moves-after-requires t c κs = (record { seats = c .before .before .before .before .before .before .before .before .before .pre .1 .0 .0 .seats; places = omega (arith, c .before .before .before .before .before .before .before .before .before .pre .1 .0 .0 .places) }, omega (arith, c .before .before .before .before .before .before .before .before .before .pre .1 .0 .1, c .before .before .before .before .before .before .before .if1 .left))
+
+list-moves-write-first-requires : (t : ℕ) → list-moves-lts.Need-write-first-requires (
+  list-moves-below t,
+  list-moves.Post,
+  is-move-reads.Asked,
+  is-move-reads.Learnt,
+  after-reads.Asked,
+  after-reads.Learnt,
+  write-first-reads.Asked,
+  write-first-reads.Learnt,
+  move-bound-reads.Asked,
+  move-bound-reads.Learnt,
+) (list-moves-at t) list-moves.Post
+list-moves-write-first-requires t c κs = (record { seats = c .before .after .ensures .1; places = omega (arith, c .before .before .before .before .before .before .before .before .before .before .before .pre .1 .0 .0 .places, c .before .after .ensures .2, c .before .before .before .before .before .before .before .before .if2 .left) }, omega (arith, c .before .before .before .before .before .before .before .before .before .before .before .pre .1 .1, c .before .before .before .before .before .before .list-moves .kept .0, c .before .before .before .before .before .before .list-moves .ensures .next, moves-length (c .before .before .before .before .before .before .before .before .before .before .before .args .left) (placed (c .before .before .before .before .before .before .before .before .before .before .before .args .s)) (placed (c .before .after .result)) (c .before .before .before .before .before .before .before .before .before .before .before .args .bound) _ (c .before .before .before .before .before .before .before .before .if2 .left) (c .before .before .before .before .before .before .before .before .before .if1 .left) (sym (c .before .before .before .is-move .ensures) ∙ not-false _ (c .before .before .if3 .left)) (c .before .after .ensures .0) refl))
+
+list-moves-move-bound-requires : (t : ℕ) → list-moves-lts.Need-move-bound-requires (
+  list-moves-below t,
+  list-moves.Post,
+  is-move-reads.Asked,
+  is-move-reads.Learnt,
+  after-reads.Asked,
+  after-reads.Learnt,
+  write-first-reads.Asked,
+  write-first-reads.Learnt,
+  move-bound-reads.Asked,
+  move-bound-reads.Learnt,
+) (list-moves-at t) list-moves.Post
+list-moves-move-bound-requires t c κs = record { seats = c .before .before .before .before .after .ensures .1; places = omega (arith, c .before .before .before .before .before .before .before .before .before .before .before .before .before .before .pre .1 .0 .0 .places, c .before .before .before .before .after .ensures .2) }
+
+list-moves-sub-list-moves : (t : ℕ) → list-moves-lts.Need-sub-list-moves (
+  list-moves-below t,
+  list-moves.Post,
+  is-move-reads.Asked,
+  is-move-reads.Learnt,
+  after-reads.Asked,
+  after-reads.Learnt,
+  write-first-reads.Asked,
+  write-first-reads.Learnt,
+  move-bound-reads.Asked,
+  move-bound-reads.Learnt,
+) (list-moves-at t) list-moves.Post
+list-moves-sub-list-moves t c = search needs
+
+list-moves-list-moves-requires-2 : (t : ℕ) → list-moves-lts.Need-list-moves-requires-2 (
+  list-moves-below t,
+  list-moves.Post,
+  is-move-reads.Asked,
+  is-move-reads.Learnt,
+  after-reads.Asked,
+  after-reads.Learnt,
+  write-first-reads.Asked,
+  write-first-reads.Learnt,
+  move-bound-reads.Asked,
+  move-bound-reads.Learnt,
+) (list-moves-at t) list-moves.Post
+list-moves-list-moves-requires-2 t c κs = (omega (arith, c .before .before .before .before .before .before .before .before .before .before .before .before .before .before .before .before .pre .0, c .before .before .before .before .before .before .before .before .before .before .before .before .before .before .if1 .left, c .before .before .before .before .before .before .before .before .before .before .before .before .before .if2 .left, c .before .move-bound .ensures .1), ((record { seats = c .before .before .before .before .before .before .after .ensures .1; places = omega (arith, c .before .before .before .before .before .before .before .before .before .before .before .before .before .before .before .before .pre .1 .0 .0 .places, c .before .before .before .before .before .before .after .ensures .2, c .before .before .before .before .before .before .before .before .before .before .before .before .before .if2 .left) }, c .before .move-bound .ensures .1), omega (arith, c .before .before .before .before .before .before .before .before .before .before .before .before .before .before .before .before .pre .1 .1, c .before .before .before .before .before .before .before .before .before .before .before .list-moves .kept .0, c .before .before .before .before .before .before .before .before .before .before .before .list-moves .ensures .next, c .before .before .before .before .write-first .kept .0, c .before .before .before .before .write-first .ensures .next, moves-length (c .before .before .before .before .before .before .before .before .before .before .before .before .before .before .before .before .args .left) (placed (c .before .before .before .before .before .before .before .before .before .before .before .before .before .before .before .before .args .s)) (placed (c .before .before .before .before .before .before .after .result)) (c .before .before .before .before .before .before .before .before .before .before .before .before .before .before .before .before .args .bound) _ (c .before .before .before .before .before .before .before .before .before .before .before .before .before .if2 .left) (c .before .before .before .before .before .before .before .before .before .before .before .before .before .before .if1 .left) (sym (c .before .before .before .before .before .before .before .before .is-move .ensures) ∙ not-false _ (c .before .before .before .before .before .before .before .if3 .left)) (c .before .before .before .before .before .before .after .ensures .0) (c .before .move-bound .ensures .0))))
+
+list-moves-same-length-2 : (t : ℕ) → list-moves-lts.Need-same-length-2 (
+  list-moves-below t,
+  list-moves.Post,
+  is-move-reads.Asked,
+  is-move-reads.Learnt,
+  after-reads.Asked,
+  after-reads.Learnt,
+  write-first-reads.Asked,
+  write-first-reads.Learnt,
+  move-bound-reads.Asked,
+  move-bound-reads.Learnt,
+) (list-moves-at t) list-moves.Post
+list-moves-same-length-2 t c = search needs
+
+list-moves-returns-4 : (t : ℕ) → list-moves-lts.Need-returns-4 (
+  list-moves-below t,
+  list-moves.Post,
+  is-move-reads.Asked,
+  is-move-reads.Learnt,
+  after-reads.Asked,
+  after-reads.Learnt,
+  write-first-reads.Asked,
+  write-first-reads.Learnt,
+  move-bound-reads.Asked,
+  move-bound-reads.Learnt,
+) (list-moves-at t) list-moves.Post
+list-moves-returns-4 t c = wrote-moves (c .before .before .before .before .before .before .before .before .before .before .before .before .before .before .before .before .before .before .before .args .left) (placed (c .before .before .before .before .before .before .before .before .before .before .before .before .before .before .before .before .before .before .before .args .s)) (placed (c .before .before .before .before .before .before .before .before .before .after .result)) (c .before .before .before .before .before .before .before .before .before .before .before .before .before .before .before .before .before .before .before .args .bound) _ (c .before .before .before .before .before .before .before .before .before .before .before .before .before .before .before .before .if2 .left) (c .before .before .before .before .before .before .before .before .before .before .before .before .before .before .before .before .before .if1 .left) (sym (c .before .before .before .before .before .before .before .before .before .before .before .is-move .ensures) ∙ not-false _ (c .before .before .before .before .before .before .before .before .before .before .if3 .left)) (c .before .before .before .before .before .before .before .before .before .after .ensures .0) (c .before .before .before .before .move-bound .ensures .0) (c .before .before .before .before .before .before .before .before .before .before .before .before .before .before .list-moves .ensures) (c .before .before .before .before .before .before .before .write-first .ensures) (c .before .before .list-moves2 .ensures)
+
+pub +list-moves-spec : {M : Type 1} → statement M
++list-moves-spec = close μ-list-moves λ t. list-moves-lts.spec (
+  list-moves-below t,
+  list-moves.Post,
+  is-move-reads.Asked,
+  is-move-reads.Learnt,
+  after-reads.Asked,
+  after-reads.Learnt,
+  write-first-reads.Asked,
+  write-first-reads.Learnt,
+  move-bound-reads.Asked,
+  move-bound-reads.Learnt,
+)
+    (list-moves-at t)
+    list-moves.Post
+    (list-moves-returns t)
+    (list-moves-returns-2 t)
+    (list-moves-sub-a t)
+    (list-moves-list-moves-requires t)
+    (list-moves-is-move-requires t)
+    (list-moves-same-length t)
+    (list-moves-returns-3 t)
+    (list-moves-after-requires t)
+    (list-moves-write-first-requires t)
+    (list-moves-move-bound-requires t)
+    (list-moves-sub-list-moves t)
+    (list-moves-list-moves-requires-2 t)
+    (list-moves-same-length-2 t)
+    (list-moves-returns-4 t)

@@ -1,0 +1,17 @@
+-- What holds of Leduc's listing, proved in proofs/Facts.antt.
+use mathlib.Core.Path.{_≡_}
+use Prim.Native.Nat.{_*_}
+use lib.ListN.{length}
+use Rattle.game.specs.Sets.{setCount}
+use Rattle.leduc_tree.specs.Tree.{start, next, fuel}
+use Rattle.leduc_tree.specs.Turns.{turns}
+use Rattle.leduc_listing.specs.Listing.{tree, leducListing}
+use Rattle.leduc_listing.specs.Walk.{recordsOf}
+
+-- the walk by the rule on the cards writes the listing
+abbrev pub Walked : Type 0
+Walked = leducListing ≡ recordsOf (turns fuel (next start) start)
+
+-- 24 bytes per set
+abbrev pub Long : Type 0
+Long = length leducListing ≡ 24 * setCount tree

@@ -1,0 +1,3 @@
+-- Laws of the listing call.
+pub mod Games
+pub mod Facts
