@@ -1,0 +1,5 @@
+pub mod Steps
+pub mod Nodes
+pub mod Numbering
+pub mod Packing
+pub mod Linking

@@ -1,0 +1,4 @@
+-- The tree in work memory: what its words say. No public call cites these definitions.
+pub mod Words
+pub mod Held
+pub mod Index
