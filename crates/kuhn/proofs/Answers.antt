@@ -11,25 +11,18 @@ use lib.ListN.{length, getD, take, drop, replicate}
 use Rattle.refusals.specs.Refusals.{Check, first, _refuses_}
 use Rattle.refusals.proofs.Order.{refused, passed, fails-first, fails-rest}
 use Rattle.finite.specs.Finite.{or}
-use Rattle.finite.proofs.Tests.{both, and-left, and-right, and-left-fails, and-right-fails, or-false-left, or-false-right}
+use Rattle.finite.proofs.Tests.{both, and-left, and-right, and-left-fails, and-right-fails, or-false-left}
 use Rattle.finite.proofs.Lists.{getD-within}
 use Rattle.kuhn_rules.specs.Rules.{ended, overrun, live, over, due, remaining}
 use Rattle.kuhn_rules.specs.Reached.{strange, twice, fair, played, unknown}
-use Rattle.kuhn.specs.Calls.{seats-out, reachable, cardsOf, historyOf, position-checks, step-checks, step-refusal, deal-checks, deal-refusal, legal-of, legal-checks, legal-refusal, key-of, key-checks, key-refusal, payoff-checks, payoff-refusal, payoff-answer, saved-checks, mark, mark-checks, saved-refusal, moved, wrote, written}
+use Rattle.kuhn_positions.specs.Positions.{seats-out, reachable, cardsOf, historyOf, position-checks, saved-checks, mark}
+use Rattle.kuhn.specs.Calls.{step-checks, step-refusal, deal-checks, deal-refusal, legal-of, legal-checks, legal-refusal, key-of, key-checks, key-refusal, payoff-checks, payoff-refusal, payoff-answer, mark-checks, saved-refusal, moved, wrote, written}
 use Rattle.kuhn_rules.specs.Stakes.{payoffs-of}
 use Rattle.kuhn.specs.declared.KuhnPoker.{KuhnPoker}
-use Rattle.kuhn.specs.declared.KuhnState.{KuhnState}
+use Rattle.kuhn_positions.specs.declared.KuhnState.{KuhnState}
 use Rattle.kuhn_rules.proofs.Histories.{hand-lasts}
 use Rattle.kuhn_rules.proofs.Deals.{outcome-in, outcome-out}
-use Rattle.kuhn.proofs.Positions.{dealt-is, acted-is, reachable-is, reachable-dealt, reachable-acted}
-
--- ---- the seat count
-
-pub seats-least : (n : ℕ) → seats-out n ≡ false → 2 ≤ n
-seats-least n e = ltb-false n 2 (or-false-left (ltb n 2) (ltb 10 n) e)
-
-pub seats-most : (n : ℕ) → seats-out n ≡ false → n ≤ 10
-seats-most n e = ltb-false 10 n (or-false-right (ltb n 2) (ltb 10 n) e)
+use Rattle.kuhn_positions.proofs.Positions.{dealt-is, acted-is, reachable-is, reachable-dealt, reachable-acted, seats-least, seats-most}
 
 -- ---- the checks of a position, before a call's own
 

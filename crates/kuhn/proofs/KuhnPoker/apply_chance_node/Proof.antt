@@ -3,7 +3,7 @@ use mathlib.Core.Path.{_≡_, refl, sym, ap, _∙_}
 use borrow.Author.Needs.{needs}
 use native.Mathlib.Omega.{arith}
 use lib.ListN.{length}
-use Rattle.kuhn.specs.Calls.{with-card}
+use Rattle.kuhn_positions.specs.Positions.{with-card}
 use Rattle.kuhn.proofs.Answers.{seats-ten, cards-in, moved-on, not-moved, deal-position, deal-not-due, deal-no-card, deal-fits, deal-card}
 use Rattle.kuhn.proofs.KuhnPoker.apply_chance_node.Statement.{statement}
 use Rattle.kuhn.proofs.KuhnPoker.apply_chance_node.Tie as tie
