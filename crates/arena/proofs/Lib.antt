@@ -2,4 +2,5 @@ pub mod Steps
 pub mod Nodes
 pub mod Numbering
 pub mod Packing
+pub mod Bytes
 pub mod Linking

@@ -2,3 +2,5 @@
 pub mod Words
 pub mod Held
 pub mod Index
+pub mod Built
+pub mod Payoffs

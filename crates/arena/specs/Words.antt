@@ -45,7 +45,7 @@ chanceWord next = 1 + 2097152 * next
 
 -- the byte of seat i at an end, and the payoff that it stands for: 128 is 0
 abbrev pub byteOf : ℕ → ℕ → ℕ
-byteOf x i = x / (4 * 256 ^ i) % 256
+byteOf x i = x / 4 / 2 ^ (8 * i) % 256
 
 abbrev pub payoffOf : ℕ → ℕ → ℤ
 payoffOf x i = pos (byteOf x i) -ℤ pos 128
