@@ -30,7 +30,7 @@ small-fits (negsuc a) h = record { sfits = omega arith }
 abbrev pub bits : ℤ → ℤ
 bits x = toZ w64 (ofZ w64 x)
 
-bits-of : (x : ℤ) → natAbs x ≤ 100 → bits x ≡ x
+pub bits-of : (x : ℤ) → natAbs x ≤ 100 → bits x ≡ x
 bits-of x h = toZ-ofZ w64 x (small-fits x h)
 
 pub lifted-fits : (x : ℤ) → natAbs x ≤ 100 → SFits w64 (bits x +ℤ pos 128)

@@ -3,4 +3,5 @@ pub mod Nodes
 pub mod Numbering
 pub mod Packing
 pub mod Bytes
+pub mod Building
 pub mod Linking
