@@ -70,6 +70,16 @@ unfolding snoc size
 sizes-snoc nil u = omega arith
 sizes-snoc (cons t f) u = omega (arith, sizes-snoc f u)
 
+-- two rows, one behind the other
+unfoldable pub join : Trees → Trees → Trees
+join nil g = g
+join (cons t f) g = cons t (join f g)
+
+pub sizes-join : (f g : Trees) → sizes (join f g) ≡ sizes f + sizes g
+unfolding join size
+sizes-join nil g = omega arith
+sizes-join (cons t f) g = omega (arith, sizes-join f g)
+
 module _ (n : ℕ) (code : ℕ → Key → ℕ) where
   held-snoc : (w : List ℕ) (a : ℕ) (f : Trees) (u : Tree) → HeldAll n code unlinked w a f → Held n code unlinked w (a + sizes f) u → HeldAll n code unlinked w a (snoc f u)
   unfolding Held snoc size
@@ -86,6 +96,22 @@ module _ (n : ℕ) (code : ℕ → Key → ℕ) where
         held = held-snoc w a f t (held-same-all n code unlinked v w a f (h .held) (λ i b c. g .kept .words i (inl (omega (arith, h .next))))) (rw (h .next) at (g .held));
         kept = rw (sizes-snoc f t, ← NatL.add-assoc a (sizes f) (size t)) (kept-join a (a + sizes f) (a + sizes f + size t) u v w (omega arith) (omega arith) (h .kept) (rw (h .next) at (g .kept)));
       }
+
+  held-join : (w : List ℕ) (a : ℕ) (f g : Trees) → HeldAll n code unlinked w a f → HeldAll n code unlinked w (a + sizes f) g → HeldAll n code unlinked w a (join f g)
+  unfolding Held join size
+  held-join w a nil g h i = subst (λ j. HeldAll n code unlinked w j g) (NatL.add-zero a) i
+  held-join w a (cons t f) g h i = (h .0, held-join w (a + size t) f g (h .1) (subst (λ j. HeldAll n code unlinked w j g) (sym (NatL.add-assoc a (size t) (sizes f))) i))
+
+  pub row-join : (a : ℕ) (u v w : List ℕ) (f g : Trees) (r q : ℕ) → Row n code a u v f r → Row n code r v w g q → Row n code a u w (join f g) q
+  row-join a u v w f g r q h i = record {
+        next = omega (arith, h .next, i .next, sizes-join f g);
+        held = held-join w a f g (held-same-all n code unlinked v w a f (h .held) (λ j b c. i .kept .words j (inl (omega (arith, h .next))))) (rw (h .next) at (i .held));
+        kept = rw (sizes-join f g, ← NatL.add-assoc a (sizes f) (sizes g)) (kept-join a (a + sizes f) (a + sizes f + sizes g) u v w (omega arith) (omega arith) (h .kept) (rw (h .next) at (i .kept)));
+      }
+
+  pub row-one : (a : ℕ) (u v : List ℕ) (t : Tree) (r : ℕ) → Built n code a u v t r → Row n code a u v (cons t nil) r
+  unfolding snoc
+  row-one a u v t r b = row-more a u u v nil t a r (row-none a u) b
 
   -- ---- a node before its row
   held-put : (a x : ℕ) (u v : List ℕ) (f : Trees) (r : ℕ) → Row n code (suc a) u v f r → HeldAll n code unlinked (set v a x) (suc a) f

@@ -1,11 +1,10 @@
 -- Kuhn's tree as the builder goes through it: positions with so many cards to deal or actions to make, and the code of a set. Definitions only; nothing is assumed.
 use mathlib.Core.Path.{_≡_}
-use mathlib.Core.Bool.{Bool, true, false}
+use mathlib.Core.Bool.{cond}
 use mathlib.Core.List.{List, [], _∷_, _++_}
-use Prim.Native.Nat.{ℕ, zero, suc, _+_, _*_, _^_, _≤_, _<_}
+use Prim.Native.Nat.{ℕ, _+_, _*_, _^_, _≤_, _<_}
 use Rattle.finite.specs.Finite.{those}
-use Rattle.game.specs.Tree.{Key, Tree, Trees}
-use Rattle.game.specs.Sets.{size, sizes}
+use Rattle.game.specs.Tree.{Key, Tree, Trees, nil, cons}
 use lib.ListN.{length}
 use Rattle.arena.specs.Words.{END, kindOf, payoffOf}
 use Rattle.kuhn_rules.specs.Rules.{ended, left, payoff}
@@ -42,6 +41,11 @@ unfoldable pub childrenTo : ℕ → KuhnState → ℕ → ℕ → Trees
 unfolding deals
 childrenTo n s k c = each (those c (left n (cardsOf s))) (λ d. deals ante stake n k (cardsOf s ++ (d ∷ [])))
 
+-- the child of card c, if that is left
+unfoldable pub childAt : ℕ → KuhnState → ℕ → ℕ → Trees
+unfolding deals
+childAt n s k c = cond (left n (cardsOf s) c) (cons (deals ante stake n k (cardsOf s ++ (c ∷ []))) nil) nil
+
 -- word x is that of the end that a position is
 abbrev pub Ends : ℕ → KuhnState → ℕ → Type 0
 Ends n s x = (kindOf x ≡ END) × ((i : ℕ) → i < n → payoffOf x i ≡ payoff ante stake n (cardsOf s) (historyOf s) i)
@@ -62,6 +66,8 @@ pub record Dealing (n : ℕ) (s : KuhnState) (k : ℕ) : Type 0 where
   pub most : n ≤ 6
   pub fresh : s .acted ≡ 0
   pub cards : s .dealt + k ≡ n
+  pub places : length (s .history) ≡ 19
+  pub tens : length (s .cards) ≡ 10
 
 -- room for a tree from a place on, and for its last place in a word
 pub record Room (at : ℕ) (w : List ℕ) (z : ℕ) : Type 0 where

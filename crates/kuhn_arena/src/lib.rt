@@ -10,14 +10,17 @@ use kuhn_rules::money::payoffs;
 ghost use mathlib.Core.Path.{_≡_};
 ghost use Prim.Native.Nat.{_+_, _*_, _%_, _<_, _≤_};
 ghost use lib.Dec.{eqb};
-ghost use lib.ListN.{getD};
+ghost use lib.ListN.{length, getD};
+ghost use Rattle.kuhn_rules.specs.Stakes.{ante, stake};
+ghost use Rattle.kuhn_tree.specs.Tree.{kuhnTree};
+ghost use Rattle.kuhn_tree.specs.Counts.{kuhnNodes};
 ghost use Rattle.finite.specs.Finite.{or};
 ghost use Rattle.kuhn_rules.specs.Rules.{ended};
 ghost use Rattle.kuhn_positions.specs.Positions.{historyOf};
 ghost use Rattle.game.specs.Sets.{size, sizes};
 ghost use Rattle.arena.specs.Words.{decisionWord};
 ghost use Rattle.arena.specs.Built.{Built, Row};
-ghost use Rattle.kuhn_arena.specs.Layout.{codeOf, handAt, dealAt, childrenTo, Ends, Playing, Dealing, Room};
+ghost use Rattle.kuhn_arena.specs.Layout.{codeOf, handAt, dealAt, childrenTo, childAt, Ends, Playing, Dealing, Room};
 
 const PASS: usize = 0;
 
@@ -80,4 +83,55 @@ fn is_over(n: usize, state: KuhnState, left: usize) -> bool
     let history = state.history;
     let acted = state.acted;
     is_terminal(&history, acted, n)
+}
+
+// Lays out the tree of a position without actions, with left cards to deal.
+fn deal(w: &mut [u64], at: usize, n: usize, state: KuhnState, left: usize) -> usize
+    requires { ⌜ Dealing n state left ⌝ }
+    requires { ⌜ Room at (now w) (size (dealAt n state left)) ⌝ }
+    ensures { λ r. ⌜ Built n (codeOf n) at (now (w .entry)) (now (w .exit)) (dealAt n state left) r ⌝ }
+{
+    if left == 0 {
+        return hand(w, at, n, state, 0, 2 * n - 1);
+    }
+    let next = children(w, at + 1, n, state, left - 1);
+    put(w, at, chance(next));
+    next
+}
+
+// Lays out the children of a deal, one for each card left, ascending; left cards are to deal after it.
+fn children(w: &mut [u64], at: usize, n: usize, state: KuhnState, left: usize) -> usize
+    requires { ⌜ Dealing n state (left + 1) ⌝ }
+    requires { ⌜ Room at (now w) (sizes (childrenTo n state left (n + 1))) ⌝ }
+    ensures { λ r. ⌜ Row n (codeOf n) at (now (w .entry)) (now (w .exit)) (childrenTo n state left (n + 1)) r ⌝ }
+{
+    let mut next = at;
+    let mut card = 0;
+    while card <= n {
+        next = child(w, next, n, state, left, card);
+        card += 1;
+    }
+    next
+}
+
+// Lays out the child of a card, if that is left.
+fn child(w: &mut [u64], at: usize, n: usize, state: KuhnState, left: usize, card: usize) -> usize
+    requires { ⌜ Dealing n state (left + 1) × (card ≤ n) ⌝ }
+    requires { ⌜ Room at (now w) (sizes (childAt n state left card)) ⌝ }
+    ensures { λ r. ⌜ Row n (codeOf n) at (now (w .entry)) (now (w .exit)) (childAt n state left card) r ⌝ }
+{
+    let cards = state.cards;
+    let dealt = state.dealt;
+    if contains(&cards, dealt, card) {
+        return at;
+    }
+    deal(w, at, n, state.with_card(card), left)
+}
+
+// Lays out Kuhn's tree for n seats from place 0 on; the place behind it.
+pub fn build(w: &mut [u64], n: usize) -> usize
+    requires { ⌜ (2 ≤ n) × (n ≤ 6) × (kuhnNodes n ≤ length (now w)) ⌝ }
+    ensures { λ r. ⌜ Built n (codeOf n) 0 (now (w .entry)) (now (w .exit)) (kuhnTree ante stake n) r ⌝ }
+{
+    deal(w, 0, n, KuhnState::new(), n)
 }
