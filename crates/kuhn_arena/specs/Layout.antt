@@ -11,7 +11,7 @@ use Rattle.kuhn_rules.specs.Rules.{ended, left, payoff}
 use Rattle.kuhn_rules.specs.Stakes.{ante, stake}
 use Rattle.kuhn_positions.specs.declared.KuhnState.{KuhnState}
 use Rattle.kuhn_positions.specs.Positions.{cardsOf, historyOf}
-use Rattle.kuhn_tree.specs.Tree.{each}
+use Rattle.kuhn_tree.specs.Tree.{each, m}
 use Rattle.kuhn_tree.proofs.Shape.{hand, deals}
 
 -- a history as a number, behind a number c: no two histories of passes and bets share one
@@ -25,6 +25,10 @@ unfolding numberFrom
 codeOf n j [] = 0
 codeOf n j (p ∷ []) = 0
 codeOf n j (p ∷ c ∷ h) = numberFrom 0 h * (n + 1) + c
+
+-- how many codes the sets of n seats may have
+abbrev pub codeCount : ℕ → ℕ
+codeCount n = 2 ^ m n * (n + 1)
 
 -- the hand from a position on, of at most so many actions
 unfoldable pub handAt : ℕ → KuhnState → ℕ → Tree

@@ -1,4 +1,6 @@
 // Kuhn's tree, laid out in work memory: the deals, and below each full deal a hand.
+use arena::index::clear;
+use arena::index::index;
 use arena::payoffs::end;
 use arena::words::chance;
 use arena::words::decision;
@@ -20,7 +22,8 @@ ghost use Rattle.kuhn_positions.specs.Positions.{historyOf};
 ghost use Rattle.game.specs.Sets.{size, sizes};
 ghost use Rattle.arena.specs.Words.{decisionWord};
 ghost use Rattle.arena.specs.Built.{Built, Row};
-ghost use Rattle.kuhn_arena.specs.Layout.{codeOf, handAt, dealAt, childrenTo, childAt, Ends, Playing, Dealing, Room};
+ghost use Rattle.arena.specs.Index.{Indexed};
+ghost use Rattle.kuhn_arena.specs.Layout.{codeOf, codeCount, handAt, dealAt, childrenTo, childAt, Ends, Playing, Dealing, Room};
 
 const PASS: usize = 0;
 
@@ -134,4 +137,25 @@ pub fn build(w: &mut [u64], n: usize) -> usize
     ensures { λ r. ⌜ Built n (codeOf n) 0 (now (w .entry)) (now (w .exit)) (kuhnTree ante stake n) r ⌝ }
 {
     deal(w, 0, n, KuhnState::new(), n)
+}
+
+const CODES: [usize; 7] = [0, 0, 24, 128, 640, 3072, 14336];
+
+// How many codes the sets of n seats may have.
+fn codes(n: usize) -> usize
+    requires { ⌜ (2 ≤ n) × (n ≤ 6) ⌝ }
+    ensures { λ r. ⌜ r ≡ codeCount n ⌝ }
+{
+    CODES[n]
+}
+
+// Stores Kuhn's tree for n seats with its index.
+pub fn store(w: &mut [u64], n: usize)
+    requires { ⌜ (2 ≤ n) × (n ≤ 6) × (12 * kuhnNodes n ≤ length (now w)) ⌝ }
+    ensures { λ _. ⌜ Indexed n (kuhnNodes n + codeCount n) (now (w .exit)) (kuhnTree ante stake n) ⌝ }
+{
+    let nodes = build(w, n);
+    let count = codes(n);
+    clear(w, nodes, nodes + 2 * count);
+    index(w, nodes, count);
 }

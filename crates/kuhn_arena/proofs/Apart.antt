@@ -19,7 +19,7 @@ use Rattle.kuhn_rules.specs.Rules.{PASS, BET, ended, turn, key, left, remaining
 use Rattle.kuhn_tree.specs.Tree.{each, m, kuhnTree}
 use Rattle.kuhn_tree.proofs.Cards.{left-of-in}
 use Rattle.kuhn_tree.proofs.Shape.{hand, deals, kuhn-deals}
-use Rattle.kuhn_arena.specs.Layout.{numberFrom, codeOf}
+use Rattle.kuhn_arena.specs.Layout.{numberFrom, codeOf, codeCount}
 
 -- ---- histories of passes and bets, by number
 -- every action is a pass or a bet
@@ -121,10 +121,6 @@ every-map : (P R : ℕ → Key → ℕ → Type 0) → ((j : ℕ) (k : Key) (a :
 every-map P R f t h = each→every R t (each-map P R f _ (every→each P t h))
 
 -- ---- the codes
--- as many as there are
-abbrev pub codeCount : ℕ → ℕ
-codeCount n = 2 ^ m n * (n + 1)
-
 code-is : (n j : ℕ) (k : Key) (a : ℕ) (x : Keyed n j k a) → codeOf n j k ≡ numberFrom 0 (x .history) * (n + 1) + x .card
 unfolding codeOf
 code-is n j k a x = ap (codeOf n j) (x .is)
