@@ -119,8 +119,3 @@ impl Payoffs {
         }
     }
 }
-
-/// The numbers 0 to `most`, then 256, which is 0 if cut to a byte, and the largest.
-pub fn tried(most: u64) -> Vec<u64> {
-    (0..=most).chain([256, u64::MAX]).collect()
-}

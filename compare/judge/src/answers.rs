@@ -1,13 +1,15 @@
-//! `answers GAME`: the judge's answers to the records of standard input, for GAME kuhn or leduc.
+//! `answers GAME`: the judge's answers to the records of standard input, for GAME kuhn or leduc, or `answers listing`.
 
-use judge::{kuhn_lists, leduc_lists};
+use judge::list::answer;
+use judge::{kuhn_lists, leduc_lists, listing_lists};
 use std::{env, io};
 
 fn main() -> io::Result<()> {
     let answer = match env::args().nth(1).as_deref() {
-        Some("kuhn") => kuhn_lists::answer,
-        Some("leduc") => leduc_lists::answer,
-        _ => panic!("usage: answers kuhn, or answers leduc"),
+        Some("kuhn") => answer::<kuhn_lists::Given>,
+        Some("leduc") => answer::<leduc_lists::Given>,
+        Some("listing") => listing_lists::answer,
+        _ => panic!("usage: answers kuhn, answers leduc, or answers listing"),
     };
     for record in io::stdin().lines() {
         print!("{}", answer(&record?));

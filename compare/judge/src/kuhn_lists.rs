@@ -1,14 +1,14 @@
 //! Kuhn's list: the rules calls, then the saved-position check.
 
-use crate::kuhn::{rules_line, saved_line, start_line, Position, ACTIONS, CARDS};
+use crate::kuhn::{Position, ACTIONS, CARDS};
 use crate::kuhn_paper::{all, Hand};
 use crate::line::ROOM;
-use crate::list::{histories, List, Words, FAR};
+use crate::list::{self, changed, histories, List, Words, FAR};
 use crate::random::Random;
+use reinfors_games::kuhn::KuhnPoker;
 
-/// A position as a line gives it: bytes for the first places of each array, and a number that fills the others.
 #[derive(Clone)]
-struct Given {
+pub struct Given {
     seats: u64,
     dealt: u64,
     acted: u64,
@@ -28,6 +28,14 @@ impl Given {
             history: hand.history.clone(),
         }
     }
+}
+
+impl list::Given for Given {
+    type Game = KuhnPoker;
+
+    fn game(words: &[u64]) -> KuhnPoker {
+        KuhnPoker { players: words[0] as usize }
+    }
 
     fn read(record: &mut Words) -> Self {
         Given {
@@ -40,60 +48,18 @@ impl Given {
         }
     }
 
+    fn words(&self) -> Vec<u64> {
+        let heads = [self.seats, self.dealt, self.acted, u64::from(self.fill)];
+        list::words(&heads, &[&self.cards, &self.history])
+    }
+
     fn position(&self) -> Position {
-        let place = |given: &[u8], at: usize, number: usize| match given.get(at) {
-            Some(&byte) => byte,
-            None => self.fill.wrapping_mul(number as u8 + 1),
-        };
         Position {
-            cards: std::array::from_fn(|at| place(&self.cards, at, at)),
+            cards: std::array::from_fn(|at| list::place(&self.cards, at, at, self.fill)),
             dealt: self.dealt,
-            history: std::array::from_fn(|at| place(&self.history, at, CARDS + at)),
+            history: std::array::from_fn(|at| list::place(&self.history, at, CARDS + at, self.fill)),
             acted: self.acted,
         }
-    }
-
-    fn words(&self) -> Vec<u64> {
-        let mut words = vec![self.seats, self.dealt, self.acted, u64::from(self.fill)];
-        for bytes in [&self.cards, &self.history] {
-            words.push(bytes.len() as u64);
-            words.extend(bytes.iter().map(|&byte| u64::from(byte)));
-        }
-        words
-    }
-}
-
-/// The answer to one record of a list.
-pub fn answer(record: &str) -> String {
-    let mut record = Words::new(record);
-    let mut list = List::default();
-    match record.number() {
-        0 => list.kuhn_start(record.number()),
-        code @ (1 | 2) => {
-            let room = record.number();
-            list.kuhn_rules(code == 1, room, &Given::read(&mut record));
-        }
-        code => list.kuhn_saved(code == 3, &Given::read(&mut record)),
-    }
-    list.stdout
-}
-
-impl List {
-    fn kuhn_start(&mut self, seats: u64) {
-        let answer = start_line(seats, self);
-        self.push(&[0, seats], &answer);
-    }
-
-    fn kuhn_rules(&mut self, shown: bool, room: u64, given: &Given) {
-        let answer = rules_line(shown, room, given.seats, given.position(), self);
-        let code = if shown { 1 } else { 2 };
-        self.push(&[vec![code, room], given.words()].concat(), &answer);
-    }
-
-    fn kuhn_saved(&mut self, shown: bool, given: &Given) {
-        let answer = saved_line(shown, given.seats, given.position(), self);
-        let code = if shown { 3 } else { 4 };
-        self.push(&[vec![code], given.words()].concat(), &answer);
     }
 }
 
@@ -111,22 +77,9 @@ fn play(n: usize, random: &mut Random) -> Vec<Hand> {
 
 /// A position with one byte changed, each in turn to several values, then with one length changed.
 fn damaged(given: &Given) -> Vec<Given> {
-    let mut out = Vec::new();
-    let deck = given.seats as u8 + 1;
-    for at in 0..given.cards.len() {
-        for card in (0..=deck).chain([128, 255]).filter(|&card| card != given.cards[at]) {
-            let mut next = given.clone();
-            next.cards[at] = card;
-            out.push(next);
-        }
-    }
-    for at in 0..given.history.len() {
-        for action in [0, 1, 2, 255].into_iter().filter(|&action| action != given.history[at]) {
-            let mut next = given.clone();
-            next.history[at] = action;
-            out.push(next);
-        }
-    }
+    let cards: Vec<u8> = (0..=given.seats as u8 + 1).chain([128, 255]).collect();
+    let mut out = changed(given, |next| &mut next.cards, &cards);
+    out.extend(changed(given, |next| &mut next.history, &[0, 1, 2, 255]));
     out.extend((0..=12).chain(FAR).map(|dealt| Given { dealt, ..given.clone() }));
     out.extend((0..=21).chain(FAR).map(|acted| Given { acted, ..given.clone() }));
     out
@@ -170,14 +123,14 @@ pub fn list(seed: u64) -> List {
 fn rules(seed: u64) -> List {
     let mut random = Random::new(seed);
     let mut list = List::default();
-    (0..=12).chain(FAR).for_each(|seats| list.kuhn_start(seats));
+    (0..=12).chain(FAR).for_each(|seats| list.start::<Given>(&[seats]));
     reachable_positions(&mut list, &mut random);
     random_plays(&mut list, &mut random);
     short_outputs(&mut list, &mut random);
-    wrong_seats(&mut random, |given| list.kuhn_rules(true, WHOLE, given));
-    damaged_positions(1, &mut random, |given| list.kuhn_rules(false, WHOLE, given));
+    wrong_seats(&mut random, |given| list.rules(true, WHOLE, given));
+    damaged_positions(1, &mut random, |given| list.rules(false, WHOLE, given));
     for _ in 0..1000 {
-        list.kuhn_rules(false, WHOLE, &wild(&mut random));
+        list.rules(false, WHOLE, &wild(&mut random));
     }
     list
 }
@@ -187,18 +140,18 @@ fn saved(seed: u64) -> List {
     let mut random = Random::new(seed);
     let mut list = List::default();
     for n in 2..=3 {
-        all(n).iter().for_each(|hand| list.kuhn_saved(true, &Given::new(n, hand, random.pick(&[0, 7]))));
+        all(n).iter().for_each(|hand| list.saved(true, &Given::new(n, hand, random.pick(&[0, 7]))));
     }
     for n in 4..=10 {
         for hand in (0..6).flat_map(|_| play(n, &mut random)).collect::<Vec<_>>() {
-            list.kuhn_saved(true, &Given::new(n, &hand, random.pick(&[0, 7])));
+            list.saved(true, &Given::new(n, &hand, random.pick(&[0, 7])));
         }
     }
     every_history(&mut list, &mut random);
-    wrong_seats(&mut random, |given| list.kuhn_saved(true, given));
-    damaged_positions(2, &mut random, |given| list.kuhn_saved(true, given));
+    wrong_seats(&mut random, |given| list.saved(true, given));
+    damaged_positions(2, &mut random, |given| list.saved(true, given));
     for _ in 0..4000 {
-        list.kuhn_saved(true, &wild(&mut random));
+        list.saved(true, &wild(&mut random));
     }
     list
 }
@@ -208,7 +161,7 @@ fn reachable_positions(list: &mut List, random: &mut Random) {
     for n in 2..=4 {
         for (at, hand) in all(n).iter().enumerate() {
             let fill = random.pick(&[0, 7]);
-            list.kuhn_rules(n < 4 || at % 64 == 0, WHOLE, &Given::new(n, hand, fill));
+            list.rules(n < 4 || at % 64 == 0, WHOLE, &Given::new(n, hand, fill));
         }
     }
 }
@@ -219,7 +172,7 @@ fn random_plays(list: &mut List, random: &mut Random) {
         for turn in 0..25 {
             for hand in play(n, random) {
                 let fill = random.pick(&[0, 7]);
-                list.kuhn_rules(turn == 0, WHOLE, &Given::new(n, &hand, fill));
+                list.rules(turn == 0, WHOLE, &Given::new(n, &hand, fill));
             }
         }
     }
@@ -232,7 +185,7 @@ fn short_outputs(list: &mut List, random: &mut Random) {
         let hands = if n == 2 { small.clone() } else { some_hands(n, 2, random) };
         for hand in hands {
             for room in 0..=hand.history.len() as u64 + 2 {
-                list.kuhn_rules(n == 2, room, &Given::new(n, &hand, 7));
+                list.rules(n == 2, room, &Given::new(n, &hand, 7));
             }
         }
     }
@@ -267,7 +220,7 @@ fn every_history(list: &mut List, random: &mut Random) {
         for (at, deal) in deals.iter().enumerate() {
             for history in histories(if at == 0 { 3 } else { 2 }, 6) {
                 let hand = Hand { cards: deal.cards.clone(), history };
-                list.kuhn_saved(true, &Given::new(n, &hand, random.pick(&[0, 1])));
+                list.saved(true, &Given::new(n, &hand, random.pick(&[0, 1])));
             }
         }
     }

@@ -1,16 +1,16 @@
 //! Leduc's list: the rules calls, then the saved-position check.
 
-use crate::leduc::{number_of_public, rules_line, saved_line, start_line, Position, CARDS, HALF};
+use crate::leduc::{number_of_public, Position, CARDS, HALF};
 use crate::leduc_paper::{all, Hand};
 use crate::line::ROOM;
-use crate::list::{histories, List, Words, FAR};
+use crate::list::{self, changed, histories, List, Words, FAR};
 use crate::random::Random;
+use reinfors_games::leduc::LeducPoker;
 
 const WHOLE: u64 = ROOM as u64;
 
-/// A position as a line gives it: bytes for the first places of each array, and a number that fills the others.
 #[derive(Clone)]
-struct Given {
+pub struct Given {
     dealt: u64,
     public: Option<u8>,
     acted: [u64; 2],
@@ -30,6 +30,14 @@ impl Given {
             rounds: hand.rounds.clone(),
         }
     }
+}
+
+impl list::Given for Given {
+    type Game = LeducPoker;
+
+    fn game(_: &[u64]) -> LeducPoker {
+        LeducPoker
+    }
 
     fn read(record: &mut Words) -> Self {
         Given {
@@ -42,83 +50,29 @@ impl Given {
         }
     }
 
+    fn words(&self) -> Vec<u64> {
+        let [first, second] = self.acted;
+        let heads = [self.dealt, number_of_public(self.public), first, second, u64::from(self.fill)];
+        list::words(&heads, &[&self.cards, &self.rounds[0], &self.rounds[1]])
+    }
+
     fn position(&self) -> Position {
-        let place = |given: &[u8], at: usize, number: usize| match given.get(at) {
-            Some(&byte) => byte,
-            None => self.fill.wrapping_mul(number as u8 + 1),
-        };
+        let action = |at: usize| list::place(&self.rounds[at / HALF], at % HALF, CARDS + at, self.fill);
         Position {
-            cards: std::array::from_fn(|at| place(&self.cards, at, at)),
+            cards: std::array::from_fn(|at| list::place(&self.cards, at, at, self.fill)),
             dealt: self.dealt,
             public: self.public,
-            history: std::array::from_fn(|at| place(&self.rounds[at / HALF], at % HALF, CARDS + at)),
+            history: std::array::from_fn(action),
             acted: self.acted,
         }
-    }
-
-    fn words(&self) -> Vec<u64> {
-        let mut words =
-            vec![self.dealt, number_of_public(self.public), self.acted[0], self.acted[1], u64::from(self.fill)];
-        for bytes in [&self.cards, &self.rounds[0], &self.rounds[1]] {
-            words.push(bytes.len() as u64);
-            words.extend(bytes.iter().map(|&byte| u64::from(byte)));
-        }
-        words
-    }
-}
-
-/// The answer to one record of a list.
-pub fn answer(record: &str) -> String {
-    let mut record = Words::new(record);
-    let mut list = List::default();
-    match record.number() {
-        0 => list.leduc_start(),
-        code @ (1 | 2) => {
-            let room = record.number();
-            list.leduc_rules(code == 1, room, &Given::read(&mut record));
-        }
-        code => list.leduc_saved(code == 3, &Given::read(&mut record)),
-    }
-    list.stdout
-}
-
-impl List {
-    fn leduc_start(&mut self) {
-        let answer = start_line(self);
-        self.push(&[0], &answer);
-    }
-
-    fn leduc_rules(&mut self, shown: bool, room: u64, given: &Given) {
-        let answer = rules_line(shown, room, given.position(), self);
-        let code = if shown { 1 } else { 2 };
-        self.push(&[vec![code, room], given.words()].concat(), &answer);
-    }
-
-    fn leduc_saved(&mut self, shown: bool, given: &Given) {
-        let answer = saved_line(shown, given.position(), self);
-        let code = if shown { 3 } else { 4 };
-        self.push(&[vec![code], given.words()].concat(), &answer);
     }
 }
 
 /// A position with one byte changed, each in turn to several values, then with the public card or one length changed.
 fn damaged(given: &Given) -> Vec<Given> {
-    let mut out = Vec::new();
-    for at in 0..given.cards.len() {
-        for card in (0..=7).chain([128, 255]).filter(|&card| card != given.cards[at]) {
-            let mut next = given.clone();
-            next.cards[at] = card;
-            out.push(next);
-        }
-    }
+    let mut out = changed(given, |next| &mut next.cards, &[0, 1, 2, 3, 4, 5, 6, 7, 128, 255]);
     for round in 0..2 {
-        for at in 0..given.rounds[round].len() {
-            for action in [0, 1, 2, 3, 255].into_iter().filter(|&action| action != given.rounds[round][at]) {
-                let mut next = given.clone();
-                next.rounds[round][at] = action;
-                out.push(next);
-            }
-        }
+        out.extend(changed(given, |next| &mut next.rounds[round], &[0, 1, 2, 3, 255]));
         for acted in (0..=9).chain(FAR) {
             let mut next = given.clone();
             next.acted[round] = acted;
@@ -159,25 +113,25 @@ pub fn list(seed: u64) -> List {
 fn rules(seed: u64) -> List {
     let mut random = Random::new(seed);
     let mut list = List::default();
-    list.leduc_start();
+    list.start::<Given>(&[]);
     let hands = all();
     for (at, hand) in hands.iter().enumerate() {
-        list.leduc_rules(at % 32 == 0, WHOLE, &Given::new(hand, random.pick(&[0, 7])));
+        list.rules(at % 32 == 0, WHOLE, &Given::new(hand, random.pick(&[0, 7])));
     }
     for _ in 0..40 {
         let hand = &hands[random.below(hands.len())];
         for room in 0..=13 {
-            list.leduc_rules(room % 4 == 1, room, &Given::new(hand, 7));
+            list.rules(room % 4 == 1, room, &Given::new(hand, 7));
         }
     }
     for _ in 0..8 {
         let hand = &hands[random.below(hands.len())];
         for fill in [0, 7] {
-            damaged(&Given::new(hand, fill)).iter().for_each(|given| list.leduc_rules(false, WHOLE, given));
+            damaged(&Given::new(hand, fill)).iter().for_each(|given| list.rules(false, WHOLE, given));
         }
     }
     for _ in 0..1000 {
-        list.leduc_rules(false, WHOLE, &wild(&mut random));
+        list.rules(false, WHOLE, &wild(&mut random));
     }
     list
 }
@@ -188,21 +142,21 @@ fn saved(seed: u64) -> List {
     let mut list = List::default();
     let hands = all();
     for hand in hands.iter().filter(|hand| hand.cards.len() < 2) {
-        list.leduc_saved(true, &Given::new(hand, 7));
+        list.saved(true, &Given::new(hand, 7));
     }
     for _ in 0..1500 {
         let hand = &hands[random.below(hands.len())];
-        list.leduc_saved(true, &Given::new(hand, random.pick(&[0, 7])));
+        list.saved(true, &Given::new(hand, random.pick(&[0, 7])));
     }
     every_history(&mut list, &mut random);
     for _ in 0..16 {
         let hand = &hands[random.below(hands.len())];
         for fill in [0, 7] {
-            damaged(&Given::new(hand, fill)).iter().for_each(|given| list.leduc_saved(true, given));
+            damaged(&Given::new(hand, fill)).iter().for_each(|given| list.saved(true, given));
         }
     }
     for _ in 0..3000 {
-        list.leduc_saved(true, &wild(&mut random));
+        list.saved(true, &wild(&mut random));
     }
     list
 }
@@ -216,7 +170,7 @@ fn every_history(list: &mut List, random: &mut Random) {
                 if at < 2 || random.below(16) == 0 {
                     let rounds = [first.clone(), second.clone()];
                     let hand = Hand { cards: cards.to_vec(), public: Some(public), rounds };
-                    list.leduc_saved(at != 1, &Given::new(&hand, random.pick(&[0, 1])));
+                    list.saved(at != 1, &Given::new(&hand, random.pick(&[0, 1])));
                 }
             }
         }

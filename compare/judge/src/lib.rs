@@ -2,6 +2,7 @@
 //! It writes the lists that the proved programs replay. README.md has their format.
 
 pub mod answer;
+pub mod calls;
 pub mod kuhn;
 pub mod kuhn_lists;
 pub mod kuhn_paper;
@@ -10,6 +11,8 @@ pub mod leduc_lists;
 pub mod leduc_paper;
 pub mod line;
 pub mod list;
+pub mod listing;
+pub mod listing_lists;
 pub mod random;
 
 use reinfors_core::reward::Reward;

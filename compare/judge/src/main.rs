@@ -1,6 +1,6 @@
-//! `lists SEED FOLDER`: writes FOLDER/NAME/stdin and stdout for each replay program NAME.
+//! `lists SEED FOLDER`: writes stdin and stdout of each replay program NAME, to FOLDER/NAME if there is such a program.
 
-use judge::{kuhn_lists, leduc_lists};
+use judge::{kuhn_lists, leduc_lists, listing_lists};
 use std::path::Path;
 use std::{env, io};
 
@@ -8,6 +8,8 @@ use std::{env, io};
 const KUHN: [usize; 11] = [0, 2, 9, 10, 11, 12, 13, 14, 18, 19, 20];
 /// The numbers that Leduc's calls give.
 const LEDUC: [usize; 13] = [0, 9, 10, 11, 12, 13, 14, 15, 16, 17, 18, 19, 20];
+/// The numbers that the listing gives.
+const LISTING: [usize; 6] = [0, 1, 2, 3, 4, 9];
 
 fn main() -> io::Result<()> {
     let arguments: Vec<String> = env::args().collect();
@@ -15,5 +17,6 @@ fn main() -> io::Result<()> {
     let seed = seed.parse().expect("the seed is a number");
     let folder = Path::new(folder);
     kuhn_lists::list(seed).write(folder, "kuhn_replay", &KUHN)?;
-    leduc_lists::list(seed).write(folder, "leduc_replay", &LEDUC)
+    leduc_lists::list(seed).write(folder, "leduc_replay", &LEDUC)?;
+    listing_lists::list(seed).write(folder, "listing_replay", &LISTING)
 }

@@ -1,7 +1,7 @@
 //! The lists themselves: what the paper's moves reach, and that the committed files are what the seed makes.
 
-use judge::list::List;
-use judge::{kuhn_lists, kuhn_paper, leduc_lists, leduc_paper};
+use judge::list::{answer, home, List};
+use judge::{kuhn_lists, kuhn_paper, leduc_lists, leduc_paper, listing_lists};
 use reinfors_core::game::{Actor, Game};
 use reinfors_games::leduc::{LeducPoker, LeducState};
 use std::collections::HashSet;
@@ -63,22 +63,20 @@ fn the_papers_moves_are_the_rusts() {
     }
 }
 
+/// The stdin or the stdout of a program's list.
 fn committed(program: &str, file: &str) -> String {
-    let path = Path::new(env!("CARGO_MANIFEST_DIR")).join("../../crates").join(program).join(file);
+    let path = home(&Path::new(env!("CARGO_MANIFEST_DIR")).join("../../crates"), program).join(file);
     fs::read_to_string(&path).unwrap_or_else(|e| panic!("{}: {e}", path.display()))
-}
-
-/// The programs that crates.txt lists.
-fn is_listed(program: &str) -> bool {
-    let path = Path::new(env!("CARGO_MANIFEST_DIR")).join("../../crates.txt");
-    let listed = fs::read_to_string(path).expect("the repository has a crates.txt");
-    listed.lines().any(|line| line.split(':').next() == Some(program))
 }
 
 #[test]
 fn committed_lists_are_the_seeds() {
-    let lists = [("kuhn_replay", kuhn_lists::list(judge::SEED)), ("leduc_replay", leduc_lists::list(judge::SEED))];
-    for (program, list) in lists.into_iter().filter(|(program, _)| is_listed(program)) {
+    let lists = [
+        ("kuhn_replay", kuhn_lists::list(judge::SEED)),
+        ("leduc_replay", leduc_lists::list(judge::SEED)),
+        ("listing_replay", listing_lists::list(judge::SEED)),
+    ];
+    for (program, list) in lists {
         assert!(list.stdin == committed(program, "stdin"), "{program}: stdin is another list");
         assert!(list.stdout == committed(program, "stdout"), "{program}: stdout has other answers");
     }
@@ -89,6 +87,8 @@ fn committed_lists_are_the_seeds() {
 fn records_can_be_answered_alone() {
     let answered = |list: &List, answer: fn(&str) -> String| list.stdin.lines().map(answer).collect::<String>();
     let (kuhn, leduc) = (kuhn_lists::list(judge::SEED), leduc_lists::list(judge::SEED));
-    assert!(answered(&kuhn, kuhn_lists::answer) == kuhn.stdout);
-    assert!(answered(&leduc, leduc_lists::answer) == leduc.stdout);
+    assert!(answered(&kuhn, answer::<kuhn_lists::Given>) == kuhn.stdout);
+    assert!(answered(&leduc, answer::<leduc_lists::Given>) == leduc.stdout);
+    let listing = listing_lists::list(judge::SEED);
+    assert!(answered(&listing, listing_lists::answer) == listing.stdout);
 }

@@ -1,8 +1,8 @@
-//! The unchanged Rust on document 01's counts and cases, and where the two differ.
+//! The unchanged Rust on document 01's cases, and where the two differ.
 
 use judge::{whole, EventNumber};
 use reinfors_core::best_response::{best_response_values, enumerate_infosets, nash_conv, profile_values};
-use reinfors_core::game::{Actor, Game};
+use reinfors_core::game::Game;
 use reinfors_core::StateCodec;
 use reinfors_games::kuhn::{KuhnPoker, KuhnState};
 use reinfors_games::leduc::{LeducPoker, LeducState};
@@ -17,26 +17,6 @@ fn kuhn(cards: &[u8], history: &[u8]) -> KuhnState {
 
 fn leduc(cards: &[u8], public: Option<u8>, first: &[u8], second: &[u8]) -> LeducState {
     LeducState { cards: cards.to_vec(), public, history: [first.to_vec(), second.to_vec()] }
-}
-
-/// The nodes below a position, itself included, by every legal move.
-fn nodes<G: Game>(game: &G, state: &G::State, ended: bool) -> usize {
-    if ended {
-        return 1;
-    }
-    let below: usize = match game.actor(state) {
-        Actor::Chance => {
-            let fan = game.chance_node(state).enumerable_count().expect("the deal can be enumerated");
-            (0..fan).map(|outcome| nodes(game, &game.apply_chance_node(state, outcome).next_state, false)).sum()
-        }
-        Actor::Agent(seat) => {
-            let moved = |action| game.step(state, &vec![action; game.num_agents()]);
-            let legal = game.legal_actions(state, seat);
-            legal.into_iter().map(moved).map(|next| nodes(game, &next.next_state, next.terminal)).sum()
-        }
-        Actor::Simultaneous => unreachable!("both games are sequential"),
-    };
-    below + 1
 }
 
 /// The payoffs of the step that makes the last action of a history.
@@ -55,22 +35,11 @@ fn leduc_payoffs(cards: &[u8], public: u8, first: &[u8], second: &[u8]) -> Vec<i
 }
 
 #[test]
-fn trees_have_document_01s_counts() {
-    for (players, count, sets) in [(2, 58, 12), (3, 617, 48), (4, 7_886, 160), (5, 116_437, 480)] {
-        let game = KuhnPoker { players };
-        assert_eq!(nodes(&game, &game.initial_state(), false), count);
-        assert_eq!(enumerate_infosets(&game).expect("a small tree").len(), sets);
-    }
-    assert_eq!(nodes(&LeducPoker, &LeducPoker.initial_state(), false), 9_457);
-    assert_eq!(enumerate_infosets(&LeducPoker).expect("a small tree").len(), 936);
-}
-
-#[test]
 fn cases_a_to_d() {
     assert_eq!(kuhn_payoffs(&[0, 1], &[0, 0]), [-1, 1]);
     assert_eq!(kuhn_payoffs(&[0, 1], &[1, 0]), [1, -1]);
     assert_eq!(kuhn_payoffs(&[2, 0], &[0, 1, 1]), [2, -2]);
-    assert_eq!(judge::kuhn::validate(2, &saved_pass_pass_bet(), 1), 14);
+    assert_eq!(judge::calls::validate(&KUHN_2, &saved_pass_pass_bet(), 1), 14);
 }
 
 fn saved_pass_pass_bet() -> judge::kuhn::Position {

@@ -11,7 +11,7 @@ ghost use mathlib.Core.Path.{_≡_};
 ghost use Prim.Native.Nat.{_≤_, _<_};
 ghost use lib.ListN.{length, take};
 ghost use Rattle.kuhn_positions.specs.Positions.{position-checks};
-ghost use Rattle.kuhn.specs.Calls.{start-refusal, started, dealt, step-refusal, stepped, legal-of, listed, key-of, keyed, written, payoff-refusal, paid, checked};
+ghost use Rattle.kuhn.specs.Calls.{start-refusal, started, deal-refusal, dealt, step-refusal, stepped, legal-of, legal-refusal, listed, key-of, key-refusal, keyed, written, payoff-refusal, paid, checked};
 ghost use Rattle.refusals.specs.Refusals.{first};
 
 // The game: how many seats play.
@@ -108,31 +108,36 @@ impl KuhnPoker {
     pub fn apply_chance_node(self, state: KuhnState, outcome: usize) -> Moved
         ensures { λ r. ⌜ r ≡ dealt self state outcome ⌝ }
     {
-        let refusal = position_refusal(self.players, state);
+        let refusal = self.deal_refusal(state, outcome);
         if refusal != refusals::ACCEPTED {
             return Moved { refusal, state };
+        }
+        let cards = state.cards;
+        let card = kuhn_rules::cards::nth_remaining(&cards, state.dealt, self.players, outcome);
+        let next = state.with_card(card);
+        Moved {
+            refusal,
+            state: next,
+        }
+    }
+
+    fn deal_refusal(self, state: KuhnState, outcome: usize) -> u64
+        ensures { λ r. ⌜ r ≡ deal-refusal self state outcome ⌝ }
+    {
+        let refusal = position_refusal(self.players, state);
+        if refusal != refusals::ACCEPTED {
+            return refusal;
         }
         let n = self.players;
         let dealt = state.dealt;
         if n <= dealt {
-            return Moved {
-                refusal: refusals::UNFIT,
-                state,
-            };
+            return refusals::UNFIT;
         }
         let cards = state.cards;
-        let card = kuhn_rules::cards::nth_remaining(&cards, dealt, n, outcome);
-        if n < card {
-            return Moved {
-                refusal: refusals::UNFIT,
-                state,
-            };
+        if n < kuhn_rules::cards::nth_remaining(&cards, dealt, n, outcome) {
+            return refusals::UNFIT;
         }
-        let next = state.with_card(card);
-        Moved {
-            refusal: refusals::ACCEPTED,
-            state: next,
-        }
+        refusals::ACCEPTED
     }
 
     // Legal list: what a seat may do, written to out; nothing while it is not its turn.
@@ -140,7 +145,7 @@ impl KuhnPoker {
         ensures answer { λ r. ⌜ r ≡ listed self state agent (length (now (out .entry))) ⌝ }
         ensures output { λ r. ⌜ now (out .exit) ≡ written (r .refusal) (legal-of self state agent) (now (out .entry)) ⌝ }
     {
-        let refusal = position_refusal(self.players, state);
+        let refusal = self.legal_refusal(state, agent, out.len());
         if refusal != refusals::ACCEPTED {
             return Written {
                 refusal,
@@ -150,13 +155,6 @@ impl KuhnPoker {
         }
         let legal = self.legal(state, agent);
         let count = legal.count;
-        if out.len() < count {
-            return Written {
-                refusal: refusals::OUTPUT,
-                state,
-                count: 0,
-            };
-        }
         let actions = legal.actions;
         finite::copy_at(out, 0, &actions, count);
         Written {
@@ -164,6 +162,20 @@ impl KuhnPoker {
             state,
             count,
         }
+    }
+
+    fn legal_refusal(self, state: KuhnState, agent: usize, room: usize) -> u64
+        ensures { λ r. ⌜ r ≡ legal-refusal self state agent room ⌝ }
+    {
+        let refusal = position_refusal(self.players, state);
+        if refusal != refusals::ACCEPTED {
+            return refusal;
+        }
+        let legal = self.legal(state, agent);
+        if room < legal.count {
+            return refusals::OUTPUT;
+        }
+        refusals::ACCEPTED
     }
 
     // What a seat may do, by value.
@@ -188,7 +200,7 @@ impl KuhnPoker {
         ensures answer { λ r. ⌜ r ≡ keyed self state agent (length (now (out .entry))) ⌝ }
         ensures output { λ r. ⌜ now (out .exit) ≡ written (r .refusal) (key-of state agent) (now (out .entry)) ⌝ }
     {
-        let refusal = position_refusal(self.players, state);
+        let refusal = self.key_refusal(state, agent, out.len());
         if refusal != refusals::ACCEPTED {
             return Written {
                 refusal,
@@ -196,23 +208,7 @@ impl KuhnPoker {
                 count: 0,
             };
         }
-        let dealt = state.dealt;
-        if dealt <= agent {
-            return Written {
-                refusal: refusals::UNFIT,
-                state,
-                count: 0,
-            };
-        }
         let acted = state.acted;
-        let count = 2 + acted;
-        if out.len() < count {
-            return Written {
-                refusal: refusals::OUTPUT,
-                state,
-                count: 0,
-            };
-        }
         let cards = state.cards;
         let history = state.history;
         out[0] = agent as u8;
@@ -221,8 +217,24 @@ impl KuhnPoker {
         Written {
             refusal,
             state,
-            count,
+            count: 2 + acted,
         }
+    }
+
+    fn key_refusal(self, state: KuhnState, agent: usize, room: usize) -> u64
+        ensures { λ r. ⌜ r ≡ key-refusal self state agent room ⌝ }
+    {
+        let refusal = position_refusal(self.players, state);
+        if refusal != refusals::ACCEPTED {
+            return refusal;
+        }
+        if state.dealt <= agent {
+            return refusals::UNFIT;
+        }
+        if room < 2 + state.acted {
+            return refusals::OUTPUT;
+        }
+        refusals::ACCEPTED
     }
 
     // Payoff: what each seat gains or loses at the end of the hand.
