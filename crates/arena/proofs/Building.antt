@@ -92,10 +92,10 @@ module _ (n : ℕ) (code : ℕ → Key → ℕ) where
 
   pub row-more : (a : ℕ) (u v w : List ℕ) (f : Trees) (t : Tree) (r q : ℕ) → Row n code a u v f r → Built n code r v w t q → Row n code a u w (snoc f t) q
   row-more a u v w f t r q h g = record {
-        next = omega (arith, h .next, g .next, sizes-snoc f t);
-        held = held-snoc w a f t (held-same-all n code unlinked v w a f (h .held) (λ i b c. g .kept .words i (inl (omega (arith, h .next))))) (rw (h .next) at (g .held));
-        kept = rw (sizes-snoc f t, ← NatL.add-assoc a (sizes f) (size t)) (kept-join a (a + sizes f) (a + sizes f + size t) u v w (omega arith) (omega arith) (h .kept) (rw (h .next) at (g .kept)));
-      }
+    next = omega (arith, h .next, g .next, sizes-snoc f t);
+    held = held-snoc w a f t (held-same-all n code unlinked v w a f (h .held) (λ i b c. g .kept .words i (inl (omega (arith, h .next))))) (rw (h .next) at (g .held));
+    kept = rw (sizes-snoc f t, ← NatL.add-assoc a (sizes f) (size t)) (kept-join a (a + sizes f) (a + sizes f + size t) u v w (omega arith) (omega arith) (h .kept) (rw (h .next) at (g .kept)));
+  }
 
   held-join : (w : List ℕ) (a : ℕ) (f g : Trees) → HeldAll n code unlinked w a f → HeldAll n code unlinked w (a + sizes f) g → HeldAll n code unlinked w a (join f g)
   unfolding Held join size
@@ -104,10 +104,10 @@ module _ (n : ℕ) (code : ℕ → Key → ℕ) where
 
   pub row-join : (a : ℕ) (u v w : List ℕ) (f g : Trees) (r q : ℕ) → Row n code a u v f r → Row n code r v w g q → Row n code a u w (join f g) q
   row-join a u v w f g r q h i = record {
-        next = omega (arith, h .next, i .next, sizes-join f g);
-        held = held-join w a f g (held-same-all n code unlinked v w a f (h .held) (λ j b c. i .kept .words j (inl (omega (arith, h .next))))) (rw (h .next) at (i .held));
-        kept = rw (sizes-join f g, ← NatL.add-assoc a (sizes f) (sizes g)) (kept-join a (a + sizes f) (a + sizes f + sizes g) u v w (omega arith) (omega arith) (h .kept) (rw (h .next) at (i .kept)));
-      }
+    next = omega (arith, h .next, i .next, sizes-join f g);
+    held = held-join w a f g (held-same-all n code unlinked v w a f (h .held) (λ j b c. i .kept .words j (inl (omega (arith, h .next))))) (rw (h .next) at (i .held));
+    kept = rw (sizes-join f g, ← NatL.add-assoc a (sizes f) (sizes g)) (kept-join a (a + sizes f) (a + sizes f + sizes g) u v w (omega arith) (omega arith) (h .kept) (rw (h .next) at (i .kept)));
+  }
 
   pub row-one : (a : ℕ) (u v : List ℕ) (t : Tree) (r : ℕ) → Built n code a u v t r → Row n code a u v (cons t nil) r
   unfolding snoc
@@ -134,24 +134,24 @@ module _ (n : ℕ) (code : ℕ → Key → ℕ) where
   pub built-chance : (a x : ℕ) (u v w : List ℕ) (f : Trees) (r : ℕ) → Row n code (suc a) u v f r → a < length u → w ≡ set v a x → Says n code unlinked x a (chance f) → Built n code a u w (chance f) r
   unfolding Held size
   built-chance a x u v w f r h g e s = rw e (record {
-        next = omega (arith, h .next);
-        held = (subst (λ y. Says n code unlinked y a (chance f)) (sym (getD-set-same v a x 0 (room a u v f r h g))) s, held-put a x u v f r h);
-        kept = kept-put a x u v f r h;
-      })
+    next = omega (arith, h .next);
+    held = (subst (λ y. Says n code unlinked y a (chance f)) (sym (getD-set-same v a x 0 (room a u v f r h g))) s, held-put a x u v f r h);
+    kept = kept-put a x u v f r h;
+  })
 
   pub built-decide : (a x : ℕ) (u v w : List ℕ) (j : ℕ) (k : Key) (f : Trees) (r : ℕ) → Row n code (suc a) u v f r → a < length u → w ≡ set v a x → Says n code unlinked x a (decide j k f)
       → Built n code a u w (decide j k f) r
   unfolding Held size
   built-decide a x u v w j k f r h g e s = rw e (record {
-        next = omega (arith, h .next);
-        held = (subst (λ y. Says n code unlinked y a (decide j k f)) (sym (getD-set-same v a x 0 (room a u v f r h g))) s, held-put a x u v f r h);
-        kept = kept-put a x u v f r h;
-      })
+    next = omega (arith, h .next);
+    held = (subst (λ y. Says n code unlinked y a (decide j k f)) (sym (getD-set-same v a x 0 (room a u v f r h g))) s, held-put a x u v f r h);
+    kept = kept-put a x u v f r h;
+  })
 
   pub built-end : (a x : ℕ) (u w : List ℕ) (p : _) → a < length u → w ≡ set u a x → Says n code unlinked x a (end p) → Built n code a u w (end p) (a + 1)
   unfolding Held size
   built-end a x u w p g e s = rw e (record {
-        next = refl;
-        held = subst (λ y. Says n code unlinked y a (end p)) (sym (getD-set-same u a x 0 g)) s;
-        kept = rw (NatL.add-suc a 0 ∙ ap suc (NatL.add-zero a)) (kept-set a u x);
-      })
+    next = refl;
+    held = subst (λ y. Says n code unlinked y a (end p)) (sym (getD-set-same u a x 0 g)) s;
+    kept = rw (NatL.add-suc a 0 ∙ ap suc (NatL.add-zero a)) (kept-set a u x);
+  })

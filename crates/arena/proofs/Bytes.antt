@@ -38,9 +38,11 @@ lifted-fits x h = rw (bits-of x h) (let (r, e, l) = lifted x h in rw e (record {
 
 -- the sum as a number
 pub raised : (x : ℤ) → natAbs x ≤ 100 → (r : ℕ) × (bits (bits x +ℤ pos 128) ≡ pos r) × Byte x r
-raised x h = let (r, e, l) = lifted x h in
-    (r, toZ-ofZ w64 (bits x +ℤ pos 128) (lifted-fits x h) ∙ ap (λ y. y +ℤ pos 128) (bits-of x h) ∙ e,
-    record { small = l; stands = ap (λ z. z -ℤ pos 128) (sym e) ∙ +ℤ-negℤ-cancel x (pos 128) })
+raised x h = let (r, e, l) = lifted x h in (
+  r,
+  toZ-ofZ w64 (bits x +ℤ pos 128) (lifted-fits x h) ∙ ap (λ y. y +ℤ pos 128) (bits-of x h) ∙ e,
+  record { small = l; stands = ap (λ z. z -ℤ pos 128) (sym e) ∙ +ℤ-negℤ-cancel x (pos 128) },
+)
 
 pub raised-casts : (x : ℤ) → natAbs x ≤ 100 → T (nonNeg (bits (bits x +ℤ pos 128))) × Fits w64 (natAbs (bits (bits x +ℤ pos 128)))
 raised-casts x h = let (r, e, b) = raised x h in rw e (tt, record { fits = omega (arith, b .small) })

@@ -19,7 +19,12 @@ pub fn end(a: i64, b: i64, c: i64, d: i64, e: i64, f: i64) -> u64
     requires { ⌜ (natAbs a ≤ 100) × (natAbs b ≤ 100) × (natAbs c ≤ 100) × (natAbs d ≤ 100) × (natAbs e ≤ 100) × (natAbs f ≤ 100) ⌝ }
     ensures { λ r. ⌜ Pays (a ∷ b ∷ c ∷ d ∷ e ∷ f ∷ []) r ⌝ }
 {
-    4 * byte(a) + 1024 * byte(b) + 262144 * byte(c) + 67108864 * byte(d) + 17179869184 * byte(e) + 4398046511104 * byte(f)
+    4 * byte(a)
+        + 1024 * byte(b)
+        + 262144 * byte(c)
+        + 67108864 * byte(d)
+        + 17179869184 * byte(e)
+        + 4398046511104 * byte(f)
 }
 
 // The payoff of a seat at an end.

@@ -90,9 +90,13 @@ module _ (ante stake n : ℕ) where
   unfolding hand Every
   hand-keyed cs d zero b h p l = tt
   hand-keyed cs d (suc r) true h p l = tt
-  hand-keyed cs d (suc r) false h p l = (record { card = getD cs (turn n h) 0; history = h; seat = refl; is = refl; deck = d (turn n h); bits = p; few = omega arith },
-      (hand-keyed cs d r (ended n (h ++ (PASS ∷ []))) (h ++ (PASS ∷ [])) (bits-more h PASS p (omega arith)) (omega (arith, length-append h (PASS ∷ []))),
-      (hand-keyed cs d r (ended n (h ++ (BET ∷ []))) (h ++ (BET ∷ [])) (bits-more h BET p (omega arith)) (omega (arith, length-append h (BET ∷ []))), tt)))
+  hand-keyed cs d (suc r) false h p l = (
+    record { card = getD cs (turn n h) 0; history = h; seat = refl; is = refl; deck = d (turn n h); bits = p; few = omega arith },
+    (
+      hand-keyed cs d r (ended n (h ++ (PASS ∷ []))) (h ++ (PASS ∷ [])) (bits-more h PASS p (omega arith)) (omega (arith, length-append h (PASS ∷ []))),
+      (hand-keyed cs d r (ended n (h ++ (BET ∷ []))) (h ++ (BET ∷ [])) (bits-more h BET p (omega arith)) (omega (arith, length-append h (BET ∷ []))), tt),
+    ),
+  )
 
   each-keyed : (l : List ℕ) (g : ℕ → Tree) → ((c : ℕ) → In c l → Every (Keyed n) (g c)) → EveryAll (Keyed n) (each l g)
   unfolding each Every In
@@ -149,7 +153,7 @@ code-tells n j k a i l b x y e =
 
 pub kuhn-codes : (ante stake n : ℕ) → Codes (codeOf n) (codeCount n) (kuhnTree ante stake n)
 kuhn-codes ante stake n = record {
-      inside = every-map (Keyed n) (λ j k a. codeOf n j k < codeCount n) (code-few n) (kuhnTree ante stake n) (kuhn-keyed ante stake n);
-      apart = every-map (Keyed n) (λ j k a. Every (λ i l b. codeOf n j k ≡ codeOf n i l → (j ≡ i) × (k ≡ l)) (kuhnTree ante stake n))
-          (λ j k a x. every-map (Keyed n) (λ i l b. codeOf n j k ≡ codeOf n i l → (j ≡ i) × (k ≡ l)) (λ i l b y. code-tells n j k a i l b x y) (kuhnTree ante stake n) (kuhn-keyed ante stake n)) (kuhnTree ante stake n) (kuhn-keyed ante stake n);
-    }
+  inside = every-map (Keyed n) (λ j k a. codeOf n j k < codeCount n) (code-few n) (kuhnTree ante stake n) (kuhn-keyed ante stake n);
+  apart = every-map (Keyed n) (λ j k a. Every (λ i l b. codeOf n j k ≡ codeOf n i l → (j ≡ i) × (k ≡ l)) (kuhnTree ante stake n))
+      (λ j k a x. every-map (Keyed n) (λ i l b. codeOf n j k ≡ codeOf n i l → (j ≡ i) × (k ≡ l)) (λ i l b y. code-tells n j k a i l b x y) (kuhnTree ante stake n) (kuhn-keyed ante stake n)) (kuhnTree ante stake n) (kuhn-keyed ante stake n);
+}

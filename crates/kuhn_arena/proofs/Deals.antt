@@ -71,13 +71,13 @@ module _ (n : ℕ) (s : KuhnState) (k : ℕ) (p : Dealing n s (k + 1)) where
 
   pub deals-on : (c : ℕ) (t : KuhnState) → t ≡ with-card s c → Dealing n t k
   deals-on c t e = rw e (record {
-        least = p .least;
-        most = p .most;
-        fresh = p .fresh;
-        cards = omega (arith, p .cards);
-        places = p .places;
-        tens = length-set (s .cards) (s .dealt) c ∙ p .tens;
-      })
+    least = p .least;
+    most = p .most;
+    fresh = p .fresh;
+    cards = omega (arith, p .cards);
+    places = p .places;
+    tens = length-set (s .cards) (s .dealt) c ∙ p .tens;
+  })
 
   pub child-none : (c : ℕ) → has c (cardsOf s) ≡ true → childAt n s k c ≡ nil
   unfolding childAt left and
@@ -117,14 +117,14 @@ module _ (n : ℕ) (s : KuhnState) (k at : ℕ) (w : List ℕ) (p : Dealing n s 
     pub hand-starts : Playing n s 0 (2 * n - 1)
     unfolding numberFrom
     hand-starts = record {
-          least = p .least;
-          most = p .most;
-          full = omega (arith, p .cards);
-          places = p .places;
-          few = omega (arith, p .fresh, p .most);
-          number = rw (p .fresh) refl;
-          small = omega (arith, NatL.pow-le-pow-right {n = 2} (omega arith) {i = 2 * n - 1} {j = 11} (omega (arith, p .most)));
-        }
+      least = p .least;
+      most = p .most;
+      full = omega (arith, p .cards);
+      places = p .places;
+      few = omega (arith, p .fresh, p .most);
+      number = rw (p .fresh) refl;
+      small = omega (arith, NatL.pow-le-pow-right {n = 2} (omega arith) {i = 2 * n - 1} {j = 11} (omega (arith, p .most)));
+    }
 
     pub deal-ends : (v : List ℕ) (r : ℕ) → Built n (codeOf n) at w v (handAt n s (2 * n - 1)) r → Built n (codeOf n) at w v (dealAt n s k) r
     deal-ends v r b = rw deal-hand b

@@ -120,14 +120,14 @@ module _ (n : ℕ) (s : KuhnState) (k : ℕ) where
     -- the position after an action is played on
     pub plays : (h a : ℕ) → a ≤ 1 → Playing n s h k → Playing n (with-action s a) (2 * h + a + 1) (k - 1)
     plays h a b p = record {
-          least = p .least;
-          most = p .most;
-          full = p .full;
-          places = length-set (s .history) (s .acted) a ∙ p .places;
-          few = omega (arith, p .few, some-left);
-          number = number-more s nineteen l a h (p .number);
-          small = less-left h k a some-left (p .small) b;
-        }
+      least = p .least;
+      most = p .most;
+      full = p .full;
+      places = length-set (s .history) (s .acted) a ∙ p .places;
+      few = omega (arith, p .few, some-left);
+      number = number-more s nineteen l a h (p .number);
+      small = less-left h k a some-left (p .small) b;
+    }
 
 -- ---- the words
 -- the payoffs of six seats, as the rules list them
@@ -179,13 +179,14 @@ decision-says n s h at next f two six full nineteen acted number small byte few 
     let turn-is : turn n (historyOf s) ≡ s .acted % n = ap (λ i. i % n) (length-take-le (s .acted) (s .history) (omega arith)) in
     let own : getD (cardsOf s) (s .acted % n) 0 ≡ card = getD-take (s .dealt) (s .cards) (s .acted % n) 0 (rw full seat-few) in
     let times : h * (n + 1) ≤ 2046 * 7 = NatL.mul-le-mul {m₁ = n + 1} {m₂ = 7} small (omega arith) in
-    let set-few : h * (n + 1) + card < 16384 = omega arith in
-    ( kind-of seat 2 (h * (n + 1) + card) next 0 (omega arith) (omega arith) set-few few (omega arith)
-    , actor-of seat 2 (h * (n + 1) + card) next 0 (omega arith) (omega arith) set-few few (omega arith) ∙ sym turn-is
-    , actions-of seat 2 (h * (n + 1) + card) next 0 (omega arith) (omega arith) set-few few (omega arith) ∙ sym fans
-    , set-of seat 2 (h * (n + 1) + card) next 0 (omega arith) (omega arith) set-few few (omega arith) ∙ ap₂ (λ x y. x * (n + 1) + y) number (sym own ∙ ap (λ i. getD (cardsOf s) i 0) (sym turn-is))
-    , next-of seat 2 (h * (n + 1) + card) next 0 (omega arith) (omega arith) set-few few (omega arith) ∙ behind
-    , later-of seat 2 (h * (n + 1) + card) next 0 (omega arith) (omega arith) set-few few (omega arith))
+    let set-few : h * (n + 1) + card < 16384 = omega arith in (
+      kind-of seat 2 (h * (n + 1) + card) next 0 (omega arith) (omega arith) set-few few (omega arith),
+      actor-of seat 2 (h * (n + 1) + card) next 0 (omega arith) (omega arith) set-few few (omega arith) ∙ sym turn-is,
+      actions-of seat 2 (h * (n + 1) + card) next 0 (omega arith) (omega arith) set-few few (omega arith) ∙ sym fans,
+      set-of seat 2 (h * (n + 1) + card) next 0 (omega arith) (omega arith) set-few few (omega arith) ∙ ap₂ (λ x y. x * (n + 1) + y) number (sym own ∙ ap (λ i. getD (cardsOf s) i 0) (sym turn-is)),
+      next-of seat 2 (h * (n + 1) + card) next 0 (omega arith) (omega arith) set-few few (omega arith) ∙ behind,
+      later-of seat 2 (h * (n + 1) + card) next 0 (omega arith) (omega arith) set-few few (omega arith),
+    )
 
 -- the sum of a set's code
 pub set-sum : (n h c : ℕ) → n ≤ 6 → h ≤ 2046 → c < 256 → h * (n + 1) + c < 16384

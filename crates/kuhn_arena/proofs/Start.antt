@@ -1,5 +1,5 @@
 -- Kuhn's tree from the start, laid out from place 0 on. Assumes nothing.
-use mathlib.Core.Path.{_≡_, refl, sym, ap, _∙_}
+use mathlib.Core.Path.{_≡_, refl, sym, ap, ap₂, _∙_, subst}
 use mathlib.Core.Logic.{inl}
 use mathlib.Core.List.{List}
 use Prim.Native.Nat.{ℕ, zero, suc, _+_, _*_, _≤_, _<_}
@@ -8,7 +8,7 @@ use native.Mathlib.Omega.{arith}
 use lib.ListN.{length}
 use Rattle.game.specs.Tree.{Tree, Every}
 use Rattle.game.specs.Sets.{size, entries}
-use Rattle.arena.specs.Index.{unlinked, Cleared, Codes, Coded, Indexed}
+use Rattle.arena.specs.Index.{unlinked, Cleared, Coded, Indexed, Indexes}
 use Rattle.arena.specs.Built.{Built}
 use Rattle.arena.proofs.Building.{held-same}
 use Rattle.kuhn_tree.proofs.Units.{kuhn-every}
@@ -94,3 +94,6 @@ module _ (n : ℕ) (two : 2 ≤ n) (six : n ≤ 6) where
         clear = λ i l. z .zero (size t + i) (omega arith) (omega (arith, k, entries-few n two six));
         room = omega (arith, z .kept .long, b .kept .long, k, entries-few n two six, words-enough n two six, nodes-are);
       }
+
+  pub stored : (v w : List ℕ) (r c : ℕ) → r ≡ kuhnNodes n → c ≡ codeCount n → Indexes r c v w → Coded n (codeOf n) c v t → Indexed n (kuhnNodes n + codeCount n) w t
+  stored v w r c e f g k = subst (λ i. Indexed n i w t) (ap₂ _+_ e f) (g n (codeOf n) t (nodes-are ∙ sym e) k)

@@ -69,7 +69,14 @@ fn hand(w: &mut [u64], at: usize, n: usize, state: KuhnState, number: usize, lef
         put(w, at, end_word(n, state));
         return at + 1;
     }
-    let bet = hand(w, at + 1, n, state.with_action(PASS), 2 * number + 1, left - 1);
+    let bet = hand(
+        w,
+        at + 1,
+        n,
+        state.with_action(PASS),
+        2 * number + 1,
+        left - 1,
+    );
     let next = hand(w, bet, n, state.with_action(BET), 2 * number + 2, left - 1);
     put(w, at, decision_word(n, state, number, next));
     next

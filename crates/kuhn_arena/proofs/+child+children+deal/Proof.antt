@@ -86,7 +86,7 @@ child-returns : (t : ℕ) → child-lts.Need-returns (
   deal-below t,
   deal.Post,
 ) (child-at t) child.Post
-child-returns t c = 
+child-returns t c =
     rw (deals.child-none (c .before .before .before .before .before .args .n) (c .before .before .before .before .before .args .state) (c .before .before .before .before .before .args .left) (c .before .before .before .before .before .pre .1 .0 .0) (c .before .before .before .before .before .args .card) (sym (c .before .contains .ensures) ∙ c .if1 .taken)) (building.row-none _ _ _ _)
 
 -- src/lib.rt:125:20
@@ -109,7 +109,7 @@ child-deal-requires : (t : ℕ) → child-lts.Need-deal-requires (
   deal-below t,
   deal.Post,
 ) (child-at t) child.Post
-child-deal-requires t c κs = 
+child-deal-requires t c κs =
     let e = c .with-card .ensures in
     let some = deals.child-some (c .before .before .before .before .before .before .before .args .n) (c .before .before .before .before .before .before .before .args .state) (c .before .before .before .before .before .before .before .args .left) (c .before .before .before .before .before .before .before .pre .1 .0 .0) (c .before .before .before .before .before .before .before .args .card) _ (c .before .before .before .before .before .before .before .pre .1 .0 .1) (sym (c .before .before .before .contains .ensures) ∙ c .before .before .if1 .left) e in
     (omega (arith, c .before .before .before .before .before .before .before .pre .0), (deals.deals-on (c .before .before .before .before .before .before .before .args .n) (c .before .before .before .before .before .before .before .args .state) (c .before .before .before .before .before .before .before .args .left) (c .before .before .before .before .before .before .before .pre .1 .0 .0) (c .before .before .before .before .before .before .before .args .card) _ e, deals.room-one _ _ _ _ some (c .before .before .before .before .before .before .before .pre .1 .1)))
@@ -134,7 +134,7 @@ child-returns-2 : (t : ℕ) → child-lts.Need-returns-2 (
   deal-below t,
   deal.Post,
 ) (child-at t) child.Post
-child-returns-2 t c = 
+child-returns-2 t c =
     let e = c .before .before .before .with-card .ensures in
     let some = deals.child-some (c .before .before .before .before .before .before .before .before .before .before .args .n) (c .before .before .before .before .before .before .before .before .before .before .args .state) (c .before .before .before .before .before .before .before .before .before .before .args .left) (c .before .before .before .before .before .before .before .before .before .before .pre .1 .0 .0) (c .before .before .before .before .before .before .before .before .before .before .args .card) _ (c .before .before .before .before .before .before .before .before .before .before .pre .1 .0 .1) (sym (c .before .before .before .before .before .before .contains .ensures) ∙ c .before .before .before .before .before .if1 .left) e in
     rw some (building.row-one _ _ _ _ _ _ _ (c .before .before .deal .ensures))
@@ -163,7 +163,7 @@ children-child-requires : (t : ℕ) →
     children.Post
     children-Inv-loop
     children-μ-loop
-children-child-requires t c κs = 
+children-child-requires t c κs =
     let i = c .before .before .loop .inv in
     (omega (arith, c .before .before .before .before .pre .0), ((c .before .before .before .before .pre .1 .0, c .before .loop-test .taken), deals.child-room (c .before .before .before .before .args .n) (c .before .before .before .before .args .state) (c .before .before .before .before .args .left) (c .before .before .before .before .args .at) (now (c .before .before .before .before .args .w)) (c .before .before .before .before .pre .1 .1) _ _ _ (c .before .loop-test .taken) (i .0)))
 
@@ -195,7 +195,7 @@ children-loop-again : (t : ℕ) →
     children.Post
     children-Inv-loop
     children-μ-loop
-children-loop-again t c = 
+children-loop-again t c =
     let i = c .before .before .before .before .before .loop .inv in
     (deals.children-on (c .before .before .before .before .before .before .before .args .n) (c .before .before .before .before .before .before .before .args .state) (c .before .before .before .before .before .before .before .args .left) (c .before .before .before .before .before .before .before .args .at) (now (c .before .before .before .before .before .before .before .args .w)) (c .before .before .before .before .before .before .before .pre .1 .1) _ _ _ (c .before .before .before .before .loop-test .taken) (i .0) _ _ (c .before .before .child .ensures), omega (arith, c .before .before .before .before .loop-test .taken))
 
@@ -217,7 +217,7 @@ children-returns : (t : ℕ) →
     children.Post
     children-Inv-loop
     children-μ-loop
-children-returns t c = 
+children-returns t c =
     let i = c .before .loop .inv in
     let e : c .before .loop .card ≡ c .before .before .before .args .n + 1 = omega (arith, i .1, c .loop-test .left) in
     subst (λ d. Row (c .before .before .before .args .n) (codeOf (c .before .before .before .args .n)) (c .before .before .before .args .at) (now (c .before .before .before .args .w)) (c .before .loop .w) (childrenTo (c .before .before .before .args .n) (c .before .before .before .args .state) (c .before .before .before .args .left) d) (c .before .loop .next)) e (i .0)

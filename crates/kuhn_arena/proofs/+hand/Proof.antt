@@ -41,7 +41,7 @@ hand-is-over-requires : (t : ℕ) → hand-lts.Need-is-over-requires (
   decision-word-reads.Asked,
   decision-word-reads.Learnt,
 ) (hand-at t) hand.Post
-hand-is-over-requires t c κs = 
+hand-is-over-requires t c κs =
     let s = c .before .args .state in
     let p = c .before .pre .1 .0 in
     let nineteen = p .places in
@@ -63,7 +63,7 @@ hand-end-word-requires : (t : ℕ) → hand-lts.Need-end-word-requires (
   decision-word-reads.Asked,
   decision-word-reads.Learnt,
 ) (hand-at t) hand.Post
-hand-end-word-requires t c κs = 
+hand-end-word-requires t c κs =
     let s = c .before .before .before .before .args .state in
     let p = c .before .before .before .before .pre .1 .0 in
     let nineteen = p .places in
@@ -102,7 +102,7 @@ hand-add-result : (t : ℕ) → hand-lts.Need-add-result (
   decision-word-reads.Asked,
   decision-word-reads.Learnt,
 ) (hand-at t) hand.Post
-hand-add-result t c = 
+hand-add-result t c =
     let g = c .before .before .before .before .before .before .before .before .pre .1 .1 in
     record { fits = omega (arith, g .places) }
 
@@ -138,7 +138,7 @@ hand-returns : (t : ℕ) → hand-lts.Need-returns (
   decision-word-reads.Asked,
   decision-word-reads.Learnt,
 ) (hand-at t) hand.Post
-hand-returns t c = 
+hand-returns t c =
     let s = c .before .before .before .before .before .before .before .before .args .state in
     let p = c .before .before .before .before .before .before .before .before .pre .1 .0 in
     let nineteen = p .places in
@@ -160,7 +160,7 @@ hand-add-hand : (t : ℕ) → hand-lts.Need-add-hand (
   decision-word-reads.Asked,
   decision-word-reads.Learnt,
 ) (hand-at t) hand.Post
-hand-add-hand t c = 
+hand-add-hand t c =
     let g = c .before .before .before .before .pre .1 .1 in
     record { fits = omega (arith, g .places) }
 
@@ -179,7 +179,7 @@ hand-with-action-requires : (t : ℕ) → hand-lts.Need-with-action-requires (
   decision-word-reads.Asked,
   decision-word-reads.Learnt,
 ) (hand-at t) hand.Post
-hand-with-action-requires t c κs = 
+hand-with-action-requires t c κs =
     let s = c .before .before .before .before .args .state in
     let p = c .before .before .before .before .pre .1 .0 in
     let nineteen = p .places in
@@ -201,7 +201,7 @@ hand-mul-hand : (t : ℕ) → hand-lts.Need-mul-hand (
   decision-word-reads.Asked,
   decision-word-reads.Learnt,
 ) (hand-at t) hand.Post
-hand-mul-hand t c = 
+hand-mul-hand t c =
     let s = c .before .before .before .before .before .args .state in
     let p = c .before .before .before .before .before .pre .1 .0 in
     let nineteen = p .places in
@@ -226,7 +226,7 @@ hand-add-hand-2 : (t : ℕ) → hand-lts.Need-add-hand-2 (
   decision-word-reads.Asked,
   decision-word-reads.Learnt,
 ) (hand-at t) hand.Post
-hand-add-hand-2 t c = 
+hand-add-hand-2 t c =
     let s = c .before .before .before .before .before .args .state in
     let p = c .before .before .before .before .before .pre .1 .0 in
     let nineteen = p .places in
@@ -251,7 +251,7 @@ hand-sub-hand : (t : ℕ) → hand-lts.Need-sub-hand (
   decision-word-reads.Asked,
   decision-word-reads.Learnt,
 ) (hand-at t) hand.Post
-hand-sub-hand t c = 
+hand-sub-hand t c =
     let s = c .before .before .before .before .before .args .state in
     let p = c .before .before .before .before .before .pre .1 .0 in
     let nineteen = p .places in
@@ -276,7 +276,7 @@ hand-hand-requires : (t : ℕ) → hand-lts.Need-hand-requires (
   decision-word-reads.Asked,
   decision-word-reads.Learnt,
 ) (hand-at t) hand.Post
-hand-hand-requires t c κs = 
+hand-hand-requires t c κs =
     let s = c .before .before .before .before .before .args .state in
     let p = c .before .before .before .before .before .pre .1 .0 in
     let nineteen = p .places in
@@ -301,7 +301,7 @@ hand-with-action-requires-2 : (t : ℕ) → hand-lts.Need-with-action-requires-2
   decision-word-reads.Asked,
   decision-word-reads.Learnt,
 ) (hand-at t) hand.Post
-hand-with-action-requires-2 t c κs = 
+hand-with-action-requires-2 t c κs =
     let s = c .before .before .before .before .before .before .before .before .before .args .state in
     let p = c .before .before .before .before .before .before .before .before .before .pre .1 .0 in
     let nineteen = p .places in
@@ -323,7 +323,7 @@ hand-mul-hand-2 : (t : ℕ) → hand-lts.Need-mul-hand-2 (
   decision-word-reads.Asked,
   decision-word-reads.Learnt,
 ) (hand-at t) hand.Post
-hand-mul-hand-2 t c = 
+hand-mul-hand-2 t c =
     let s = c .before .before .before .before .before .before .before .before .before .before .args .state in
     let p = c .before .before .before .before .before .before .before .before .before .before .pre .1 .0 in
     let nineteen = p .places in
@@ -348,7 +348,7 @@ hand-add-hand-3 : (t : ℕ) → hand-lts.Need-add-hand-3 (
   decision-word-reads.Asked,
   decision-word-reads.Learnt,
 ) (hand-at t) hand.Post
-hand-add-hand-3 t c = 
+hand-add-hand-3 t c =
     let s = c .before .before .before .before .before .before .before .before .before .before .args .state in
     let p = c .before .before .before .before .before .before .before .before .before .before .pre .1 .0 in
     let nineteen = p .places in
@@ -373,7 +373,7 @@ hand-sub-hand-2 : (t : ℕ) → hand-lts.Need-sub-hand-2 (
   decision-word-reads.Asked,
   decision-word-reads.Learnt,
 ) (hand-at t) hand.Post
-hand-sub-hand-2 t c = 
+hand-sub-hand-2 t c =
     let s = c .before .before .before .before .before .before .before .before .before .before .args .state in
     let p = c .before .before .before .before .before .before .before .before .before .before .pre .1 .0 in
     let nineteen = p .places in
@@ -398,7 +398,7 @@ hand-hand-requires-2 : (t : ℕ) → hand-lts.Need-hand-requires-2 (
   decision-word-reads.Asked,
   decision-word-reads.Learnt,
 ) (hand-at t) hand.Post
-hand-hand-requires-2 t c κs = 
+hand-hand-requires-2 t c κs =
     let s = c .before .before .before .before .before .before .before .before .before .before .args .state in
     let p = c .before .before .before .before .before .before .before .before .before .before .pre .1 .0 in
     let nineteen = p .places in
@@ -423,7 +423,7 @@ hand-decision-word-requires : (t : ℕ) → hand-lts.Need-decision-word-requires
   decision-word-reads.Asked,
   decision-word-reads.Learnt,
 ) (hand-at t) hand.Post
-hand-decision-word-requires t c κs = 
+hand-decision-word-requires t c κs =
     let s = c .before .before .before .before .before .before .before .before .before .before .before .before .before .before .args .state in
     let p = c .before .before .before .before .before .before .before .before .before .before .before .before .before .before .pre .1 .0 in
     let nineteen = p .places in
@@ -482,7 +482,7 @@ hand-returns-2 : (t : ℕ) → hand-lts.Need-returns-2 (
   decision-word-reads.Asked,
   decision-word-reads.Learnt,
 ) (hand-at t) hand.Post
-hand-returns-2 t c = 
+hand-returns-2 t c =
     let s = c .before .before .before .before .before .before .before .before .before .before .before .before .before .before .before .before .before .before .args .state in
     let p = c .before .before .before .before .before .before .before .before .before .before .before .before .before .before .before .before .before .before .pre .1 .0 in
     let nineteen = p .places in

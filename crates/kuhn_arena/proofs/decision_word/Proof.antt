@@ -36,7 +36,7 @@ add-set-2 c = record { fits = omega (arith, set-sum (c .before .before .before .
 
 -- src/lib.rt:53:5
 decision-requires : tie.Need-decision-requires
-decision-requires c κs = 
+decision-requires c κs =
     let l : c .before .before .before .args .state .acted % c .before .before .before .args .n < c .before .before .before .args .n = mod-lt _ (omega arith) in
     (omega arith, omega arith, set-sum (c .before .before .before .args .n) (c .before .before .before .args .number) (c .card .result) (c .before .before .before .pre .1) (c .before .before .before .pre .2) (c .card .ensures .1), c .before .before .before .pre .3, omega arith)
 

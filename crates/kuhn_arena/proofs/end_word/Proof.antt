@@ -20,7 +20,7 @@ slice-aggregate-payoffs-2 c = search needs
 
 -- src/lib.rt:35:13
 payoffs-requires : tie.Need-payoffs-requires
-payoffs-requires c κs = 
+payoffs-requires c κs =
     let tens : length (c .before .before .before .before .args .state .cards) ≡ 10 = search needs in
     let nineteen : length (c .before .before .before .before .args .state .history) ≡ 19 = search needs in
     (omega arith, omega arith, omega arith, omega arith)
@@ -51,7 +51,7 @@ array-copy-out-end-6 c = search needs
 
 -- src/lib.rt:36:5
 end-requires : tie.Need-end-requires
-end-requires c κs = 
+end-requires c κs =
     let s = c .before .before .before .before .before .before .before .before .before .before .before .args .state in
     let small = bits-small (c .before .before .before .before .before .before .before .before .before .before .before .args .n) s (c .before .before .before .before .before .before .before .before .before .before .before .pre .0) (c .before .before .before .before .before .before .before .before .before .before .before .pre .1) _ (c .before .before .before .before .before .before .payoffs .ensures) in
     (small 0 (omega arith), small 1 (omega arith), small 2 (omega arith), small 3 (omega arith), small 4 (omega arith), small 5 (omega arith))
