@@ -8,8 +8,8 @@ use Rattle.arena.specs.Words.{END, kindOf, payoffOf}
 
 -- r is the byte of payoff x
 pub record Byte (x : ℤ) (r : ℕ) : Type 0 where
-  pub small : r < 256
-  pub stands : pos r -ℤ pos 128 ≡ x
+  pub small : r < 128
+  pub stands : pos r -ℤ pos 64 ≡ x
 
 -- word x is that of an end with the payoffs p
 pub record Pays (p : List ℤ) (x : ℕ) : Type 0 where

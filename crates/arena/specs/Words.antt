@@ -1,4 +1,4 @@
--- The word of a node, field by field from its lowest bits: kind 2, actor 3, actions 2, set 14, next 21 and later 21; behind an end's kind stands a byte for each of six payoffs.
+-- The word of a node, field by field from its lowest bits: kind 2, actor 3, actions 2, set 14, next 21 and later 21; behind an end's kind stands a byte for each of six payoffs, of seven bits.
 use Prim.Native.Nat.{ℕ, _+_, _*_, _/_, _%_, _^_}
 use lib.IntN.{ℤ, pos, _-ℤ_}
 
@@ -43,9 +43,9 @@ decisionWord actor actions set next later = 2 + 4 * actor + 32 * actions + 128 *
 abbrev pub chanceWord : ℕ → ℕ
 chanceWord next = 1 + 2097152 * next
 
--- the byte of seat i at an end, and the payoff that it stands for: 128 is 0
+-- the byte of seat i at an end, and the payoff that it stands for: 64 is 0, so that none is below 0
 abbrev pub byteOf : ℕ → ℕ → ℕ
-byteOf x i = x / 4 / 2 ^ (8 * i) % 256
+byteOf x i = x / 4 / 2 ^ (8 * i) % 128
 
 abbrev pub payoffOf : ℕ → ℕ → ℤ
-payoffOf x i = pos (byteOf x i) -ℤ pos 128
+payoffOf x i = pos (byteOf x i) -ℤ pos 64

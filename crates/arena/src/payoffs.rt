@@ -6,17 +6,17 @@ ghost use lib.IntN.{natAbs};
 ghost use Rattle.arena.specs.Words.{payoffOf};
 ghost use Rattle.arena.specs.Payoffs.{Byte, Pays};
 
-// The byte of a payoff: 128 is 0.
+// The byte of a payoff: 64 is 0.
 fn byte(payoff: i64) -> u64
-    requires { ⌜ natAbs payoff ≤ 100 ⌝ }
+    requires { ⌜ natAbs payoff ≤ 60 ⌝ }
     ensures { λ r. ⌜ Byte payoff r ⌝ }
 {
-    (payoff + 128) as u64
+    (payoff + 64) as u64
 }
 
 // The word of an end, of the payoffs of six seats.
 pub fn end(a: i64, b: i64, c: i64, d: i64, e: i64, f: i64) -> u64
-    requires { ⌜ (natAbs a ≤ 100) × (natAbs b ≤ 100) × (natAbs c ≤ 100) × (natAbs d ≤ 100) × (natAbs e ≤ 100) × (natAbs f ≤ 100) ⌝ }
+    requires { ⌜ (natAbs a ≤ 60) × (natAbs b ≤ 60) × (natAbs c ≤ 60) × (natAbs d ≤ 60) × (natAbs e ≤ 60) × (natAbs f ≤ 60) ⌝ }
     ensures { λ r. ⌜ Pays (a ∷ b ∷ c ∷ d ∷ e ∷ f ∷ []) r ⌝ }
 {
     4 * byte(a)
@@ -33,5 +33,5 @@ pub fn payoff(x: u64, seat: usize) -> i64
     ensures { λ r. ⌜ r ≡ payoffOf x seat ⌝ }
 {
     let bits = x / 4 >> (8 * seat);
-    (bits % 256) as i64 - 128
+    (bits % 128) as i64 - 64
 }

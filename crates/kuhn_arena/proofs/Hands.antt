@@ -139,10 +139,10 @@ module _ (n : ℕ) (s : KuhnState) (two : 2 ≤ n) (six : n ≤ 6) (p : List ℤ
   unfolding payoffs-of
   paid-at i b = ap (λ l. getD l i (pos 0)) e ∙ getD-places 10 (λ q. cond (ltb q n) (payoff ante stake n (take n (s .cards)) (historyOf s) q) (pos 0)) i (pos 0) b
 
-  pub paid-small : (i : ℕ) → i < 10 → natAbs (getD p i (pos 0)) ≤ 100
+  pub paid-small : (i : ℕ) → i < 10 → natAbs (getD p i (pos 0)) ≤ 60
   paid-small i b = rw (paid-at i b) (at (tested (ltb i n)))
     where
-      at : Tested (ltb i n) → natAbs (cond (ltb i n) (payoff ante stake n (take n (s .cards)) (historyOf s) i) (pos 0)) ≤ 100
+      at : Tested (ltb i n) → natAbs (cond (ltb i n) (payoff ante stake n (take n (s .cards)) (historyOf s) i) (pos 0)) ≤ 60
       at (holds q) = rw q (omega (arith, payoff-size ante stake n two i (ltb-true i n q) (take n (s .cards)) (historyOf s)))
       at (fails q) = rw q (omega arith)
 
@@ -150,7 +150,7 @@ module _ (n : ℕ) (s : KuhnState) (two : 2 ≤ n) (six : n ≤ 6) (p : List ℤ
   pub paid-bits : (i : ℕ) → i < 10 → bits (getD p i (pos 0)) ≡ getD p i (pos 0)
   paid-bits i b = bits-of (getD p i (pos 0)) (paid-small i b)
 
-  pub bits-small : (i : ℕ) → i < 10 → natAbs (bits (getD p i (pos 0))) ≤ 100
+  pub bits-small : (i : ℕ) → i < 10 → natAbs (bits (getD p i (pos 0))) ≤ 60
   bits-small i b = rw (paid-bits i b) (paid-small i b)
 
   pub ends : (x : ℕ) → s .dealt ≡ n → Pays (bits (getD p 0 (pos 0)) ∷ bits (getD p 1 (pos 0)) ∷ bits (getD p 2 (pos 0)) ∷ bits (getD p 3 (pos 0)) ∷ bits (getD p 4 (pos 0)) ∷ bits (getD p 5 (pos 0)) ∷ []) x → Ends n s x
