@@ -4,4 +4,5 @@ pub mod Numbering
 pub mod Packing
 pub mod Bytes
 pub mod Building
+pub mod Walking
 pub mod Linking

@@ -4,3 +4,4 @@ pub mod Held
 pub mod Index
 pub mod Built
 pub mod Payoffs
+pub mod Walk

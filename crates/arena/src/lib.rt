@@ -2,4 +2,5 @@
 // for each first entry the set's first member.
 pub mod index;
 pub mod payoffs;
+pub mod walk;
 pub mod words;
