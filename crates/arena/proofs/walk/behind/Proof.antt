@@ -27,7 +27,7 @@ add-result c = search needs
 
 -- src/walk.rt:16:9
 returns : tie.Need-returns
-returns c = at-end (now (c .before .before .before .before .args .w)) (c .before .before .before .before .args .a) (c .before .before .before .before .pre) (ap kindOf (sym (c .before .before .word .ensures)) ∙ sym (c .before .kind .ensures) ∙ c .if1 .taken)
+returns c = at-end (now (c .before .before .before .before .args .w)) (c .before .before .before .before .args .a) (ap kindOf (sym (c .before .before .word .ensures)) ∙ sym (c .before .kind .ensures) ∙ c .if1 .taken)
 
 -- src/walk.rt:18:5
 next-requires : tie.Need-next-requires

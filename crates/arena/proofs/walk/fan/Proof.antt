@@ -9,7 +9,7 @@ use Rattle.arena.proofs.walk.fan.Lts as lts
 use Rattle.arena.proofs.walk.behind.Reads as behind-reads
 
 abbrev Inv-loop : tie.InvT-loop
-Inv-loop w a end count₀ at₀ count at = Along w a end at count × (count ≤ at) × (at < 4194305)
+Inv-loop w a end count₀ at₀ count at = Along w a end at count × (count ≤ at) × (at < 8388608)
 
 abbrev μ-loop : tie.MeasureT-loop
 μ-loop w a end count₀ at₀ count at = end - at
@@ -38,7 +38,7 @@ loop-less c = omega (arith, c .before .before .loop-test .taken, c .if1 .left)
 loop-again : tie.Need-loop-again Inv-loop μ-loop
 loop-again c = 
     let b = c .before .behind .ensures in
-    (along-more _ _ _ _ _ _ (c .before .before .before .loop .inv .0) (c .before .before .loop-test .taken) b, omega (arith, c .before .before .before .loop .inv .1, c .if1 .left), b .near)
+    (along-more _ _ _ _ _ _ (c .before .before .before .loop .inv .0) (c .before .before .loop-test .taken) b, omega (arith, c .before .before .before .loop .inv .1, c .if1 .left), omega (arith, b .near))
 
 -- src/walk.rt:22:1
 returns-2 : tie.Need-returns-2 Inv-loop μ-loop
