@@ -3,7 +3,7 @@ ghost use mathlib.Core.Path.{_≡_};
 ghost use mathlib.Core.List.{[], _∷_};
 ghost use Prim.Native.Nat.{_<_, _≤_};
 ghost use lib.IntN.{natAbs};
-ghost use Rattle.arena.specs.Words.{payoffOf};
+ghost use Rattle.arena.specs.Words.{byteOf, payoffOf};
 ghost use Rattle.arena.specs.Payoffs.{Byte, Pays};
 
 // The byte of a payoff: 64 is 0.
@@ -34,4 +34,13 @@ pub fn payoff(x: u64, seat: usize) -> i64
 {
     let bits = x / 4 >> (8 * seat);
     (bits % 128) as i64 - 64
+}
+
+// The same, lifted by 64.
+pub fn lifted(x: u64, seat: usize) -> u64
+    requires { ⌜ seat < 6 ⌝ }
+    ensures { λ r. ⌜ (r ≡ byteOf x seat) × (r < 128) ⌝ }
+{
+    let bits = x / 4 >> (8 * seat);
+    bits % 128
 }

@@ -35,7 +35,7 @@ next-requires c κs = search needs
 
 -- src/walk.rt:10:1
 returns-2 : tie.Need-returns-2
-returns-2 c = 
+returns-2 c =
     let e = c .before .before .before .word .ensures in
     subst (λ r. Behind (now (c .before .before .before .before .before .args .w)) (c .before .before .before .before .before .args .a) r) (sym (c .next .ensures ∙ ap nextOf e)) (elsewhere (now (c .before .before .before .before .before .args .w)) (c .before .before .before .before .before .args .a) λ q. c .before .if1 .left (c .before .before .kind .ensures ∙ ap kindOf e ∙ q))
 

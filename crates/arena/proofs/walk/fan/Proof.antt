@@ -36,7 +36,7 @@ loop-less c = omega (arith, c .before .before .loop-test .taken, c .if1 .left)
 
 -- src/walk.rt:28:5
 loop-again : tie.Need-loop-again Inv-loop μ-loop
-loop-again c = 
+loop-again c =
     let b = c .before .behind .ensures in
     (along-more _ _ _ _ _ _ (c .before .before .before .loop .inv .0) (c .before .before .loop-test .taken) b, omega (arith, c .before .before .before .loop .inv .1, c .if1 .left), omega (arith, b .near))
 
