@@ -96,7 +96,7 @@ pub once-length : {A : Type 0} (xs ys : List A) → Once xs → Once ys → ((x 
 once-length xs ys d e f g = NatL.le-antisymm (once-le xs ys d f) (once-le ys xs e g)
 
 -- ---- the sets of a tree
-each-in : (P : Property) (xs : List Decision) → Each P xs → (x : Decision) → In x xs → P (x .0) (x .1) (x .2)
+pub each-in : (P : Property) (xs : List Decision) → Each P xs → (x : Decision) → In x xs → P (x .0) (x .1) (x .2)
 unfolding Each In
 each-in P [] h x m = absurd m
 each-in P (y ∷ xs) h x (inl e) = rw e at (h .0)
@@ -117,7 +117,7 @@ distinct-once (x ∷ xs) d = ((λ m. clash (met (x .0) (x .1) xs) (in-met x xs m
 pub sets-once : (t : Tree) → Once (sets t)
 sets-once t = distinct-once (sets t) (sets-distinct t)
 
-firsts-in : (front xs : List Decision) (x : Decision) → In x (firsts front xs) → In x xs
+pub firsts-in : (front xs : List Decision) (x : Decision) → In x (firsts front xs) → In x xs
 unfolding firsts In
 firsts-in front [] x m = m
 firsts-in front (y ∷ xs) x m = at (met (y .0) (y .1) front) m (λ w. firsts-in (y ∷ front) xs x w)

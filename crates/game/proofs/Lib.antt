@@ -18,6 +18,7 @@ pub mod Computed
 pub mod Sets
 pub mod Counting
 pub mod Walk
+pub mod Entries
 pub mod Tables
 pub mod TableTheorem
 pub mod Numbers

@@ -25,7 +25,7 @@ mutual
   preorder-all-length (cons t f) = length-append (preorder t) (preorderAll f) ∙ ap₂ _+_ (preorder-length t) (preorder-all-length f)
 
 -- ---- the decisions are those of the nodes, in their order
-decisionsOf-append : (ts us : List Tree) → decisionsOf (ts ++ us) ≡ decisionsOf ts ++ decisionsOf us
+pub decisionsOf-append : (ts us : List Tree) → decisionsOf (ts ++ us) ≡ decisionsOf ts ++ decisionsOf us
 unfolding decisionsOf
 decisionsOf-append [] us = refl
 decisionsOf-append (t ∷ ts) us = ap (λ l. decisionOf t ++ l) (decisionsOf-append ts us) ∙ sym (append-assoc (decisionOf t) (decisionsOf ts) (decisionsOf us))

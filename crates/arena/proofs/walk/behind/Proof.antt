@@ -1,0 +1,44 @@
+use borrow.Author.Needs.{needs}
+use denote.Ref.{now}
+use mathlib.Core.Path.{_≡_, sym, ap, _∙_, subst}
+use native.Mathlib.Omega.{arith}
+use Rattle.arena.specs.Words.{kindOf, nextOf}
+use Rattle.arena.specs.Walk.{Behind}
+use Rattle.arena.proofs.Walking.{at-end, elsewhere}
+use Rattle.arena.proofs.walk.behind.Statement.{statement}
+use Rattle.arena.proofs.walk.behind.Tie as tie
+use Rattle.arena.proofs.walk.behind.Reads as reads
+use Rattle.arena.proofs.walk.behind.Lts as lts
+use Rattle.arena.proofs.words.kind.Reads as kind-reads
+use Rattle.arena.proofs.words.next.Reads as next-reads
+use Rattle.arena.proofs.words.word.Reads as word-reads
+
+-- src/walk.rt:14:9
+word-requires : tie.Need-word-requires
+word-requires c κs = search needs
+
+-- src/walk.rt:15:8
+kind-requires : tie.Need-kind-requires
+kind-requires c κs = search needs
+
+-- src/walk.rt:16:16
+add-result : tie.Need-add-result
+add-result c = search needs
+
+-- src/walk.rt:16:9
+returns : tie.Need-returns
+returns c = at-end (now (c .before .before .before .before .args .w)) (c .before .before .before .before .args .a) (ap kindOf (sym (c .before .before .word .ensures)) ∙ sym (c .before .kind .ensures) ∙ c .if1 .taken)
+
+-- src/walk.rt:18:5
+next-requires : tie.Need-next-requires
+next-requires c κs = search needs
+
+-- src/walk.rt:10:1
+returns-2 : tie.Need-returns-2
+returns-2 c =
+    let e = c .before .before .before .word .ensures in
+    subst (λ r. Behind (now (c .before .before .before .before .before .args .w)) (c .before .before .before .before .before .args .a) r) (sym (c .next .ensures ∙ ap nextOf e)) (elsewhere (now (c .before .before .before .before .before .args .w)) (c .before .before .before .before .before .args .a) λ q. c .before .if1 .left (c .before .before .kind .ensures ∙ ap kindOf e ∙ q))
+
+pub behind-spec : {M : Type 1} → statement M
+behind-spec =
+    tie.close (tie.spec word-requires kind-requires add-result returns next-requires returns-2)

@@ -1,0 +1,7 @@
+-- The tree in work memory: what its words say. No public call cites these definitions.
+pub mod Words
+pub mod Held
+pub mod Index
+pub mod Built
+pub mod Payoffs
+pub mod Walk

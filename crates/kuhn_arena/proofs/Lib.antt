@@ -1,0 +1,4 @@
+pub mod Hands
+pub mod Deals
+pub mod Start
+pub mod Apart

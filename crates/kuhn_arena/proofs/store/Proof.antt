@@ -1,0 +1,81 @@
+use borrow.Author.Needs.{needs}
+use mathlib.Core.Path.{_∙_}
+use native.Mathlib.Omega.{arith}
+use Rattle.kuhn_arena.proofs.Start as start
+use Rattle.kuhn_arena.proofs.store.Statement.{statement}
+use Rattle.kuhn_arena.proofs.store.Tie as tie
+use Rattle.kuhn_arena.proofs.store.Reads as reads
+use Rattle.kuhn_arena.proofs.store.Lts as lts
+use Rattle.arena.proofs.index.clear.Reads as clear-reads
+use Rattle.arena.proofs.index.index.Reads as index-reads
+use Rattle.kuhn_arena.proofs.build.Reads as build-reads
+use Rattle.kuhn_arena.proofs.codes.Reads as codes-reads
+
+-- src/lib.rt:157:9
+build-requires : tie.Need-build-requires
+build-requires c κs = search needs
+
+-- src/lib.rt:158:9
+codes-requires : tie.Need-codes-requires
+codes-requires c κs = search needs
+
+-- src/lib.rt:159:29
+mul-clear : tie.Need-mul-clear
+mul-clear c =
+    let n = c .before .before .before .before .before .before .before .args .n in
+    let two = c .before .before .before .before .before .before .before .pre .0 in
+    let six = c .before .before .before .before .before .before .before .pre .1 in
+    let r = start.place-behind n two six _ _ _ (c .before .before .before .before .build .ensures) in
+    let e = c .before .codes .ensures in
+    record { fits = omega (arith, e, start.codes-few n two six) }
+
+-- src/lib.rt:159:21
+add-clear : tie.Need-add-clear
+add-clear c =
+    let n = c .before .before .before .before .before .before .before .args .n in
+    let two = c .before .before .before .before .before .before .before .pre .0 in
+    let six = c .before .before .before .before .before .before .before .pre .1 in
+    let r = start.place-behind n two six _ _ _ (c .before .before .before .before .build .ensures) in
+    let e = c .before .codes .ensures in
+    record { fits = omega (arith, r, e, start.codes-few n two six, start.nodes-few n two six) }
+
+-- src/lib.rt:159:5
+clear-requires : tie.Need-clear-requires
+clear-requires c κs = search needs
+
+-- src/lib.rt:160:5
+index-requires : tie.Need-index-requires
+index-requires c κs =
+    let n = c .before .before .before .before .before .before .before .before .before .before .before .args .n in
+    let two = c .before .before .before .before .before .before .before .before .before .before .before .pre .0 in
+    let six = c .before .before .before .before .before .before .before .before .before .before .before .pre .1 in
+    let r = start.place-behind n two six _ _ _ (c .before .before .before .before .before .before .before .before .build .ensures) in
+    let e = c .before .before .before .before .before .codes .ensures in
+    (omega (arith, r, start.nodes-few n two six), omega (arith, e, start.codes-few n two six))
+
+-- src/lib.rt:153:1
+same-length : tie.Need-same-length
+same-length c = search needs
+
+-- src/lib.rt:153:1
+returns : tie.Need-returns
+returns c =
+    let n = c .before .before .before .before .before .before .before .before .before .before .before .before .before .before .args .n in
+    let two = c .before .before .before .before .before .before .before .before .before .before .before .before .before .before .pre .0 in
+    let six = c .before .before .before .before .before .before .before .before .before .before .before .before .before .before .pre .1 in
+    let r = start.place-behind n two six _ _ _ (c .before .before .before .before .before .before .before .before .before .before .before .build .ensures) in
+    let e = c .before .before .before .before .before .before .before .before .codes .ensures in
+    start.stored n two six _ _ _ _ r e (c .before .before .index .ensures) (start.coded n two six _ _ _ _ _ (c .before .before .before .before .before .before .before .before .before .before .before .build .ensures) e (c .before .before .before .before .before .before .clear .ensures) (c .before .before .before .before .before .before .before .before .before .before .before .before .before .before .pre .2))
+
+pub store-spec : {M : Type 1} → statement M
+store-spec =
+    tie.close
+    (tie.spec
+    build-requires
+    codes-requires
+    mul-clear
+    add-clear
+    clear-requires
+    index-requires
+    same-length
+    returns)

@@ -1,0 +1,2 @@
+-- Kuhn's tree in work memory. No public call cites these definitions.
+pub mod Layout

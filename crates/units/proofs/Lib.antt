@@ -1,0 +1,2 @@
+pub mod Six
+pub mod Adding

@@ -1,0 +1,3 @@
+-- Whole units over a tree in work memory. No public call cites these definitions.
+pub mod Lifted
+pub mod Earned

@@ -1,0 +1,3 @@
+// Whole units over a tree in work memory.
+mod sums;
+mod worths;
