@@ -1,0 +1,466 @@
+use Prim.Native.Nat.{ℕ, _<_}
+use borrow.Fn.Kinds.{In}
+use borrow.Fn.PlainCycle.{Measures, is, falls, and}
+use Rattle.leduc_arena.proofs.child.Reads as child
+use Rattle.leduc_arena.proofs.child.Kinds as child-kinds
+use Rattle.leduc_arena.proofs.+child+children+tree.Lts-child as child-lts
+use Rattle.leduc_arena.proofs.children.Reads as children
+use Rattle.leduc_arena.proofs.children.Kinds as children-kinds
+use Rattle.leduc_arena.proofs.+child+children+tree.Lts-children as children-lts
+use Rattle.leduc_arena.proofs.tree.Reads as tree
+use Rattle.leduc_arena.proofs.tree.Kinds as tree-kinds
+use Rattle.leduc_arena.proofs.+child+children+tree.Lts-tree as tree-lts
+use Rattle.arena.proofs.words.put.Reads as put-reads
+use Rattle.leduc_arena.proofs.moves.is_end.Reads as is-end-reads
+use Rattle.leduc_arena.proofs.moves.is_move.Reads as is-move-reads
+use Rattle.leduc_arena.proofs.moves.moved.Reads as moved-reads
+use Rattle.leduc_arena.proofs.words.end_word.Reads as end-word-reads
+use Rattle.leduc_arena.proofs.words.node_word.Reads as node-word-reads
+use Rattle.leduc_arena.proofs.+child+children+tree.{statement}
+use Rattle.leduc_arena.proofs.+child+children+tree.Tie.{close}
+
+abbrev μ-child : Measures 1 child-kinds.ps ℕ
+μ-child κs a = ?
+
+abbrev μ-children : Measures 1 children-kinds.ps ℕ
+μ-children κs a = ?
+
+abbrev μ-tree : Measures 1 tree-kinds.ps ℕ
+μ-tree κs a = ?
+
+abbrev child-at : ℕ → In 1 child-kinds.ps
+child-at t = and 1 child-kinds.ps (is 1 child-kinds.ps μ-child t) child.Pre
+
+abbrev child-below : ℕ → In 1 child-kinds.ps
+child-below t = and 1 child-kinds.ps (falls 1 child-kinds.ps _<_ μ-child t) child.Pre
+
+abbrev children-at : ℕ → In 1 children-kinds.ps
+children-at t = and 1 children-kinds.ps (is 1 children-kinds.ps μ-children t) children.Pre
+
+abbrev children-below : ℕ → In 1 children-kinds.ps
+children-below t =
+    and 1 children-kinds.ps (falls 1 children-kinds.ps _<_ μ-children t) children.Pre
+
+abbrev tree-at : ℕ → In 1 tree-kinds.ps
+tree-at t = and 1 tree-kinds.ps (is 1 tree-kinds.ps μ-tree t) tree.Pre
+
+abbrev tree-below : ℕ → In 1 tree-kinds.ps
+tree-below t = and 1 tree-kinds.ps (falls 1 tree-kinds.ps _<_ μ-tree t) tree.Pre
+
+-- src/lib.rt:58:8
+child-is-move-requires : (t : ℕ) → child-lts.Need-is-move-requires (
+  is-move-reads.Asked,
+  is-move-reads.Learnt,
+  moved-reads.Asked,
+  moved-reads.Learnt,
+  tree-below t,
+  tree.Post,
+) (child-at t) child.Post
+child-is-move-requires t c κs = ?
+
+-- src/lib.rt:59:28
+child-moved-requires : (t : ℕ) → child-lts.Need-moved-requires (
+  is-move-reads.Asked,
+  is-move-reads.Learnt,
+  moved-reads.Asked,
+  moved-reads.Learnt,
+  tree-below t,
+  tree.Post,
+) (child-at t) child.Post
+child-moved-requires t c κs = ?
+
+-- src/lib.rt:59:9
+child-tree-requires : (t : ℕ) → child-lts.Need-tree-requires (
+  is-move-reads.Asked,
+  is-move-reads.Learnt,
+  moved-reads.Asked,
+  moved-reads.Learnt,
+  tree-below t,
+  tree.Post,
+) (child-at t) child.Post
+child-tree-requires t c κs = ?
+
+-- src/lib.rt:59:9
+child-same-length : (t : ℕ) → child-lts.Need-same-length (
+  is-move-reads.Asked,
+  is-move-reads.Learnt,
+  moved-reads.Asked,
+  moved-reads.Learnt,
+  tree-below t,
+  tree.Post,
+) (child-at t) child.Post
+child-same-length t c = ?
+
+-- src/lib.rt:59:9
+child-returns : (t : ℕ) → child-lts.Need-returns (
+  is-move-reads.Asked,
+  is-move-reads.Learnt,
+  moved-reads.Asked,
+  moved-reads.Learnt,
+  tree-below t,
+  tree.Post,
+) (child-at t) child.Post
+child-returns t c = ?
+
+-- src/lib.rt:53:1
+child-returns-2 : (t : ℕ) → child-lts.Need-returns-2 (
+  is-move-reads.Asked,
+  is-move-reads.Learnt,
+  moved-reads.Asked,
+  moved-reads.Learnt,
+  tree-below t,
+  tree.Post,
+) (child-at t) child.Post
+child-returns-2 t c = ?
+
+abbrev children-Inv-loop : children-lts.InvT-loop
+children-Inv-loop w₀ at state left next₀ x₀ w next x = ?
+
+abbrev children-μ-loop : children-lts.MeasureT-loop
+children-μ-loop w₀ at state left next₀ x₀ w next x = ?
+
+-- src/lib.rt:45:5
+children-loop-holds :
+    (t : ℕ) →
+    children-lts.Need-loop-holds
+    (child-below t, child.Post)
+    (children-at t)
+    children.Post
+    children-Inv-loop
+    children-μ-loop
+children-loop-holds t c = ?
+
+-- src/lib.rt:46:9
+children-child-requires :
+    (t : ℕ) →
+    children-lts.Need-child-requires
+    (child-below t, child.Post)
+    (children-at t)
+    children.Post
+    children-Inv-loop
+    children-μ-loop
+children-child-requires t c κs = ?
+
+-- src/lib.rt:47:9
+children-add-x :
+    (t : ℕ) →
+    children-lts.Need-add-x
+    (child-below t, child.Post)
+    (children-at t)
+    children.Post
+    children-Inv-loop
+    children-μ-loop
+children-add-x t c = ?
+
+-- src/lib.rt:45:5
+children-loop-less :
+    (t : ℕ) →
+    children-lts.Need-loop-less
+    (child-below t, child.Post)
+    (children-at t)
+    children.Post
+    children-Inv-loop
+    children-μ-loop
+children-loop-less t c = ?
+
+-- src/lib.rt:45:5
+children-loop-again :
+    (t : ℕ) →
+    children-lts.Need-loop-again
+    (child-below t, child.Post)
+    (children-at t)
+    children.Post
+    children-Inv-loop
+    children-μ-loop
+children-loop-again t c = ?
+
+-- src/lib.rt:38:1
+children-same-length :
+    (t : ℕ) →
+    children-lts.Need-same-length
+    (child-below t, child.Post)
+    (children-at t)
+    children.Post
+    children-Inv-loop
+    children-μ-loop
+children-same-length t c = ?
+
+-- src/lib.rt:38:1
+children-returns :
+    (t : ℕ) →
+    children-lts.Need-returns
+    (child-below t, child.Post)
+    (children-at t)
+    children.Post
+    children-Inv-loop
+    children-μ-loop
+children-returns t c = ?
+
+-- src/lib.rt:28:8
+tree-is-end-requires : (t : ℕ) → tree-lts.Need-is-end-requires (
+  is-end-reads.Asked,
+  is-end-reads.Learnt,
+  end-word-reads.Asked,
+  end-word-reads.Learnt,
+  put-reads.Asked,
+  put-reads.Learnt,
+  children-below t,
+  children.Post,
+  node-word-reads.Asked,
+  node-word-reads.Learnt,
+) (tree-at t) tree.Post
+tree-is-end-requires t c κs = ?
+
+-- src/lib.rt:29:20
+tree-end-word-requires : (t : ℕ) → tree-lts.Need-end-word-requires (
+  is-end-reads.Asked,
+  is-end-reads.Learnt,
+  end-word-reads.Asked,
+  end-word-reads.Learnt,
+  put-reads.Asked,
+  put-reads.Learnt,
+  children-below t,
+  children.Post,
+  node-word-reads.Asked,
+  node-word-reads.Learnt,
+) (tree-at t) tree.Post
+tree-end-word-requires t c κs = ?
+
+-- src/lib.rt:29:9
+tree-put-requires : (t : ℕ) → tree-lts.Need-put-requires (
+  is-end-reads.Asked,
+  is-end-reads.Learnt,
+  end-word-reads.Asked,
+  end-word-reads.Learnt,
+  put-reads.Asked,
+  put-reads.Learnt,
+  children-below t,
+  children.Post,
+  node-word-reads.Asked,
+  node-word-reads.Learnt,
+) (tree-at t) tree.Post
+tree-put-requires t c κs = ?
+
+-- src/lib.rt:30:16
+tree-add-result : (t : ℕ) → tree-lts.Need-add-result (
+  is-end-reads.Asked,
+  is-end-reads.Learnt,
+  end-word-reads.Asked,
+  end-word-reads.Learnt,
+  put-reads.Asked,
+  put-reads.Learnt,
+  children-below t,
+  children.Post,
+  node-word-reads.Asked,
+  node-word-reads.Learnt,
+) (tree-at t) tree.Post
+tree-add-result t c = ?
+
+-- src/lib.rt:30:9
+tree-same-length : (t : ℕ) → tree-lts.Need-same-length (
+  is-end-reads.Asked,
+  is-end-reads.Learnt,
+  end-word-reads.Asked,
+  end-word-reads.Learnt,
+  put-reads.Asked,
+  put-reads.Learnt,
+  children-below t,
+  children.Post,
+  node-word-reads.Asked,
+  node-word-reads.Learnt,
+) (tree-at t) tree.Post
+tree-same-length t c = ?
+
+-- src/lib.rt:30:9
+tree-returns : (t : ℕ) → tree-lts.Need-returns (
+  is-end-reads.Asked,
+  is-end-reads.Learnt,
+  end-word-reads.Asked,
+  end-word-reads.Learnt,
+  put-reads.Asked,
+  put-reads.Learnt,
+  children-below t,
+  children.Post,
+  node-word-reads.Asked,
+  node-word-reads.Learnt,
+) (tree-at t) tree.Post
+tree-returns t c = ?
+
+-- src/lib.rt:32:28
+tree-add-children : (t : ℕ) → tree-lts.Need-add-children (
+  is-end-reads.Asked,
+  is-end-reads.Learnt,
+  end-word-reads.Asked,
+  end-word-reads.Learnt,
+  put-reads.Asked,
+  put-reads.Learnt,
+  children-below t,
+  children.Post,
+  node-word-reads.Asked,
+  node-word-reads.Learnt,
+) (tree-at t) tree.Post
+tree-add-children t c = ?
+
+-- src/lib.rt:32:43
+tree-sub-children : (t : ℕ) → tree-lts.Need-sub-children (
+  is-end-reads.Asked,
+  is-end-reads.Learnt,
+  end-word-reads.Asked,
+  end-word-reads.Learnt,
+  put-reads.Asked,
+  put-reads.Learnt,
+  children-below t,
+  children.Post,
+  node-word-reads.Asked,
+  node-word-reads.Learnt,
+) (tree-at t) tree.Post
+tree-sub-children t c = ?
+
+-- src/lib.rt:32:9
+tree-children-requires : (t : ℕ) → tree-lts.Need-children-requires (
+  is-end-reads.Asked,
+  is-end-reads.Learnt,
+  end-word-reads.Asked,
+  end-word-reads.Learnt,
+  put-reads.Asked,
+  put-reads.Learnt,
+  children-below t,
+  children.Post,
+  node-word-reads.Asked,
+  node-word-reads.Learnt,
+) (tree-at t) tree.Post
+tree-children-requires t c κs = ?
+
+-- src/lib.rt:33:33
+tree-sub-node-word : (t : ℕ) → tree-lts.Need-sub-node-word (
+  is-end-reads.Asked,
+  is-end-reads.Learnt,
+  end-word-reads.Asked,
+  end-word-reads.Learnt,
+  put-reads.Asked,
+  put-reads.Learnt,
+  children-below t,
+  children.Post,
+  node-word-reads.Asked,
+  node-word-reads.Learnt,
+) (tree-at t) tree.Post
+tree-sub-node-word t c = ?
+
+-- src/lib.rt:33:16
+tree-node-word-requires : (t : ℕ) → tree-lts.Need-node-word-requires (
+  is-end-reads.Asked,
+  is-end-reads.Learnt,
+  end-word-reads.Asked,
+  end-word-reads.Learnt,
+  put-reads.Asked,
+  put-reads.Learnt,
+  children-below t,
+  children.Post,
+  node-word-reads.Asked,
+  node-word-reads.Learnt,
+) (tree-at t) tree.Post
+tree-node-word-requires t c κs = ?
+
+-- src/lib.rt:33:5
+tree-put-requires-2 : (t : ℕ) → tree-lts.Need-put-requires-2 (
+  is-end-reads.Asked,
+  is-end-reads.Learnt,
+  end-word-reads.Asked,
+  end-word-reads.Learnt,
+  put-reads.Asked,
+  put-reads.Learnt,
+  children-below t,
+  children.Post,
+  node-word-reads.Asked,
+  node-word-reads.Learnt,
+) (tree-at t) tree.Post
+tree-put-requires-2 t c κs = ?
+
+-- src/lib.rt:23:1
+tree-same-length-2 : (t : ℕ) → tree-lts.Need-same-length-2 (
+  is-end-reads.Asked,
+  is-end-reads.Learnt,
+  end-word-reads.Asked,
+  end-word-reads.Learnt,
+  put-reads.Asked,
+  put-reads.Learnt,
+  children-below t,
+  children.Post,
+  node-word-reads.Asked,
+  node-word-reads.Learnt,
+) (tree-at t) tree.Post
+tree-same-length-2 t c = ?
+
+-- src/lib.rt:23:1
+tree-returns-2 : (t : ℕ) → tree-lts.Need-returns-2 (
+  is-end-reads.Asked,
+  is-end-reads.Learnt,
+  end-word-reads.Asked,
+  end-word-reads.Learnt,
+  put-reads.Asked,
+  put-reads.Learnt,
+  children-below t,
+  children.Post,
+  node-word-reads.Asked,
+  node-word-reads.Learnt,
+) (tree-at t) tree.Post
+tree-returns-2 t c = ?
+
+pub +child+children+tree-spec : {M : Type 1} → statement M
++child+children+tree-spec = close μ-child μ-children μ-tree (λ t. child-lts.spec (
+  is-move-reads.Asked,
+  is-move-reads.Learnt,
+  moved-reads.Asked,
+  moved-reads.Learnt,
+  tree-below t,
+  tree.Post,
+)
+    (child-at t)
+    child.Post
+    (child-is-move-requires t)
+    (child-moved-requires t)
+    (child-tree-requires t)
+    (child-same-length t)
+    (child-returns t)
+    (child-returns-2 t))
+    (λ t. children-lts.spec
+    (child-below t, child.Post)
+    (children-at t)
+    children.Post
+    children-Inv-loop
+    children-μ-loop
+    (children-loop-holds t)
+    (children-child-requires t)
+    (children-add-x t)
+    (children-loop-less t)
+    (children-loop-again t)
+    (children-same-length t)
+    (children-returns t))
+    λ t. tree-lts.spec (
+      is-end-reads.Asked,
+      is-end-reads.Learnt,
+      end-word-reads.Asked,
+      end-word-reads.Learnt,
+      put-reads.Asked,
+      put-reads.Learnt,
+      children-below t,
+      children.Post,
+      node-word-reads.Asked,
+      node-word-reads.Learnt,
+    )
+    (tree-at t)
+    tree.Post
+    (tree-is-end-requires t)
+    (tree-end-word-requires t)
+    (tree-put-requires t)
+    (tree-add-result t)
+    (tree-same-length t)
+    (tree-returns t)
+    (tree-add-children t)
+    (tree-sub-children t)
+    (tree-children-requires t)
+    (tree-sub-node-word t)
+    (tree-node-word-requires t)
+    (tree-put-requires-2 t)
+    (tree-same-length-2 t)
+    (tree-returns-2 t)

@@ -1,0 +1,4 @@
+-- Proofs of the builder of Leduc's tree.
+pub mod Numbers
+pub mod Ends
+pub mod Following
