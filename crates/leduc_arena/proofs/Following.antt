@@ -10,7 +10,7 @@ use lib.ListN.{length, set}
 use borrow.Author.Tests.{eq-eqb, ne-eqb, eqb-true, eqb-false, not-true}
 use Rattle.finite.specs.Finite.{and, or, those}
 use Rattle.finite.proofs.Lists.{those-kept, those-passed}
-use Rattle.finite.proofs.Tests.{Tested, holds, fails, tested, or-left, or-rest, or-cases, or-false-left, or-false-right, and-left, and-right}
+use Rattle.finite.proofs.Tests.{Tested, holds, fails, tested, or-left, or-rest, or-cases, both, or-false-left, or-false-right, and-left, and-right}
 use Rattle.game.specs.Tree.{Tree, end, chance, decide, Trees, nil, cons, fan}
 use Rattle.game.specs.Sets.{size, sizes}
 use Rattle.arena.specs.Words.{chanceWord, decisionWord}
@@ -18,16 +18,21 @@ use Rattle.arena.specs.Held.{Says}
 use Rattle.arena.specs.Index.{unlinked}
 use Rattle.arena.specs.Built.{Built, Row}
 use Rattle.arena.proofs.Packing.{kind-of, actor-of, actions-of, set-of, next-of, later-of, chance-kind, chance-next}
-use Rattle.arena.proofs.Building.{size-some, row-none, row-join, join, sizes-join, built-chance, built-decide, built-end}
+use Rattle.arena.proofs.Building.{size-some, row-none, row-one, row-join, join, sizes-join, built-chance, built-decide, built-end}
 use Rattle.leduc_betting.specs.Betting.{may, options, in-play}
-use Rattle.leduc_betting.specs.Cards.{seen, left, remaining}
+use Rattle.leduc_betting.specs.Cards.{remaining}
 use Rattle.leduc_betting.proofs.Deals.{at-most-one, those-counted}
 use Rattle.leduc_rules.specs.Stakes.{ante, raise₁, raise₂}
+use Rattle.leduc_rules.specs.Reached as Reached
+use Rattle.leduc_rules.proofs.Moves.{possible-all, reached-parts}
+use Rattle.leduc_betting.specs.declared.Public.the-variants.{Hidden}
 use Rattle.leduc_positions.specs.declared.LeducState.{LeducState}
-use Rattle.leduc_tree.specs.Tree.{Position, dealt, acted, due, ended, actor, choices, key, payoff, next, each, below}
+use Rattle.leduc_positions.specs.Positions.{initial, reachable}
+use Rattle.leduc_tree.specs.Tree.{Position, acted, due, ended, actor, choices, key, payoff, next, each, below, fuel, leducTree}
+use Rattle.leduc_tree.proofs.Facts.{counts}
 use Rattle.leduc_arena.specs.Codes.{codeOf, codes}
-use Rattle.leduc_arena.specs.Layout.{positionOf, treeAt, isOver, isEnd, isMove, moved, childrenTo, childAt, nodeOf, nodeWord, Ends, Going, Moving, Room}
-use Rattle.leduc_arena.proofs.Going.{code-small, one-of-two}
+use Rattle.leduc_arena.specs.Layout.{positionOf, treeAt, isOver, isEnd, isMove, moved, movedState, childrenTo, childAt, nodeOf, nodeWord, Ends, Going, Moving, Room}
+use Rattle.leduc_arena.proofs.Going.{code-small, one-of-two, state-moved, moves-on}
 
 -- ---- where the tree is an end
 module _ (q : Position) (k : ℕ) where
@@ -211,6 +216,40 @@ module _ (q : Position) (k at : ℕ) (w : List ℕ) (g : Room at w (sizes (child
     pub row-on : (u : List ℕ) (i : ℕ) → Row 2 codeOf r v u (childAt q k x) i → Row 2 codeOf at w u (childrenTo q k (x + 1)) i
     row-on u i h = let e : x + 1 ≡ suc x = omega arith in rw (e, children-more q k x) (row-join 2 codeOf at w v u (childrenTo q k x) (childAt q k x) r i b h)
 
-pub room-one : (at : ℕ) (w : List ℕ) (f : Trees) (t : Tree) → f ≡ cons t nil → Room at w (sizes f) → Room at w (size t)
+room-one : (at : ℕ) (w : List ℕ) (f : Trees) (t : Tree) → f ≡ cons t nil → Room at w (sizes f) → Room at w (size t)
 unfolding size
 room-one at w f t e g = let q : sizes f ≡ size t = ap sizes e ∙ NatL.add-zero (size t) in rw (← q) g
+
+-- ---- the tree below a move
+module _ (s t : LeducState) (k x : ℕ) (m : Moving s k) (e : t ≡ movedState s x) (f : isMove (positionOf s) x ≡ true) where
+  pub move-goes : Going t k
+  move-goes = rw e (moves-on s k m x f)
+
+  move-child : childAt (positionOf s) k x ≡ cons (treeAt (positionOf t) k) nil
+  move-child = child-some (positionOf s) k x f ∙ ap (λ q. cons (treeAt q k) nil) (sym (ap positionOf e ∙ state-moved s k m x))
+
+  pub move-room : (at : ℕ) (w : List ℕ) → Room at w (sizes (childAt (positionOf s) k x)) → Room at w (size (treeAt (positionOf t) k))
+  move-room at w g = room-one at w _ _ move-child g
+
+  pub move-row : (at : ℕ) (w v : List ℕ) (r : ℕ) → Built 2 codeOf at w v (treeAt (positionOf t) k) r → Row 2 codeOf at w v (childAt (positionOf s) k x) r
+  move-row at w v r b = rw move-child (row-one 2 codeOf at w v (treeAt (positionOf t) k) r b)
+
+-- ---- the tree from the start
+pub whole-tree : (s : LeducState) → s ≡ initial → treeAt (positionOf s) fuel ≡ leducTree ante raise₁ raise₂
+unfolding treeAt leducTree
+whole-tree s e = ap (λ t. treeAt (positionOf t) fuel) e
+
+pub start-goes : (s : LeducState) → s ≡ initial → Going s fuel
+unfolding reachable
+start-goes s e = rw e (record {
+      reached = both (both refl (both refl refl)) (possible-all [] Hidden [] [] (reached-parts Reached.start));
+      enough = omega arith;
+      pair = refl;
+      places = refl;
+    })
+
+pub whole-room : (s : LeducState) (w : List ℕ) → s ≡ initial → 9457 ≤ length w → Room 0 w (size (treeAt (positionOf s) fuel))
+whole-room s w e l = let n : size (treeAt (positionOf s) fuel) ≡ 9457 = ap size (whole-tree s e) ∙ counts ante raise₁ raise₂ .0 in record { words = omega arith; places = omega arith }
+
+pub whole-built : (s : LeducState) (w v : List ℕ) (r : ℕ) → s ≡ initial → Built 2 codeOf 0 w v (treeAt (positionOf s) fuel) r → Built 2 codeOf 0 w v (leducTree ante raise₁ raise₂) r
+whole-built s w v r e b = subst (λ t. Built 2 codeOf 0 w v t r) (whole-tree s e) b

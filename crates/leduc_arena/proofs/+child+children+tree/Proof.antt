@@ -1,3 +1,14 @@
+use denote.Ref.{now}
+use mathlib.Core.Path.{_≡_, refl, sym, ap, _∙_, subst}
+use Prim.Native.Nat.{_+_, _*_, _-_, _≤_}
+use native.Mathlib.Omega.{arith}
+use borrow.Author.Needs.{needs}
+use Rattle.arena.specs.Built.{Row}
+use Rattle.arena.proofs.Building.{row-none}
+use Rattle.leduc_arena.specs.Codes.{codeOf}
+use Rattle.leduc_arena.specs.Layout.{positionOf, childrenTo}
+use Rattle.leduc_arena.proofs.Going.{short, room-left, end-dealt}
+use Rattle.leduc_arena.proofs.Following as following
 use Prim.Native.Nat.{ℕ, _<_}
 use borrow.Fn.Kinds.{In}
 use borrow.Fn.PlainCycle.{Measures, is, falls, and}
@@ -20,13 +31,13 @@ use Rattle.leduc_arena.proofs.+child+children+tree.{statement}
 use Rattle.leduc_arena.proofs.+child+children+tree.Tie.{close}
 
 abbrev μ-child : Measures 1 child-kinds.ps ℕ
-μ-child κs a = ?
+μ-child κs a = 3 * a .1 .1 .1 .0 + 1
 
 abbrev μ-children : Measures 1 children-kinds.ps ℕ
-μ-children κs a = ?
+μ-children κs a = 3 * a .1 .1 .1 .0 + 2
 
 abbrev μ-tree : Measures 1 tree-kinds.ps ℕ
-μ-tree κs a = ?
+μ-tree κs a = 3 * a .1 .1 .1 .0
 
 abbrev child-at : ℕ → In 1 child-kinds.ps
 child-at t = and 1 child-kinds.ps (is 1 child-kinds.ps μ-child t) child.Pre
@@ -56,7 +67,7 @@ child-is-move-requires : (t : ℕ) → child-lts.Need-is-move-requires (
   tree-below t,
   tree.Post,
 ) (child-at t) child.Post
-child-is-move-requires t c κs = ?
+child-is-move-requires t c κs = short _ _ (c .before .pre .1 .0 .0 .going)
 
 -- src/lib.rt:59:28
 child-moved-requires : (t : ℕ) → child-lts.Need-moved-requires (
@@ -67,7 +78,7 @@ child-moved-requires : (t : ℕ) → child-lts.Need-moved-requires (
   tree-below t,
   tree.Post,
 ) (child-at t) child.Post
-child-moved-requires t c κs = ?
+child-moved-requires t c κs = (short _ _ (c .before .before .before .before .pre .1 .0 .0 .going), room-left _ _ (c .before .before .before .before .pre .1 .0 .0))
 
 -- src/lib.rt:59:9
 child-tree-requires : (t : ℕ) → child-lts.Need-tree-requires (
@@ -78,7 +89,11 @@ child-tree-requires : (t : ℕ) → child-lts.Need-tree-requires (
   tree-below t,
   tree.Post,
 ) (child-at t) child.Post
-child-tree-requires t c κs = ?
+child-tree-requires t c κs =
+    let m = c .before .before .before .before .before .pre .1 .0 .0 in
+    let e = c .moved .ensures in
+    let f = sym (c .before .before .before .is-move .ensures) ∙ c .before .before .if1 .taken in
+    (omega (arith, c .before .before .before .before .before .pre .0), (following.move-goes _ _ _ _ m e f, following.move-room _ _ _ _ m e f _ _ (c .before .before .before .before .before .pre .1 .1)))
 
 -- src/lib.rt:59:9
 child-same-length : (t : ℕ) → child-lts.Need-same-length (
@@ -89,7 +104,7 @@ child-same-length : (t : ℕ) → child-lts.Need-same-length (
   tree-below t,
   tree.Post,
 ) (child-at t) child.Post
-child-same-length t c = ?
+child-same-length t c = search needs
 
 -- src/lib.rt:59:9
 child-returns : (t : ℕ) → child-lts.Need-returns (
@@ -100,7 +115,9 @@ child-returns : (t : ℕ) → child-lts.Need-returns (
   tree-below t,
   tree.Post,
 ) (child-at t) child.Post
-child-returns t c = ?
+child-returns t c =
+    let f = sym (c .before .before .before .before .before .before .is-move .ensures) ∙ c .before .before .before .before .before .if1 .taken in
+    following.move-row _ _ _ _ (c .before .before .before .before .before .before .before .before .pre .1 .0 .0) (c .before .before .before .moved .ensures) f _ _ _ _ (c .before .before .tree .ensures)
 
 -- src/lib.rt:53:1
 child-returns-2 : (t : ℕ) → child-lts.Need-returns-2 (
@@ -111,13 +128,13 @@ child-returns-2 : (t : ℕ) → child-lts.Need-returns-2 (
   tree-below t,
   tree.Post,
 ) (child-at t) child.Post
-child-returns-2 t c = ?
+child-returns-2 t c = rw (following.child-none (positionOf (c .before .before .before .args .state)) (c .before .before .before .args .left) (c .before .before .before .args .x) (sym (c .before .is-move .ensures) ∙ c .if1 .left)) (row-none _ _ _ _)
 
 abbrev children-Inv-loop : children-lts.InvT-loop
-children-Inv-loop w₀ at state left next₀ x₀ w next x = ?
+children-Inv-loop w₀ at state left next₀ x₀ w next x = Row 2 codeOf at w₀ w (childrenTo (positionOf state) left x) next × (x ≤ 6)
 
 abbrev children-μ-loop : children-lts.MeasureT-loop
-children-μ-loop w₀ at state left next₀ x₀ w next x = ?
+children-μ-loop w₀ at state left next₀ x₀ w next x = 6 - x
 
 -- src/lib.rt:45:5
 children-loop-holds :
@@ -128,7 +145,7 @@ children-loop-holds :
     children.Post
     children-Inv-loop
     children-μ-loop
-children-loop-holds t c = ?
+children-loop-holds t c = (following.row-start (positionOf (c .before .args .state)) (c .before .args .left) (c .before .args .at) (now (c .before .args .w)) (c .before .pre .1 .1), omega arith)
 
 -- src/lib.rt:46:9
 children-child-requires :
@@ -139,7 +156,9 @@ children-child-requires :
     children.Post
     children-Inv-loop
     children-μ-loop
-children-child-requires t c κs = ?
+children-child-requires t c κs =
+    let i = c .before .before .loop .inv in
+    (omega (arith, c .before .before .before .before .pre .0), ((c .before .before .before .before .pre .1 .0, c .before .loop-test .taken), following.child-room _ _ _ _ (c .before .before .before .before .pre .1 .1) _ _ _ (c .before .loop-test .taken) (i .0)))
 
 -- src/lib.rt:47:9
 children-add-x :
@@ -150,7 +169,7 @@ children-add-x :
     children.Post
     children-Inv-loop
     children-μ-loop
-children-add-x t c = ?
+children-add-x t c = omega (arith, c .before .before .before .before .loop-test .taken)
 
 -- src/lib.rt:45:5
 children-loop-less :
@@ -161,7 +180,7 @@ children-loop-less :
     children.Post
     children-Inv-loop
     children-μ-loop
-children-loop-less t c = ?
+children-loop-less t c = omega (arith, c .before .before .before .before .loop-test .taken)
 
 -- src/lib.rt:45:5
 children-loop-again :
@@ -172,7 +191,7 @@ children-loop-again :
     children.Post
     children-Inv-loop
     children-μ-loop
-children-loop-again t c = ?
+children-loop-again t c = (following.row-on _ _ _ _ (c .before .before .before .before .before .before .before .pre .1 .1) _ _ _ (c .before .before .before .before .loop-test .taken) (c .before .before .before .before .before .loop .inv .0) _ _ (c .before .before .child .ensures), omega (arith, c .before .before .before .before .loop-test .taken))
 
 -- src/lib.rt:38:1
 children-same-length :
@@ -183,7 +202,7 @@ children-same-length :
     children.Post
     children-Inv-loop
     children-μ-loop
-children-same-length t c = ?
+children-same-length t c = c .before .loop .inv .0 .kept .long
 
 -- src/lib.rt:38:1
 children-returns :
@@ -194,7 +213,10 @@ children-returns :
     children.Post
     children-Inv-loop
     children-μ-loop
-children-returns t c = ?
+children-returns t c =
+    let i = c .before .loop .inv in
+    let e : c .before .loop .x ≡ 6 = omega (arith, i .1, c .loop-test .left) in
+    subst (λ n. Row 2 codeOf (c .before .before .before .args .at) (now (c .before .before .before .args .w)) (c .before .loop .w) (childrenTo (positionOf (c .before .before .before .args .state)) (c .before .before .before .args .left) n) (c .before .loop .next)) e (i .0)
 
 -- src/lib.rt:28:8
 tree-is-end-requires : (t : ℕ) → tree-lts.Need-is-end-requires (
@@ -209,7 +231,7 @@ tree-is-end-requires : (t : ℕ) → tree-lts.Need-is-end-requires (
   node-word-reads.Asked,
   node-word-reads.Learnt,
 ) (tree-at t) tree.Post
-tree-is-end-requires t c κs = ?
+tree-is-end-requires t c κs = short _ _ (c .before .pre .1 .0)
 
 -- src/lib.rt:29:20
 tree-end-word-requires : (t : ℕ) → tree-lts.Need-end-word-requires (
@@ -224,7 +246,9 @@ tree-end-word-requires : (t : ℕ) → tree-lts.Need-end-word-requires (
   node-word-reads.Asked,
   node-word-reads.Learnt,
 ) (tree-at t) tree.Post
-tree-end-word-requires t c κs = ?
+tree-end-word-requires t c κs =
+    let u = short _ _ (c .before .before .before .before .pre .1 .0) in
+    (end-dealt _ _ (c .before .before .before .before .pre .1 .0) (sym (c .before .before .is-end .ensures) ∙ c .before .if1 .taken), u .1, u .2)
 
 -- src/lib.rt:29:9
 tree-put-requires : (t : ℕ) → tree-lts.Need-put-requires (
@@ -239,7 +263,7 @@ tree-put-requires : (t : ℕ) → tree-lts.Need-put-requires (
   node-word-reads.Asked,
   node-word-reads.Learnt,
 ) (tree-at t) tree.Post
-tree-put-requires t c κs = ?
+tree-put-requires t c κs = search needs
 
 -- src/lib.rt:30:16
 tree-add-result : (t : ℕ) → tree-lts.Need-add-result (
@@ -254,7 +278,7 @@ tree-add-result : (t : ℕ) → tree-lts.Need-add-result (
   node-word-reads.Asked,
   node-word-reads.Learnt,
 ) (tree-at t) tree.Post
-tree-add-result t c = ?
+tree-add-result t c = record { fits = omega (arith, c .before .before .before .before .before .before .before .before .pre .1 .1 .places) }
 
 -- src/lib.rt:30:9
 tree-same-length : (t : ℕ) → tree-lts.Need-same-length (
@@ -269,7 +293,7 @@ tree-same-length : (t : ℕ) → tree-lts.Need-same-length (
   node-word-reads.Asked,
   node-word-reads.Learnt,
 ) (tree-at t) tree.Post
-tree-same-length t c = ?
+tree-same-length t c = search needs
 
 -- src/lib.rt:30:9
 tree-returns : (t : ℕ) → tree-lts.Need-returns (
@@ -284,7 +308,7 @@ tree-returns : (t : ℕ) → tree-lts.Need-returns (
   node-word-reads.Asked,
   node-word-reads.Learnt,
 ) (tree-at t) tree.Post
-tree-returns t c = ?
+tree-returns t c = following.lays-end _ _ _ _ (c .before .before .before .before .before .before .before .before .pre .1 .0) (c .before .before .before .before .before .before .before .before .pre .1 .1) _ _ (sym (c .before .before .before .before .before .before .is-end .ensures) ∙ c .before .before .before .before .before .if1 .taken) (c .before .before .before .end-word .ensures) (c .before .before .put .ensures)
 
 -- src/lib.rt:32:28
 tree-add-children : (t : ℕ) → tree-lts.Need-add-children (
@@ -299,7 +323,7 @@ tree-add-children : (t : ℕ) → tree-lts.Need-add-children (
   node-word-reads.Asked,
   node-word-reads.Learnt,
 ) (tree-at t) tree.Post
-tree-add-children t c = ?
+tree-add-children t c = record { fits = omega (arith, c .before .before .before .before .pre .1 .1 .places) }
 
 -- src/lib.rt:32:43
 tree-sub-children : (t : ℕ) → tree-lts.Need-sub-children (
@@ -314,7 +338,7 @@ tree-sub-children : (t : ℕ) → tree-lts.Need-sub-children (
   node-word-reads.Asked,
   node-word-reads.Learnt,
 ) (tree-at t) tree.Post
-tree-sub-children t c = ?
+tree-sub-children t c = omega (arith, following.some-left _ _ _ _ (c .before .before .before .before .pre .1 .0) (c .before .before .before .before .pre .1 .1) (sym (c .before .before .is-end .ensures) ∙ c .before .if1 .left))
 
 -- src/lib.rt:32:9
 tree-children-requires : (t : ℕ) → tree-lts.Need-children-requires (
@@ -329,7 +353,11 @@ tree-children-requires : (t : ℕ) → tree-lts.Need-children-requires (
   node-word-reads.Asked,
   node-word-reads.Learnt,
 ) (tree-at t) tree.Post
-tree-children-requires t c κs = ?
+tree-children-requires t c κs =
+    let p = c .before .before .before .before .pre .1 .0 in
+    let g = c .before .before .before .before .pre .1 .1 in
+    let e = sym (c .before .before .is-end .ensures) ∙ c .before .if1 .left in
+    (omega (arith, c .before .before .before .before .pre .0, following.some-left _ _ _ _ p g e), (following.moving _ _ _ _ p g e, following.row-room _ _ _ _ p g e))
 
 -- src/lib.rt:33:33
 tree-sub-node-word : (t : ℕ) → tree-lts.Need-sub-node-word (
@@ -344,7 +372,7 @@ tree-sub-node-word : (t : ℕ) → tree-lts.Need-sub-node-word (
   node-word-reads.Asked,
   node-word-reads.Learnt,
 ) (tree-at t) tree.Post
-tree-sub-node-word t c = ?
+tree-sub-node-word t c = omega (arith, following.some-left _ _ _ _ (c .before .before .before .before .before .before .before .before .pre .1 .0) (c .before .before .before .before .before .before .before .before .pre .1 .1) (sym (c .before .before .before .before .before .before .is-end .ensures) ∙ c .before .before .before .before .before .if1 .left))
 
 -- src/lib.rt:33:16
 tree-node-word-requires : (t : ℕ) → tree-lts.Need-node-word-requires (
@@ -359,7 +387,11 @@ tree-node-word-requires : (t : ℕ) → tree-lts.Need-node-word-requires (
   node-word-reads.Asked,
   node-word-reads.Learnt,
 ) (tree-at t) tree.Post
-tree-node-word-requires t c κs = ?
+tree-node-word-requires t c κs =
+    let p = c .before .before .before .before .before .before .before .before .pre .1 .0 in
+    let g = c .before .before .before .before .before .before .before .before .pre .1 .1 in
+    let e = sym (c .before .before .before .before .before .before .is-end .ensures) ∙ c .before .before .before .before .before .if1 .left in
+    (following.moving _ _ _ _ p g e, following.behind-few _ _ _ _ p g e _ _ (c .before .before .before .children .ensures))
 
 -- src/lib.rt:33:5
 tree-put-requires-2 : (t : ℕ) → tree-lts.Need-put-requires-2 (
@@ -374,7 +406,7 @@ tree-put-requires-2 : (t : ℕ) → tree-lts.Need-put-requires-2 (
   node-word-reads.Asked,
   node-word-reads.Learnt,
 ) (tree-at t) tree.Post
-tree-put-requires-2 t c κs = ?
+tree-put-requires-2 t c κs = search needs
 
 -- src/lib.rt:23:1
 tree-same-length-2 : (t : ℕ) → tree-lts.Need-same-length-2 (
@@ -389,7 +421,7 @@ tree-same-length-2 : (t : ℕ) → tree-lts.Need-same-length-2 (
   node-word-reads.Asked,
   node-word-reads.Learnt,
 ) (tree-at t) tree.Post
-tree-same-length-2 t c = ?
+tree-same-length-2 t c = search needs
 
 -- src/lib.rt:23:1
 tree-returns-2 : (t : ℕ) → tree-lts.Need-returns-2 (
@@ -404,7 +436,7 @@ tree-returns-2 : (t : ℕ) → tree-lts.Need-returns-2 (
   node-word-reads.Asked,
   node-word-reads.Learnt,
 ) (tree-at t) tree.Post
-tree-returns-2 t c = ?
+tree-returns-2 t c = following.lays-node _ _ _ _ (c .before .before .before .before .before .before .before .before .before .before .before .before .pre .1 .0) (c .before .before .before .before .before .before .before .before .before .before .before .before .pre .1 .1) (sym (c .before .before .before .before .before .before .before .before .before .before .is-end .ensures) ∙ c .before .before .before .before .before .before .before .before .before .if1 .left) _ _ (c .before .before .before .before .before .before .before .children .ensures) _ _ (c .before .before .before .node-word .ensures) (c .before .before .put2 .ensures)
 
 pub +child+children+tree-spec : {M : Type 1} → statement M
 +child+children+tree-spec = close μ-child μ-children μ-tree (λ t. child-lts.spec (
