@@ -1,5 +1,5 @@
 -- The word of an end: no payoff is too large for its byte. Assumes nothing.
-use mathlib.Core.Path.{_≡_, refl, sym, ap, _∙_}
+use mathlib.Core.Path.{_≡_, _∙_}
 use mathlib.Core.Bool.{Bool, true, false, cond}
 use mathlib.Core.List.{List, [], _∷_}
 use Prim.Native.Nat.{ℕ, zero, suc, _-_, _≤_, _<_, zero-le}
@@ -12,9 +12,9 @@ use Rattle.arena.specs.Payoffs.{Pays}
 use Rattle.arena.proofs.Bytes.{bits, bits-of}
 use Rattle.game.proofs.Integers.{size-of-loss}
 use Rattle.leduc_betting.specs.declared.Public.{Public}
-use Rattle.leduc_rules.specs.Rules.{after-round, contribution, wins, payoff}
+use Rattle.leduc_rules.specs.Rules.{contribution, wins, payoff}
 use Rattle.leduc_rules.specs.declared.Pot.{Pot}
-use Rattle.leduc_rules.proofs.Pots.{pot-of, Within, paid-bound}
+use Rattle.leduc_rules.proofs.Pots.{Within, paid-bound}
 use Rattle.leduc_positions.specs.declared.LeducState.{LeducState}
 use Rattle.leduc_positions.specs.Positions.{cardsOf, roundOne, roundTwo, payoff-of}
 use Rattle.leduc_arena.specs.Layout.{Ends}

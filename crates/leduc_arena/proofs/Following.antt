@@ -1,5 +1,5 @@
 -- The tree below a position: an end, or a node over the trees of its moves; and these written one after the other. Assumes nothing.
-use mathlib.Core.Path.{_≡_, refl, sym, ap, ap₂, _∙_, subst}
+use mathlib.Core.Path.{_≡_, refl, sym, ap, _∙_, subst}
 use mathlib.Core.Bool.{Bool, true, false, not, cond}
 use mathlib.Core.List.{List, [], _∷_, _++_, map}
 use Prim.Native.Nat.{ℕ, zero, suc, _+_, _-_, _≤_, _<_}
@@ -10,7 +10,7 @@ use lib.ListN.{length, set}
 use borrow.Author.Tests.{eq-eqb, ne-eqb, eqb-true, eqb-false, not-true}
 use Rattle.finite.specs.Finite.{and, or, those}
 use Rattle.finite.proofs.Lists.{those-kept, those-passed}
-use Rattle.finite.proofs.Tests.{Tested, holds, fails, tested, or-left, or-rest, or-cases, both, or-false-left, or-false-right, and-left, and-right}
+use Rattle.finite.proofs.Tests.{Tested, holds, fails, tested, or-left, or-cases, both, or-false-left, or-false-right, and-left, and-right}
 use Rattle.game.specs.Tree.{Tree, end, chance, decide, Trees, nil, cons, fan}
 use Rattle.game.specs.Sets.{size, sizes}
 use Rattle.arena.specs.Words.{chanceWord, decisionWord}
@@ -133,13 +133,14 @@ decision-says q at r f a c n l e =
     let j : actor q < 8 = omega arith in
     let i : length (choices q) < 4 = omega (arith, options-few (in-play (q .first) (q .second))) in
     let d : codeOf (actor q) (key q) < 16384 = omega arith in
-    let z : 0 < 2097152 = omega arith in
-    ( kind-of (actor q) (length (choices q)) (codeOf (actor q) (key q)) r 0 j i d l z
-    , actor-of (actor q) (length (choices q)) (codeOf (actor q) (key q)) r 0 j i d l z
-    , actions-of (actor q) (length (choices q)) (codeOf (actor q) (key q)) r 0 j i d l z ∙ sym n
-    , set-of (actor q) (length (choices q)) (codeOf (actor q) (key q)) r 0 j i d l z
-    , next-of (actor q) (length (choices q)) (codeOf (actor q) (key q)) r 0 j i d l z ∙ e
-    , later-of (actor q) (length (choices q)) (codeOf (actor q) (key q)) r 0 j i d l z )
+    let z : 0 < 2097152 = omega arith in (
+      kind-of (actor q) (length (choices q)) (codeOf (actor q) (key q)) r 0 j i d l z,
+      actor-of (actor q) (length (choices q)) (codeOf (actor q) (key q)) r 0 j i d l z,
+      actions-of (actor q) (length (choices q)) (codeOf (actor q) (key q)) r 0 j i d l z ∙ sym n,
+      set-of (actor q) (length (choices q)) (codeOf (actor q) (key q)) r 0 j i d l z,
+      next-of (actor q) (length (choices q)) (codeOf (actor q) (key q)) r 0 j i d l z ∙ e,
+      later-of (actor q) (length (choices q)) (codeOf (actor q) (key q)) r 0 j i d l z,
+    )
 
 -- ---- a tree, laid out
 module _ (s : LeducState) (k at : ℕ) (w : List ℕ) (p : Going s k) (g : Room at w (size (treeAt (positionOf s) k))) where
@@ -242,11 +243,11 @@ whole-tree s e = ap (λ t. treeAt (positionOf t) fuel) e
 pub start-goes : (s : LeducState) → s ≡ initial → Going s fuel
 unfolding reachable
 start-goes s e = rw e (record {
-      reached = both (both refl (both refl refl)) (possible-all [] Hidden [] [] (reached-parts Reached.start));
-      enough = omega arith;
-      pair = refl;
-      places = refl;
-    })
+  reached = both (both refl (both refl refl)) (possible-all [] Hidden [] [] (reached-parts Reached.start));
+  enough = omega arith;
+  pair = refl;
+  places = refl;
+})
 
 pub whole-room : (s : LeducState) (w : List ℕ) → s ≡ initial → 9457 ≤ length w → Room 0 w (size (treeAt (positionOf s) fuel))
 whole-room s w e l = let n : size (treeAt (positionOf s) fuel) ≡ 9457 = ap size (whole-tree s e) ∙ counts ante raise₁ raise₂ .0 in record { words = omega arith; places = omega arith }

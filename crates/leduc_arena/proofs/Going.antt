@@ -1,18 +1,17 @@
 -- The positions that the builder goes through: what the rules say of one, and that a move leads to another. Assumes nothing.
 use mathlib.Core.Path.{_≡_, refl, sym, ap, ap₂, _∙_, subst}
-use mathlib.Core.Bool.{Bool, true, false, not, cond}
-use mathlib.Core.List.{List, [], _∷_, _++_}
-use Prim.Native.Nat.{ℕ, suc, _+_, _%_, _≤_, _<_}
+use mathlib.Core.Bool.{true, false, not}
+use mathlib.Core.List.{List}
+use Prim.Native.Nat.{ℕ, suc, _+_, _≤_, _<_}
 use native.Mathlib.Nat as NatL
 use native.Mathlib.Omega.{arith}
 use lib.Dec.{eqb, ltb}
 use lib.ListN.{length, getD, set, take, drop, length-set, length-drop}
-use lib.Seq.{take-suc-set, take-set-le, drop-set-lt, drop-set-add, getD-take, length-take-le}
-use borrow.Author.Tests.{eq-eqb, eqb-true, le-leb, lt-ltb, le-ltb, ltb-true, ltb-false}
+use lib.Seq.{take-suc-set, take-set-le, drop-set-lt, drop-set-add, getD-take}
+use borrow.Author.Tests.{eq-eqb, eqb-true, le-leb, ltb-true, ltb-false}
 use Rattle.finite.specs.Finite.{and, or}
-use Rattle.finite.proofs.Tests.{Tested, holds, fails, tested, true≢false, both, neither, and-right, or-cases, or-rest}
-use Rattle.leduc_betting.specs.Betting.{folded, closes, open-round, may, options, in-play, turn}
-use Rattle.leduc_betting.specs.Cards.{seen, left}
+use Rattle.finite.proofs.Tests.{Tested, holds, fails, tested, true≢false, both, neither, and-right, or-cases}
+use Rattle.leduc_betting.specs.Betting.{closes, in-play, turn}
 use Rattle.leduc_betting.proofs.Rounds.{open-short}
 use Rattle.leduc_rules.specs.Rules.{public-due, live, legal, shown-public}
 use Rattle.leduc_rules.specs.Rules as Rules
@@ -125,11 +124,11 @@ module _ (s : LeducState) (k : ℕ) (m : Moving s k) (x : ℕ) where
   going-on : (t : LeducState) → positionOf t ≡ moved (positionOf s) x → isMove (positionOf s) x ≡ true → t .dealt ≤ 2 → t .acted1 ≤ 4 → t .acted2 ≤ 4 → 2 ≤ t .dealt + k → length (t .cards) ≡ 2 → length (t .history) ≡ 8 → Going t k
   unfolding reachable
   going-on t e w d a b n two eight = record {
-        reached = both (both (le-leb _ _ d) (both (le-leb _ _ a) (le-leb _ _ b))) (possible-all _ _ _ _ (reached-parts (subst Reachable (sym e) (reach-moved (positionOf s) x (parts-reached _ _ _ _ (parts s (k + 1) (m .going))) (m .on) w))));
-        enough = n;
-        pair = two;
-        places = eight;
-      }
+    reached = both (both (le-leb _ _ d) (both (le-leb _ _ a) (le-leb _ _ b))) (possible-all _ _ _ _ (reached-parts (subst Reachable (sym e) (reach-moved (positionOf s) x (parts-reached _ _ _ _ (parts s (k + 1) (m .going))) (m .on) w))));
+    enough = n;
+    pair = two;
+    places = eight;
+  }
 
   pub moves-on : isMove (positionOf s) x ≡ true → Going (movedState s x) k
   moves-on w = at (tested (due (positionOf s))) (tested (ltb (s .dealt) 2)) (tested (closes (roundOne s)))

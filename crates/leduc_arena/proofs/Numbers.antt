@@ -1,5 +1,5 @@
 -- The number of a history and the code of a set: how they are counted up, and how small they stay. Assumes nothing.
-use mathlib.Core.Path.{_≡_, refl, sym, ap, ap₂, _∙_}
+use mathlib.Core.Path.{_≡_, refl, ap, ap₂, _∙_}
 use mathlib.Core.Bool.{Bool, true, false, not, cond}
 use mathlib.Core.List.{List, [], _∷_, _++_}
 use Prim.Native.Nat.{ℕ, suc, _+_, _*_, _^_, _≤_, _<_}
@@ -7,13 +7,13 @@ use native.Mathlib.Nat as NatL
 use native.Mathlib.Numerals.{add-one}
 use native.Mathlib.Omega.{arith}
 use lib.Dec.{ltb, leb}
-use lib.ListN.{length, getD, take, drop, drop-of-length-le}
+use lib.ListN.{length, getD, drop, drop-of-length-le}
 use lib.Seq.{drop-cons, take-at, drop-append-add}
 use borrow.Author.Tests.{ltb-true, leb-true, leb-false, not-true}
 use Rattle.finite.specs.Finite.{and, or, some}
 use Rattle.finite.proofs.Tests.{Tested, holds, fails, tested, true≢false, and-left, and-right, or-cases, none-at}
 use Rattle.leduc_betting.specs.Betting.{ends-with, folded, closes, open-round, played}
-use Rattle.leduc_betting.specs.Cards.{seen, strange}
+use Rattle.leduc_betting.specs.Cards.{strange}
 use Rattle.leduc_betting.specs.declared.Public.{Public}
 use Rattle.leduc_betting.specs.declared.Public.the-variants.{Hidden, Card}
 use Rattle.leduc_betting.proofs.Rounds.{all-of, rounds, round-rule}

@@ -1,5 +1,6 @@
+-- A tree, the trees below its moves, and the tree below one move: what is still to come falls at each call. Assumes nothing.
 use denote.Ref.{now}
-use mathlib.Core.Path.{_≡_, refl, sym, ap, _∙_, subst}
+use mathlib.Core.Path.{_≡_, sym, _∙_, subst}
 use Prim.Native.Nat.{_+_, _*_, _-_, _≤_}
 use native.Mathlib.Omega.{arith}
 use borrow.Author.Needs.{needs}
@@ -58,7 +59,6 @@ tree-at t = and 1 tree-kinds.ps (is 1 tree-kinds.ps μ-tree t) tree.Pre
 abbrev tree-below : ℕ → In 1 tree-kinds.ps
 tree-below t = and 1 tree-kinds.ps (falls 1 tree-kinds.ps _<_ μ-tree t) tree.Pre
 
--- src/lib.rt:58:8
 child-is-move-requires : (t : ℕ) → child-lts.Need-is-move-requires (
   is-move-reads.Asked,
   is-move-reads.Learnt,
@@ -69,7 +69,6 @@ child-is-move-requires : (t : ℕ) → child-lts.Need-is-move-requires (
 ) (child-at t) child.Post
 child-is-move-requires t c κs = short _ _ (c .before .pre .1 .0 .0 .going)
 
--- src/lib.rt:59:28
 child-moved-requires : (t : ℕ) → child-lts.Need-moved-requires (
   is-move-reads.Asked,
   is-move-reads.Learnt,
@@ -80,7 +79,6 @@ child-moved-requires : (t : ℕ) → child-lts.Need-moved-requires (
 ) (child-at t) child.Post
 child-moved-requires t c κs = (short _ _ (c .before .before .before .before .pre .1 .0 .0 .going), room-left _ _ (c .before .before .before .before .pre .1 .0 .0))
 
--- src/lib.rt:59:9
 child-tree-requires : (t : ℕ) → child-lts.Need-tree-requires (
   is-move-reads.Asked,
   is-move-reads.Learnt,
@@ -95,7 +93,6 @@ child-tree-requires t c κs =
     let f = sym (c .before .before .before .is-move .ensures) ∙ c .before .before .if1 .taken in
     (omega (arith, c .before .before .before .before .before .pre .0), (following.move-goes _ _ _ _ m e f, following.move-room _ _ _ _ m e f _ _ (c .before .before .before .before .before .pre .1 .1)))
 
--- src/lib.rt:59:9
 child-same-length : (t : ℕ) → child-lts.Need-same-length (
   is-move-reads.Asked,
   is-move-reads.Learnt,
@@ -106,7 +103,6 @@ child-same-length : (t : ℕ) → child-lts.Need-same-length (
 ) (child-at t) child.Post
 child-same-length t c = search needs
 
--- src/lib.rt:59:9
 child-returns : (t : ℕ) → child-lts.Need-returns (
   is-move-reads.Asked,
   is-move-reads.Learnt,
@@ -119,7 +115,6 @@ child-returns t c =
     let f = sym (c .before .before .before .before .before .before .is-move .ensures) ∙ c .before .before .before .before .before .if1 .taken in
     following.move-row _ _ _ _ (c .before .before .before .before .before .before .before .before .pre .1 .0 .0) (c .before .before .before .moved .ensures) f _ _ _ _ (c .before .before .tree .ensures)
 
--- src/lib.rt:53:1
 child-returns-2 : (t : ℕ) → child-lts.Need-returns-2 (
   is-move-reads.Asked,
   is-move-reads.Learnt,
@@ -136,7 +131,6 @@ children-Inv-loop w₀ at state left next₀ x₀ w next x = Row 2 codeOf at w�
 abbrev children-μ-loop : children-lts.MeasureT-loop
 children-μ-loop w₀ at state left next₀ x₀ w next x = 6 - x
 
--- src/lib.rt:45:5
 children-loop-holds :
     (t : ℕ) →
     children-lts.Need-loop-holds
@@ -147,7 +141,6 @@ children-loop-holds :
     children-μ-loop
 children-loop-holds t c = (following.row-start (positionOf (c .before .args .state)) (c .before .args .left) (c .before .args .at) (now (c .before .args .w)) (c .before .pre .1 .1), omega arith)
 
--- src/lib.rt:46:9
 children-child-requires :
     (t : ℕ) →
     children-lts.Need-child-requires
@@ -160,7 +153,6 @@ children-child-requires t c κs =
     let i = c .before .before .loop .inv in
     (omega (arith, c .before .before .before .before .pre .0), ((c .before .before .before .before .pre .1 .0, c .before .loop-test .taken), following.child-room _ _ _ _ (c .before .before .before .before .pre .1 .1) _ _ _ (c .before .loop-test .taken) (i .0)))
 
--- src/lib.rt:47:9
 children-add-x :
     (t : ℕ) →
     children-lts.Need-add-x
@@ -171,7 +163,6 @@ children-add-x :
     children-μ-loop
 children-add-x t c = omega (arith, c .before .before .before .before .loop-test .taken)
 
--- src/lib.rt:45:5
 children-loop-less :
     (t : ℕ) →
     children-lts.Need-loop-less
@@ -182,7 +173,6 @@ children-loop-less :
     children-μ-loop
 children-loop-less t c = omega (arith, c .before .before .before .before .loop-test .taken)
 
--- src/lib.rt:45:5
 children-loop-again :
     (t : ℕ) →
     children-lts.Need-loop-again
@@ -193,7 +183,6 @@ children-loop-again :
     children-μ-loop
 children-loop-again t c = (following.row-on _ _ _ _ (c .before .before .before .before .before .before .before .pre .1 .1) _ _ _ (c .before .before .before .before .loop-test .taken) (c .before .before .before .before .before .loop .inv .0) _ _ (c .before .before .child .ensures), omega (arith, c .before .before .before .before .loop-test .taken))
 
--- src/lib.rt:38:1
 children-same-length :
     (t : ℕ) →
     children-lts.Need-same-length
@@ -204,7 +193,6 @@ children-same-length :
     children-μ-loop
 children-same-length t c = c .before .loop .inv .0 .kept .long
 
--- src/lib.rt:38:1
 children-returns :
     (t : ℕ) →
     children-lts.Need-returns
@@ -218,7 +206,6 @@ children-returns t c =
     let e : c .before .loop .x ≡ 6 = omega (arith, i .1, c .loop-test .left) in
     subst (λ n. Row 2 codeOf (c .before .before .before .args .at) (now (c .before .before .before .args .w)) (c .before .loop .w) (childrenTo (positionOf (c .before .before .before .args .state)) (c .before .before .before .args .left) n) (c .before .loop .next)) e (i .0)
 
--- src/lib.rt:28:8
 tree-is-end-requires : (t : ℕ) → tree-lts.Need-is-end-requires (
   is-end-reads.Asked,
   is-end-reads.Learnt,
@@ -233,7 +220,6 @@ tree-is-end-requires : (t : ℕ) → tree-lts.Need-is-end-requires (
 ) (tree-at t) tree.Post
 tree-is-end-requires t c κs = short _ _ (c .before .pre .1 .0)
 
--- src/lib.rt:29:20
 tree-end-word-requires : (t : ℕ) → tree-lts.Need-end-word-requires (
   is-end-reads.Asked,
   is-end-reads.Learnt,
@@ -250,7 +236,6 @@ tree-end-word-requires t c κs =
     let u = short _ _ (c .before .before .before .before .pre .1 .0) in
     (end-dealt _ _ (c .before .before .before .before .pre .1 .0) (sym (c .before .before .is-end .ensures) ∙ c .before .if1 .taken), u .1, u .2)
 
--- src/lib.rt:29:9
 tree-put-requires : (t : ℕ) → tree-lts.Need-put-requires (
   is-end-reads.Asked,
   is-end-reads.Learnt,
@@ -265,7 +250,6 @@ tree-put-requires : (t : ℕ) → tree-lts.Need-put-requires (
 ) (tree-at t) tree.Post
 tree-put-requires t c κs = search needs
 
--- src/lib.rt:30:16
 tree-add-result : (t : ℕ) → tree-lts.Need-add-result (
   is-end-reads.Asked,
   is-end-reads.Learnt,
@@ -280,7 +264,6 @@ tree-add-result : (t : ℕ) → tree-lts.Need-add-result (
 ) (tree-at t) tree.Post
 tree-add-result t c = record { fits = omega (arith, c .before .before .before .before .before .before .before .before .pre .1 .1 .places) }
 
--- src/lib.rt:30:9
 tree-same-length : (t : ℕ) → tree-lts.Need-same-length (
   is-end-reads.Asked,
   is-end-reads.Learnt,
@@ -295,7 +278,6 @@ tree-same-length : (t : ℕ) → tree-lts.Need-same-length (
 ) (tree-at t) tree.Post
 tree-same-length t c = search needs
 
--- src/lib.rt:30:9
 tree-returns : (t : ℕ) → tree-lts.Need-returns (
   is-end-reads.Asked,
   is-end-reads.Learnt,
@@ -310,7 +292,6 @@ tree-returns : (t : ℕ) → tree-lts.Need-returns (
 ) (tree-at t) tree.Post
 tree-returns t c = following.lays-end _ _ _ _ (c .before .before .before .before .before .before .before .before .pre .1 .0) (c .before .before .before .before .before .before .before .before .pre .1 .1) _ _ (sym (c .before .before .before .before .before .before .is-end .ensures) ∙ c .before .before .before .before .before .if1 .taken) (c .before .before .before .end-word .ensures) (c .before .before .put .ensures)
 
--- src/lib.rt:32:28
 tree-add-children : (t : ℕ) → tree-lts.Need-add-children (
   is-end-reads.Asked,
   is-end-reads.Learnt,
@@ -325,7 +306,6 @@ tree-add-children : (t : ℕ) → tree-lts.Need-add-children (
 ) (tree-at t) tree.Post
 tree-add-children t c = record { fits = omega (arith, c .before .before .before .before .pre .1 .1 .places) }
 
--- src/lib.rt:32:43
 tree-sub-children : (t : ℕ) → tree-lts.Need-sub-children (
   is-end-reads.Asked,
   is-end-reads.Learnt,
@@ -340,7 +320,6 @@ tree-sub-children : (t : ℕ) → tree-lts.Need-sub-children (
 ) (tree-at t) tree.Post
 tree-sub-children t c = omega (arith, following.some-left _ _ _ _ (c .before .before .before .before .pre .1 .0) (c .before .before .before .before .pre .1 .1) (sym (c .before .before .is-end .ensures) ∙ c .before .if1 .left))
 
--- src/lib.rt:32:9
 tree-children-requires : (t : ℕ) → tree-lts.Need-children-requires (
   is-end-reads.Asked,
   is-end-reads.Learnt,
@@ -359,7 +338,6 @@ tree-children-requires t c κs =
     let e = sym (c .before .before .is-end .ensures) ∙ c .before .if1 .left in
     (omega (arith, c .before .before .before .before .pre .0, following.some-left _ _ _ _ p g e), (following.moving _ _ _ _ p g e, following.row-room _ _ _ _ p g e))
 
--- src/lib.rt:33:33
 tree-sub-node-word : (t : ℕ) → tree-lts.Need-sub-node-word (
   is-end-reads.Asked,
   is-end-reads.Learnt,
@@ -374,7 +352,6 @@ tree-sub-node-word : (t : ℕ) → tree-lts.Need-sub-node-word (
 ) (tree-at t) tree.Post
 tree-sub-node-word t c = omega (arith, following.some-left _ _ _ _ (c .before .before .before .before .before .before .before .before .pre .1 .0) (c .before .before .before .before .before .before .before .before .pre .1 .1) (sym (c .before .before .before .before .before .before .is-end .ensures) ∙ c .before .before .before .before .before .if1 .left))
 
--- src/lib.rt:33:16
 tree-node-word-requires : (t : ℕ) → tree-lts.Need-node-word-requires (
   is-end-reads.Asked,
   is-end-reads.Learnt,
@@ -393,7 +370,6 @@ tree-node-word-requires t c κs =
     let e = sym (c .before .before .before .before .before .before .is-end .ensures) ∙ c .before .before .before .before .before .if1 .left in
     (following.moving _ _ _ _ p g e, following.behind-few _ _ _ _ p g e _ _ (c .before .before .before .children .ensures))
 
--- src/lib.rt:33:5
 tree-put-requires-2 : (t : ℕ) → tree-lts.Need-put-requires-2 (
   is-end-reads.Asked,
   is-end-reads.Learnt,
@@ -408,7 +384,6 @@ tree-put-requires-2 : (t : ℕ) → tree-lts.Need-put-requires-2 (
 ) (tree-at t) tree.Post
 tree-put-requires-2 t c κs = search needs
 
--- src/lib.rt:23:1
 tree-same-length-2 : (t : ℕ) → tree-lts.Need-same-length-2 (
   is-end-reads.Asked,
   is-end-reads.Learnt,
@@ -423,7 +398,6 @@ tree-same-length-2 : (t : ℕ) → tree-lts.Need-same-length-2 (
 ) (tree-at t) tree.Post
 tree-same-length-2 t c = search needs
 
--- src/lib.rt:23:1
 tree-returns-2 : (t : ℕ) → tree-lts.Need-returns-2 (
   is-end-reads.Asked,
   is-end-reads.Learnt,

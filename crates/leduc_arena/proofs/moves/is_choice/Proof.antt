@@ -1,3 +1,4 @@
+-- Whether an action is legal in the round in play. Assumes nothing.
 use borrow.Author.Needs.{needs}
 use mathlib.Core.Path.{_≡_, sym, ap, _∙_}
 use native.Mathlib.Omega.{arith}
@@ -7,57 +8,41 @@ use Rattle.leduc_betting.proofs.Deals.{front-length}
 use Rattle.leduc_positions.proofs.Positions.{second-part}
 use Rattle.leduc_arena.proofs.moves.is_choice.Statement.{statement}
 use Rattle.leduc_arena.proofs.moves.is_choice.Tie as tie
-use Rattle.leduc_arena.proofs.moves.is_choice.Reads as reads
-use Rattle.leduc_arena.proofs.moves.is_choice.Lts as lts
-use Rattle.leduc_betting.proofs.betting.is_legal.Reads as is-legal-reads
-use Rattle.leduc_betting.proofs.betting.round_over.Reads as round-over-reads
 
--- src/moves.rt:59:9
 slice-aggregate-all : tie.Need-slice-aggregate-all
 slice-aggregate-all c = search needs
 
--- src/moves.rt:60:19
 slice-aggregate-round-over : tie.Need-slice-aggregate-round-over
 slice-aggregate-round-over c = front-length (c .before .before .before .args .state .history) _ 8 (search needs) (omega arith)
 
--- src/moves.rt:60:8
 round-over-requires : tie.Need-round-over-requires
 round-over-requires c κs = search needs
 
--- src/moves.rt:61:33
 add-is-legal : tie.Need-add-is-legal
 add-is-legal c = search needs
 
--- src/moves.rt:61:25
 sub-is-legal : tie.Need-sub-is-legal
 sub-is-legal c = search needs
 
--- src/moves.rt:61:25
 part-is-legal-start : tie.Need-part-is-legal-start
 part-is-legal-start c = search needs
 
--- src/moves.rt:61:25
 part-is-legal-end : tie.Need-part-is-legal-end
 part-is-legal-end c = let len : length (c .before .before .before .before .before .args .state .history) ≡ 8 = search needs in omega arith
 
--- src/moves.rt:61:9
 is-legal-requires : tie.Need-is-legal-requires
 is-legal-requires c κs = search needs
 
--- src/moves.rt:61:9
 returns : tie.Need-returns
 unfolding in-play
 returns c = rw (sym (c .before .before .before .round-over .ensures) ∙ c .before .before .if1 .taken) (c .is-legal .ensures ∙ ap (λ h. may h (c .before .before .before .before .before .before .before .args .action)) (second-part (c .before .before .before .before .before .before .before .args .state .acted2) (c .before .before .before .before .before .before .before .args .state .history)))
 
--- src/moves.rt:63:14
 slice-aggregate-is-legal : tie.Need-slice-aggregate-is-legal
 slice-aggregate-is-legal c = front-length (c .before .before .before .before .before .before .args .state .history) _ 8 (search needs) (omega arith)
 
--- src/moves.rt:63:5
 is-legal-requires-2 : tie.Need-is-legal-requires-2
 is-legal-requires-2 c κs = search needs
 
--- src/moves.rt:52:1
 returns-2 : tie.Need-returns-2
 unfolding in-play
 returns-2 c = rw (sym (c .before .before .before .round-over .ensures) ∙ c .before .before .if1 .left) (c .is-legal2 .ensures)

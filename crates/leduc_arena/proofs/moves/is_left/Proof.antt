@@ -1,3 +1,4 @@
+-- Whether a card is left. Assumes nothing.
 use borrow.Author.Needs.{needs}
 use mathlib.Core.Path.{_≡_, sym, ap, _∙_}
 use mathlib.Core.Bool.{not}
@@ -10,33 +11,23 @@ use Rattle.leduc_betting.specs.Cards.{left}
 use Rattle.leduc_betting.proofs.Deals.{front-length}
 use Rattle.leduc_arena.proofs.moves.is_left.Statement.{statement}
 use Rattle.leduc_arena.proofs.moves.is_left.Tie as tie
-use Rattle.leduc_arena.proofs.moves.is_left.Reads as reads
-use Rattle.leduc_arena.proofs.moves.is_left.Lts as lts
-use Rattle.leduc_betting.proofs.cards.all_seen.Reads as all-seen-reads
-use Rattle.leduc_betting.proofs.cards.contains.Reads as contains-reads
 
--- src/moves.rt:40:9
 returns : tie.Need-returns
 unfolding left
 returns c = sym (and-left-fails _ (le-ltb _ 6 (c .if1 .taken)))
 
--- src/moves.rt:45:9
 all-seen-requires : tie.Need-all-seen-requires
 all-seen-requires c κs = search needs
 
--- src/moves.rt:48:15
 array-share-prefix-all : tie.Need-array-share-prefix-all
 array-share-prefix-all c = let three : length (c .before .all-seen .result .cards) ≡ 3 = search needs in omega (arith, c .before .all-seen .ensures .0)
 
--- src/moves.rt:48:15
 slice-aggregate-contains : tie.Need-slice-aggregate-contains
 slice-aggregate-contains c = front-length _ _ 3 (search needs) (c .before .before .all-seen .ensures .0)
 
--- src/moves.rt:48:6
 contains-requires : tie.Need-contains-requires
 contains-requires c κs = search needs
 
--- src/moves.rt:35:1
 returns-2 : tie.Need-returns-2
 unfolding left
 returns-2 c = ap not (c .contains .ensures ∙ ap (has (c .before .before .before .before .before .before .args .card)) (c .before .before .before .all-seen .ensures .1)) ∙ sym (and-rest _ (lt-ltb _ 6 (c .before .before .before .before .before .if1 .left)))

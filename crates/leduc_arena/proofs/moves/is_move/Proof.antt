@@ -1,32 +1,23 @@
+-- Whether a number is a move: a card or an action. Assumes nothing.
 use borrow.Author.Needs.{needs}
-use mathlib.Core.Path.{_≡_, sym, _∙_}
+use mathlib.Core.Path.{sym, _∙_}
 use Rattle.leduc_arena.specs.Layout.{isMove}
 use Rattle.leduc_arena.proofs.moves.is_move.Statement.{statement}
 use Rattle.leduc_arena.proofs.moves.is_move.Tie as tie
-use Rattle.leduc_arena.proofs.moves.is_move.Reads as reads
-use Rattle.leduc_arena.proofs.moves.is_move.Lts as lts
-use Rattle.leduc_arena.proofs.moves.is_choice.Reads as is-choice-reads
-use Rattle.leduc_arena.proofs.moves.is_left.Reads as is-left-reads
-use Rattle.leduc_positions.proofs.state.card_due.Reads as card-due-reads
 
--- src/moves.rt:71:8
 card-due-requires : tie.Need-card-due-requires
 card-due-requires c κs = search needs
 
--- src/moves.rt:72:9
 is-left-requires : tie.Need-is-left-requires
 is-left-requires c κs = search needs
 
--- src/moves.rt:72:9
 returns : tie.Need-returns
 unfolding isMove
 returns c = rw (sym (c .before .before .card-due .ensures) ∙ c .before .if1 .taken) (c .is-left .ensures)
 
--- src/moves.rt:74:5
 is-choice-requires : tie.Need-is-choice-requires
 is-choice-requires c κs = search needs
 
--- src/moves.rt:67:1
 returns-2 : tie.Need-returns-2
 unfolding isMove
 returns-2 c = rw (sym (c .before .before .card-due .ensures) ∙ c .before .if1 .left) (c .is-choice .ensures)

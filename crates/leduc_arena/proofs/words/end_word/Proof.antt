@@ -1,5 +1,6 @@
+-- The word of an end: its payoffs fit their bytes. Assumes nothing.
 use borrow.Author.Needs.{needs}
-use mathlib.Core.Path.{_≡_, sym, _∙_}
+use mathlib.Core.Path.{_≡_}
 use Prim.Native.Nat.{_≤_}
 use native.Mathlib.Omega.{arith}
 use lib.ListN.{length}
@@ -9,24 +10,20 @@ use Rattle.leduc_positions.proofs.Positions.{second-length}
 use Rattle.leduc_arena.proofs.Ends.{bits-few, ends}
 use Rattle.leduc_arena.proofs.words.end_word.Statement.{statement}
 use Rattle.leduc_arena.proofs.words.end_word.Tie as tie
-use Rattle.leduc_arena.proofs.words.end_word.Reads as reads
-use Rattle.leduc_arena.proofs.words.end_word.Lts as lts
-use Rattle.arena.proofs.payoffs.end.Reads as end-reads
-use Rattle.leduc_positions.proofs.state.state_gains.Reads as state-gains-reads
 
--- src/words.rt:88:9
 state-gains-requires : tie.Need-state-gains-requires
 state-gains-requires c κs = search needs
 
--- src/words.rt:89:5
 end-requires : tie.Need-end-requires
-end-requires c κs = let s = c .before .before .before .args .state in
+end-requires c κs =
+    let s = c .before .before .before .args .state in
     let eight : length (s .history) ≡ 8 = search needs in
     let first : length (roundOne s) ≤ 4 = omega (arith, front-length (s .history) (s .acted1) 8 eight (omega arith)) in
     let second : length (roundTwo s) ≤ 4 = omega (arith, second-length (s .history) (s .acted2) eight (omega arith)) in
-    (bits-few s first second 0 _ (c .before .before .state-gains .ensures .0), bits-few s first second 1 _ (c .before .before .state-gains .ensures .1), omega arith, omega arith, omega arith, omega arith)
+    let a = bits-few s first second 0 _ (c .before .before .state-gains .ensures .0) in
+    let b = bits-few s first second 1 _ (c .before .before .state-gains .ensures .1) in
+    (search needs, search needs, omega arith, omega arith, omega arith, omega arith)
 
--- src/words.rt:84:1
 returns : tie.Need-returns
 returns c = let s = c .before .before .before .before .args .state in
     let eight : length (s .history) ≡ 8 = search needs in

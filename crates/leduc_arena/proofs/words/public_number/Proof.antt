@@ -1,34 +1,26 @@
+-- The number of the public card. Assumes nothing.
 use borrow.Author.Needs.{needs}
-use mathlib.Core.Path.{_≡_, refl, sym, ap, _∙_}
+use mathlib.Core.Path.{refl}
 use native.Mathlib.Omega.{arith}
 use borrow.Author.Tests.{lt-ltb, le-ltb}
 use Rattle.leduc_arena.proofs.words.public_number.Statement.{statement}
 use Rattle.leduc_arena.proofs.words.public_number.Tie as tie
-use Rattle.leduc_arena.proofs.words.public_number.Reads as reads
-use Rattle.leduc_arena.proofs.words.public_number.Lts as lts
-use Rattle.leduc_arena.proofs.words.byte.Reads as byte-reads
 
--- src/words.rt:47:27
 enum-told : tie.Need-enum-told
 enum-told c = search needs
 
--- src/words.rt:48:22
 enum-known-public : tie.Need-enum-known-public
 enum-known-public c = search needs
 
--- src/words.rt:50:17
 byte-requires : tie.Need-byte-requires
 byte-requires c κs = search needs
 
--- src/words.rt:50:17
 returns : tie.Need-returns
 returns c = rw (c .before .before .before .public .given .1, lt-ltb _ 6 (c .before .if1 .taken)) (c .byte .ensures .0, omega (arith, c .byte .ensures .0, c .before .if1 .taken))
 
--- src/words.rt:43:1
 returns-2 : tie.Need-returns-2
 returns-2 c = rw (c .enum-told .given .1) (refl, omega arith)
 
--- src/words.rt:43:1
 returns-3 : tie.Need-returns-3
 returns-3 c = rw (c .before .before .public .given .1, le-ltb _ 6 (c .if1 .left)) (refl, omega arith)
 
