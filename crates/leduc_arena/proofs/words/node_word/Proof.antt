@@ -1,0 +1,61 @@
+-- The word of a chance node or of a decision. Assumes nothing.
+use borrow.Author.Needs.{needs}
+use Rattle.leduc_positions.specs.Positions.{legal-of}
+use mathlib.Core.Path.{_≡_, sym, ap, _∙_}
+use native.Mathlib.Omega.{arith}
+use lib.ListN.{length}
+use lib.Seq.{length-take-le}
+use Rattle.leduc_tree.specs.Tree.{choices}
+use Rattle.leduc_arena.specs.Layout.{positionOf, nodeWord}
+use Rattle.leduc_arena.proofs.Going.{short, one-of-two, legal-choices, code-is, code-small}
+use Rattle.leduc_arena.proofs.words.node_word.Statement.{statement}
+use Rattle.leduc_arena.proofs.words.node_word.Tie as tie
+
+card-due-requires : tie.Need-card-due-requires
+card-due-requires c κs = short _ _ (c .pre .0 .going)
+
+chance-requires : tie.Need-chance-requires
+chance-requires c κs = search needs
+
+returns : tie.Need-returns
+unfolding nodeWord
+returns c = rw (sym (c .before .before .card-due .ensures) ∙ c .before .if1 .taken) (c .chance .ensures)
+
+turn-requires : tie.Need-turn-requires
+turn-requires c κs = let u = short _ _ (c .before .before .pre .0 .going) in (u .1, u .2)
+
+legal-list-requires : tie.Need-legal-list-requires
+legal-list-requires c κs = short _ _ (c .before .before .before .pre .0 .going)
+
+code-requires : tie.Need-code-requires
+code-requires c κs = let d = sym (c .before .before .before .card-due .ensures) ∙ c .before .before .if1 .left in
+    let j = one-of-two _ _ (c .before .before .before .before .pre .0) d in
+    let u = short _ _ (c .before .before .before .before .pre .0 .going) in
+    (omega (arith, c .before .turn .ensures), u .1, u .2)
+
+decision-requires : tie.Need-decision-requires
+decision-requires c κs = let d = sym (c .before .before .before .before .card-due .ensures) ∙ c .before .before .before .if1 .left in
+    let j = one-of-two _ _ (c .before .before .before .before .before .pre .0) d in
+    (omega (arith, c .before .before .turn .ensures), omega (arith, c .before .legal-list .ensures .0), omega (arith, c .code .ensures, code-is _ _ (c .before .before .before .before .before .pre .0) d _ (c .before .before .turn .ensures), code-small _ _ (c .before .before .before .before .before .pre .0) d), c .before .before .before .before .before .pre .1, omega arith)
+
+returns-2 : tie.Need-returns-2
+unfolding nodeWord
+returns-2 c = let d = sym (c .before .before .before .before .before .card-due .ensures) ∙ c .before .before .before .before .if1 .left in
+    let s = c .before .before .before .before .before .before .args .state in
+    let three : length (c .before .before .legal-list .result .actions) ≡ 3 = search needs in
+    let count : c .before .before .legal-list .result .count ≡ length (choices (positionOf s)) =
+    sym (length-take-le (c .before .before .legal-list .result .count) (c .before .before .legal-list .result .actions) (omega (arith, c .before .before .legal-list .ensures .0))) ∙ ap length (c .before .before .legal-list .ensures .1 ∙ ap (legal-of s) (c .before .before .before .turn .ensures) ∙ legal-choices _ _ (c .before .before .before .before .before .before .pre .0) d) in
+    rw d (c .decision .ensures ∙ omega (arith, c .before .before .before .turn .ensures, count, c .before .code .ensures, code-is _ _ (c .before .before .before .before .before .before .pre .0) d _ (c .before .before .before .turn .ensures)))
+
+pub node-word-spec : {M : Type 1} → statement M
+node-word-spec =
+    tie.close
+    (tie.spec
+    card-due-requires
+    chance-requires
+    returns
+    turn-requires
+    legal-list-requires
+    code-requires
+    decision-requires
+    returns-2)
