@@ -19,29 +19,29 @@ use Rattle.leduc_positions.specs.declared.LeducState.{LeducState}
 use Rattle.leduc_positions.specs.Positions.{cardsOf, roundOne, roundTwo, payoff-of}
 use Rattle.leduc_arena.specs.Layout.{Ends}
 
-paid-few : (h₁ h₂ : List ℕ) (s : ℕ) → length h₁ ≤ 4 → length h₂ ≤ 4 → contribution 1 2 4 h₁ h₂ s ≤ 100
+paid-few : (h₁ h₂ : List ℕ) (s : ℕ) → length h₁ ≤ 4 → length h₂ ≤ 4 → contribution 1 2 4 h₁ h₂ s ≤ 60
 unfolding contribution
 paid-few h₁ h₂ s l m = at (eqb s 0) (paid-bound h₁ h₂ l m)
   where
-    at : {q : Pot} (b : Bool) → Within 33 q → cond b (q .acting) (q .other) ≤ 100
+    at : {q : Pot} (b : Bool) → Within 33 q → cond b (q .acting) (q .other) ≤ 60
     at true w = omega (arith, w .acting-within)
     at false w = omega (arith, w .other-within)
 
-payoff-few : (cs : List ℕ) (p : Public) (h₁ h₂ : List ℕ) (i : ℕ) → length h₁ ≤ 4 → length h₂ ≤ 4 → natAbs (payoff 1 2 4 cs p h₁ h₂ i) ≤ 100
+payoff-few : (cs : List ℕ) (p : Public) (h₁ h₂ : List ℕ) (i : ℕ) → length h₁ ≤ 4 → length h₂ ≤ 4 → natAbs (payoff 1 2 4 cs p h₁ h₂ i) ≤ 60
 unfolding payoff
 payoff-few cs p h₁ h₂ i l m = at (wins cs p h₁ h₂ i (1 - i)) (wins cs p h₁ h₂ (1 - i) i)
   where
-    at : (x y : Bool) → natAbs (cond x (pos (contribution 1 2 4 h₁ h₂ (1 - i))) (cond y (negℤ (pos (contribution 1 2 4 h₁ h₂ i))) (pos 0))) ≤ 100
+    at : (x y : Bool) → natAbs (cond x (pos (contribution 1 2 4 h₁ h₂ (1 - i))) (cond y (negℤ (pos (contribution 1 2 4 h₁ h₂ i))) (pos 0))) ≤ 60
     at true y = paid-few h₁ h₂ (1 - i) l m
     at false true = rw (size-of-loss (contribution 1 2 4 h₁ h₂ i)) (paid-few h₁ h₂ i l m)
     at false false = zero-le
 
 module _ (s : LeducState) (first : length (roundOne s) ≤ 4) (second : length (roundTwo s) ≤ 4) where
-  gain-few : (i : ℕ) (z : ℤ) → z ≡ payoff-of s i → natAbs z ≤ 100
+  gain-few : (i : ℕ) (z : ℤ) → z ≡ payoff-of s i → natAbs z ≤ 60
   gain-few i z e = rw e (payoff-few (cardsOf s) (s .public) (roundOne s) (roundTwo s) i first second)
 
   -- as a local holds it, in bits
-  pub bits-few : (i : ℕ) (z : ℤ) → z ≡ payoff-of s i → natAbs (bits z) ≤ 100
+  pub bits-few : (i : ℕ) (z : ℤ) → z ≡ payoff-of s i → natAbs (bits z) ≤ 60
   bits-few i z e = rw (bits-of z (gain-few i z e)) (gain-few i z e)
 
   pub ends : (x : ℕ) (a b : ℤ) → a ≡ payoff-of s 0 → b ≡ payoff-of s 1 → Pays (bits a ∷ bits b ∷ pos 0 ∷ pos 0 ∷ pos 0 ∷ pos 0 ∷ []) x → Ends s x
