@@ -35,6 +35,7 @@ pub struct KuhnPayoffs {
     pub payoffs: [i64; 10],
 }
 
+// The way in: what the calls of crate kuhn take.
 pub fn state_of(position: KuhnPosition) -> kuhn::KuhnState
     ensures { λ r. ⌜ r ≡ state-of position ⌝ }
 {
@@ -48,6 +49,7 @@ pub fn state_of(position: KuhnPosition) -> kuhn::KuhnState
     }
 }
 
+// The way out: a position handed in comes back to the byte.
 pub fn position_of(state: kuhn::KuhnState) -> KuhnPosition
     ensures { λ r. ⌜ r ≡ position-of state ⌝ }
 {

@@ -4,6 +4,7 @@ use leduc_rules::Public;
 ghost use mathlib.Core.Path.{_≡_};
 ghost use Rattle.twins.specs.Leduc.{public-of, byte-of, state-of, position-of, moved-of, written-of, payoffs-of};
 
+// The byte of no public card. It is in no deck, so every card of a game has a byte of its own.
 pub const NONE: u8 = 255;
 
 // A position.
@@ -41,6 +42,7 @@ pub struct LeducPayoffs {
     pub payoffs: [i64; 10],
 }
 
+// Every byte comes back from here through byte_of; the other way round all but the card 255, which comes back as none.
 fn public_of(byte: u8) -> Public
     ensures { λ r. ⌜ r ≡ public-of byte ⌝ }
 {
@@ -59,6 +61,7 @@ fn byte_of(public: Public) -> u8
     }
 }
 
+// The way in: what the calls of crate leduc take.
 pub fn state_of(position: LeducPosition) -> leduc::LeducState
     ensures { λ r. ⌜ r ≡ state-of position ⌝ }
 {
@@ -75,6 +78,7 @@ pub fn state_of(position: LeducPosition) -> leduc::LeducState
     }
 }
 
+// The way out: a position handed in comes back to the byte.
 pub fn position_of(state: leduc::LeducState) -> LeducPosition
     ensures { λ r. ⌜ r ≡ position-of state ⌝ }
 {
