@@ -1,16 +1,19 @@
 -- The definitions give what document 01 says, in all its cases at once: by computing. Assumes nothing.
 use mathlib.Core.Path.{refl}
-use Rattle.finite.specs.Finite.{and, or, some, every, sum, has, places}
+use Rattle.finite.specs.Finite.{and, or, some, every, sum, has, places, those}
 use Rattle.kuhn_rules.specs.Rules.{bet-made, after-bet, ended, overrun, bets, stands, contribution, wins, paid-by-others, payoff}
 use Rattle.kuhn_rules.specs.Reached.{strange, twice, unknown, fair, played, possible}
 use Rattle.kuhn_rules.specs.Stakes.{payoffs-of}
-use Rattle.kuhn.specs.Calls.{reachable, payoff-refusal, saved-refusal}
-use Rattle.finite.specs.Finite.{those}
+use Rattle.kuhn_positions.specs.Positions.{reachable}
+use Rattle.kuhn.specs.Calls.{payoff-refusal, saved-refusal}
+use Rattle.leduc_betting.specs.Betting as LeducBetting
+use Rattle.leduc_betting.specs.Cards as LeducCards
 use Rattle.leduc_rules.specs.Rules as LeducRules
 use Rattle.leduc_rules.specs.Reached as LeducReached
+use Rattle.leduc_positions.specs.Positions as LeducPositions
 use Rattle.leduc.specs.Calls as LeducCalls
 use Rattle.cases.specs.Cases.{Agree, cases}
 
 pub cases-agree : Agree cases
-unfolding and or some every sum has places bet-made after-bet ended overrun bets stands contribution wins paid-by-others payoff strange twice unknown fair played possible reachable payoff-refusal payoffs-of saved-refusal those LeducRules.ends-with LeducRules.folded LeducRules.closes LeducRules.open-round LeducRules.behind LeducRules.raises LeducRules.may LeducRules.options LeducRules.in-play LeducRules.turn LeducRules.ended LeducRules.public-due LeducRules.due LeducRules.live LeducRules.legal LeducRules.key LeducRules.matched LeducRules.bet LeducRules.seated LeducRules.after-round LeducRules.contribution LeducRules.folds LeducRules.pairs LeducRules.beats LeducRules.wins LeducRules.payoff LeducReached.strange LeducReached.twice LeducReached.played LeducReached.possible LeducCalls.reachable LeducCalls.payoff-refusal LeducCalls.legal-refusal LeducCalls.key-refusal
+unfolding and or some every sum has places bet-made after-bet ended overrun bets stands contribution wins paid-by-others payoff strange twice unknown fair played possible reachable payoff-refusal payoffs-of saved-refusal those LeducBetting.ends-with LeducBetting.folded LeducBetting.closes LeducBetting.open-round LeducBetting.behind LeducBetting.raises LeducBetting.may LeducBetting.options LeducBetting.in-play LeducBetting.turn LeducBetting.ended LeducRules.public-due LeducRules.due LeducRules.live LeducRules.legal LeducRules.key LeducRules.matched LeducRules.bet LeducRules.seated LeducRules.after-round LeducRules.contribution LeducRules.folds LeducRules.pairs LeducRules.beats LeducRules.wins LeducRules.payoff LeducCards.strange LeducCards.twice LeducBetting.played LeducReached.possible LeducPositions.reachable LeducCalls.payoff-refusal LeducCalls.legal-refusal LeducCalls.key-refusal
 cases-agree = refl

@@ -8,15 +8,17 @@ use lib.ListN.{length, take, replicate}
 use Rattle.kuhn_rules.specs.Rules.{PASS, BET}
 use Rattle.kuhn.specs.Calls.{paid, saved-refusal}
 use Rattle.kuhn.specs.declared.KuhnPoker.{KuhnPoker}
-use Rattle.kuhn.specs.declared.KuhnState.{KuhnState}
+use Rattle.kuhn_positions.specs.declared.KuhnState.{KuhnState}
 use Rattle.kuhn.specs.declared.Payoffs.{Payoffs}
-use Rattle.leduc_rules.specs.Rules.{FOLD, CALL, RAISE, contribution}
+use Rattle.leduc_betting.specs.Betting.{FOLD, CALL, RAISE}
+use Rattle.leduc_rules.specs.Rules.{contribution}
 use Rattle.leduc_rules.specs.Stakes.{ante, raise₁, raise₂}
-use Rattle.leduc_rules.specs.declared.Public.{Public}
-use Rattle.leduc_rules.specs.declared.Public.the-variants.{Hidden, Card}
+use Rattle.leduc_betting.specs.declared.Public.{Public}
+use Rattle.leduc_betting.specs.declared.Public.the-variants.{Hidden, Card}
 use Rattle.leduc.specs.Calls as Leduc
-use Rattle.leduc.specs.Calls.{legal-of, legal-refusal, listed, key-of, key-refusal, keyed, written}
-use Rattle.leduc.specs.declared.LeducState.{LeducState}
+use Rattle.leduc_positions.specs.Positions.{legal-of}
+use Rattle.leduc.specs.Calls.{legal-refusal, listed, key-of, key-refusal, keyed, written}
+use Rattle.leduc_positions.specs.declared.LeducState.{LeducState}
 
 -- ---- what a case is
 

@@ -10,7 +10,8 @@ use twins::of_leduc::state_of;
 use twins::of_leduc::written_of;
 ghost use mathlib.Core.Path.{_≡_};
 ghost use lib.ListN.{length};
-ghost use Rattle.leduc.specs.Calls.{started, dealt, stepped, legal-of, legal-refusal, listed, key-of, key-refusal, keyed, written, paid, checked};
+ghost use Rattle.leduc_positions.specs.Positions.{legal-of};
+ghost use Rattle.leduc.specs.Calls.{started, dealt, stepped, legal-refusal, listed, key-of, key-refusal, keyed, written, paid, checked};
 ghost use Rattle.twins.specs.Leduc.{state-of, moved-of, written-of, payoffs-of};
 
 // Start.

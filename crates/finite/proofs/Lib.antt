@@ -1,3 +1,4 @@
 -- Laws for the crates above.
 pub mod Tests
 pub mod Lists
+pub mod Amounts

@@ -4,32 +4,25 @@ use mathlib.Core.Bool.{Bool, true, false, not}
 use mathlib.Core.List.{List, [], _∷_, _++_}
 use Prim.Native.Nat.{ℕ, zero, suc, _+_, _*_, _-_, _≤_, _<_}
 use native.Mathlib.Omega.{arith}
-use lib.Dec.{eqb, ltb}
-use borrow.Author.Tests.{lt-ltb, le-ltb, le-leb, lt-leb, ltb-false, eq-eqb, ne-eqb, eqb-true, not-true, not-false}
+use lib.Dec.{eqb, leb, ltb}
+use borrow.Author.Tests.{lt-ltb, le-ltb, le-leb, lt-leb, ltb-true, ltb-false, leb-false, eq-eqb, ne-eqb, eqb-true, not-true, not-false}
 use lib.IntN.{ℤ, pos}
 use lib.ListN.{length, getD, take, drop, replicate}
 use Rattle.refusals.specs.Refusals.{Check, first, _refuses_}
 use Rattle.refusals.proofs.Order.{refused, passed, fails-first, fails-rest}
-use Rattle.finite.specs.Finite.{or}
-use Rattle.finite.proofs.Tests.{both, and-left, and-right, and-left-fails, and-right-fails, or-false-left, or-false-right}
+use Rattle.finite.specs.Finite.{and, or}
+use Rattle.finite.proofs.Tests.{Tested, holds, fails, tested, both, and-left, and-right, and-left-fails, and-right-fails, or-false-left}
 use Rattle.finite.proofs.Lists.{getD-within}
 use Rattle.kuhn_rules.specs.Rules.{ended, overrun, live, over, due, remaining}
 use Rattle.kuhn_rules.specs.Reached.{strange, twice, fair, played, unknown}
-use Rattle.kuhn.specs.Calls.{seats-out, reachable, cardsOf, historyOf, position-checks, step-checks, step-refusal, deal-checks, deal-refusal, legal-of, legal-checks, legal-refusal, key-of, key-checks, key-refusal, payoff-checks, payoff-refusal, payoff-answer, saved-checks, mark, mark-checks, saved-refusal, moved, wrote, written}
+use Rattle.kuhn_positions.specs.Positions.{seats-out, reachable, cardsOf, historyOf, position-checks, saved-checks, mark}
+use Rattle.kuhn.specs.Calls.{step-checks, step-refusal, deal-checks, deal-refusal, legal-of, legal-checks, legal-refusal, key-of, key-checks, key-refusal, payoff-checks, payoff-refusal, payoff-answer, mark-checks, saved-refusal, moved, wrote, written}
 use Rattle.kuhn_rules.specs.Stakes.{payoffs-of}
 use Rattle.kuhn.specs.declared.KuhnPoker.{KuhnPoker}
-use Rattle.kuhn.specs.declared.KuhnState.{KuhnState}
+use Rattle.kuhn_positions.specs.declared.KuhnState.{KuhnState}
 use Rattle.kuhn_rules.proofs.Histories.{hand-lasts}
 use Rattle.kuhn_rules.proofs.Deals.{outcome-in, outcome-out}
-use Rattle.kuhn.proofs.Positions.{dealt-is, acted-is, reachable-is, reachable-dealt, reachable-acted}
-
--- ---- the seat count
-
-pub seats-least : (n : ℕ) → seats-out n ≡ false → 2 ≤ n
-seats-least n e = ltb-false n 2 (or-false-left (ltb n 2) (ltb 10 n) e)
-
-pub seats-most : (n : ℕ) → seats-out n ≡ false → n ≤ 10
-seats-most n e = ltb-false 10 n (or-false-right (ltb n 2) (ltb 10 n) e)
+use Rattle.kuhn_positions.proofs.Positions.{dealt-is, acted-is, reachable-is, reachable-dealt, reachable-acted, seats-least, seats-most}
 
 -- ---- the checks of a position, before a call's own
 
@@ -279,3 +272,53 @@ module _ (g : KuhnPoker) (s : KuhnState) (tens : length (s .cards) ≡ 10) (nine
     pub key-fits : p < s .dealt → 2 + s .acted ≤ room → key-refusal g s p room ≡ 0
     unfolding key-refusal
     key-fits w h = own (key-checks s p room) ∙ passed 20 ((ltb room (length (key-of s p)) refuses 9) ∷ []) (lt-leb (length (cardsOf s)) p (omega (arith, cards-long))) ∙ passed 9 [] (le-ltb room (length (key-of s p)) (omega (arith, key-long)))
+
+-- ---- what an accepted call has passed
+
+module _ (g : KuhnPoker) (s : KuhnState) (tens : length (s .cards) ≡ 10) (nineteen : length (s .history) ≡ 19) where
+  -- deal: a seat is without a card, and the outcome has one
+  module _ (k : ℕ) (e : deal-refusal g s k ≡ 0) where
+    pub deal-accepted : first (position-checks (g .players) s) ≡ 0
+    unfolding deal-refusal
+    deal-accepted = accepted-position (g .players) s (deal-checks (g .players) s k) e
+
+    deal-fit : and (due (g .players) (cardsOf s)) (ltb k (length (remaining (g .players) (cardsOf s)))) ≡ true
+    unfolding deal-refusal
+    deal-fit = not-false _ (fails-first (not (and (due (g .players) (cardsOf s)) (ltb k (length (remaining (g .players) (cardsOf s)))))) 19 [] (sym (own g s tens nineteen deal-accepted (deal-checks (g .players) s k)) ∙ e))
+
+    pub deal-due : s .dealt < g .players
+    deal-due = let w = ltb-true (length (cardsOf s)) (g .players) (and-left (due (g .players) (cardsOf s)) _ deal-fit) in omega (arith, cards-long g s tens nineteen deal-accepted)
+
+    pub deal-known : getD (remaining (g .players) (cardsOf s)) k (g .players + 1) ≤ g .players
+    deal-known = go (tested (ltb (g .players) (getD (remaining (g .players) (cardsOf s)) k (g .players + 1))))
+      where
+        go : Tested (ltb (g .players) (getD (remaining (g .players) (cardsOf s)) k (g .players + 1))) → getD (remaining (g .players) (cardsOf s)) k (g .players + 1) ≤ g .players
+        go (holds w) = absurd (omega (arith, outcome-out (g .players) (cardsOf s) k (ltb-true (g .players) _ w), ltb-true k (length (remaining (g .players) (cardsOf s))) (and-right (due (g .players) (cardsOf s)) _ deal-fit)))
+        go (fails w) = ltb-false (g .players) _ w
+
+  module _ (p room : ℕ) where
+    -- legal list: it has room
+    module _ (e : legal-refusal g s p room ≡ 0) where
+      pub legal-accepted : first (position-checks (g .players) s) ≡ 0
+      unfolding legal-refusal
+      legal-accepted = accepted-position (g .players) s (legal-checks g s p room) e
+
+      pub legal-room : length (legal-of g s p) ≤ room
+      unfolding legal-refusal
+      legal-room = ltb-false room (length (legal-of g s p)) (fails-first (ltb room (length (legal-of g s p))) 8 [] (sym (own g s tens nineteen legal-accepted (legal-checks g s p room)) ∙ e))
+
+    -- key: the seat has a card, and the key has room
+    module _ (e : key-refusal g s p room ≡ 0) where
+      pub key-accepted : first (position-checks (g .players) s) ≡ 0
+      unfolding key-refusal
+      key-accepted = accepted-position (g .players) s (key-checks s p room) e
+
+      key-own : first (key-checks s p room) ≡ 0
+      unfolding key-refusal
+      key-own = sym (own g s tens nineteen key-accepted (key-checks s p room)) ∙ e
+
+      pub key-card : p < s .dealt
+      key-card = omega (arith, leb-false (length (cardsOf s)) p (fails-first (leb (length (cardsOf s)) p) 19 ((ltb room (length (key-of s p)) refuses 9) ∷ []) key-own), cards-long g s tens nineteen key-accepted)
+
+      pub key-room : 2 + s .acted ≤ room
+      key-room = omega (arith, ltb-false room (length (key-of s p)) (fails-first (ltb room (length (key-of s p))) 8 [] (fails-rest (leb (length (cardsOf s)) p) 19 ((ltb room (length (key-of s p)) refuses 9) ∷ []) key-own)), key-long g s tens nineteen key-accepted p room)

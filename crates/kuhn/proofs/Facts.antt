@@ -12,13 +12,13 @@ use Rattle.finite.specs.Finite.{and, or}
 use Rattle.finite.proofs.Tests.{both, neither, and-right, or-right, or-false-left, or-false-right}
 use Rattle.kuhn_rules.specs.Rules.{ended, overrun}
 use Rattle.kuhn_rules.specs.Reached.{strange, twice, unknown, fair, played, possible}
-use Rattle.kuhn.specs.Calls.{seats-out, cardsOf, historyOf, reachable, mark, saved-refusal}
+use Rattle.kuhn_positions.specs.Positions.{seats-out, cardsOf, historyOf, reachable, mark}
+use Rattle.kuhn.specs.Calls.{saved-refusal}
 use Rattle.kuhn.specs.Facts.{Sized, Reachable-by-moves, Saved-accepts}
 use Rattle.kuhn.specs.declared.KuhnPoker.{KuhnPoker}
-use Rattle.kuhn.specs.declared.KuhnState.{KuhnState}
+use Rattle.kuhn_positions.specs.declared.KuhnState.{KuhnState}
 use Rattle.kuhn_rules.proofs.Histories.{hand-lasts}
-use Rattle.kuhn.proofs.Positions.{dealt-is, acted-is, reachable-is, reachable-dealt, reachable-acted}
-use Rattle.kuhn.proofs.Answers.{seats-least, seats-most}
+use Rattle.kuhn_positions.proofs.Positions.{dealt-is, acted-is, reachable-is, reachable-dealt, reachable-acted, seats-least, seats-most}
 use Rattle.kuhn_rules.proofs.Moves.{reached-possible, possible-reached}
 use Rattle.kuhn_rules.proofs.Facts.{possible-fair, possible-played, fair-tests, played-tests}
 

@@ -11,9 +11,10 @@ use lib.ListN.{length, getD, take, drop, set}
 use lib.Seq.{paste, length-take-le, getD-take}
 use Rattle.finite.proofs.Tests.{both, and-left-fails, and-right-fails}
 use Rattle.kuhn_rules.specs.Rules.{PASS, BET, live, turn, legal}
-use Rattle.kuhn.specs.Calls.{cardsOf, historyOf, legal-of, key-of}
+use Rattle.kuhn_positions.specs.Positions.{cardsOf, historyOf}
+use Rattle.kuhn.specs.Calls.{legal-of, key-of}
 use Rattle.kuhn.specs.declared.KuhnPoker.{KuhnPoker}
-use Rattle.kuhn.specs.declared.KuhnState.{KuhnState}
+use Rattle.kuhn_positions.specs.declared.KuhnState.{KuhnState}
 
 -- ---- the legal list
 

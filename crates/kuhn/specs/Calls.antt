@@ -1,56 +1,22 @@
 -- What each call answers, and what it leaves in lent memory (document 01, "What comes back when a call is refused" and "The two games").
 -- A refused answer holds its number, the position handed in (a refused start: the initial one, all zero), and 0 in every other field.
-use mathlib.Core.Bool.{Bool, true, false, not, cond}
+use mathlib.Core.Bool.{not}
 use mathlib.Core.List.{List, [], _∷_, _++_}
-use Prim.Native.Nat.{ℕ, zero, suc, _+_, _*_, _-_}
+use Prim.Native.Nat.{ℕ, zero, suc}
 use lib.Dec.{eqb, leb, ltb}
-use lib.IntN.{ℤ, pos}
-use lib.ListN.{length, getD, take, drop, set, replicate}
+use lib.IntN.{pos}
+use lib.ListN.{length, getD, drop, replicate}
 use Rattle.refusals.specs.Refusals.{Check, first, _refuses_}
 use Rattle.refusals.specs.Refusals as Refusals
-use Rattle.finite.specs.Finite.{and, or}
-use Rattle.kuhn_rules.specs.Rules.{BET, due, live, over, ended, legal, key, remaining, overrun}
-use Rattle.kuhn_rules.specs.Reached.{possible, strange, twice, unknown}
+use Rattle.finite.specs.Finite.{and}
+use Rattle.kuhn_rules.specs.Rules.{due, live, over, ended, legal, key, remaining}
 use Rattle.kuhn_rules.specs.Stakes.{payoffs-of}
+use Rattle.kuhn_positions.specs.Positions.{cardsOf, historyOf, initial, with-card, with-action, counted, seats-out, position-checks, saved-checks, mark}
 use Rattle.kuhn.specs.declared.KuhnPoker.{KuhnPoker}
-use Rattle.kuhn.specs.declared.KuhnState.{KuhnState}
+use Rattle.kuhn_positions.specs.declared.KuhnState.{KuhnState}
 use Rattle.kuhn.specs.declared.Moved.{Moved}
 use Rattle.kuhn.specs.declared.Written.{Written}
 use Rattle.kuhn.specs.declared.Payoffs.{Payoffs}
-
--- ---- positions
-
--- the cards and the actions of a position; places past a length are no part of it
-abbrev pub cardsOf : KuhnState → List ℕ
-cardsOf s = take (s .dealt) (s .cards)
-
-abbrev pub historyOf : KuhnState → List ℕ
-historyOf s = take (s .acted) (s .history)
-
--- the initial position
-abbrev pub initial : KuhnState
-initial = record { cards = replicate 10 0; dealt = 0; history = replicate 19 0; acted = 0 }
-
--- one card more; one action more
-abbrev pub with-card : KuhnState → ℕ → KuhnState
-with-card s c = record { cards = set (s .cards) (s .dealt) c; dealt = s .dealt + 1; history = s .history; acted = s .acted }
-
-abbrev pub with-action : KuhnState → ℕ → KuhnState
-with-action s a = record { cards = s .cards; dealt = s .dealt; history = set (s .history) (s .acted) a; acted = s .acted + 1 }
-
--- ---- checks
-
--- number 2: the seat count is outside 2 to 10
-abbrev pub seats-out : ℕ → Bool
-seats-out n = or (ltb n 2) (ltb 10 n)
-
--- number 19: no length is above its array, and the cards and actions can be reached by legal moves
-unfoldable pub reachable : ℕ → KuhnState → Bool
-reachable n s = and (and (leb (s .dealt) 10) (leb (s .acted) 19)) (possible n (cardsOf s) (historyOf s))
-
--- the checks of every rules call on a position, before its own
-abbrev pub position-checks : ℕ → KuhnState → List Check
-position-checks n s = (seats-out n refuses Refusals.seats) ∷ (not (reachable n s) refuses Refusals.unreachable) ∷ []
 
 -- ---- answers
 
@@ -88,10 +54,7 @@ deal-refusal g s k = first (position-checks (g .players) s ++ deal-checks (g .pl
 abbrev pub dealt : KuhnPoker → KuhnState → ℕ → Moved
 dealt g s k = moved (deal-refusal g s k) s (with-card s (getD (remaining (g .players) (cardsOf s)) k 0))
 
--- step: every action above 1 counts as a bet
-abbrev pub counted : ℕ → ℕ
-counted a = cond (ltb BET a) BET a
-
+-- step
 abbrev pub step-checks : ℕ → KuhnState → List Check
 step-checks n s = (not (live n (cardsOf s) (historyOf s)) refuses Refusals.unfit) ∷ []
 
@@ -141,21 +104,7 @@ payoff-answer (suc r) g s = record { refusal = suc r; state = s; count = 0; payo
 abbrev pub paid : KuhnPoker → KuhnState → Payoffs
 paid g s = payoff-answer (payoff-refusal g s) g s
 
--- saved position: what is wrong with it, whatever its end mark says
-abbrev pub saved-checks : ℕ → KuhnState → List Check
-saved-checks n s =
-    (seats-out n refuses Refusals.seats)
-    ∷ (not (eqb (s .dealt) n) refuses Refusals.card-count)
-    ∷ (strange n (cardsOf s) refuses Refusals.card)
-    ∷ (twice (cardsOf s) refuses Refusals.card-twice)
-    ∷ (or (ltb (2 * n - 1) (s .acted)) (unknown (historyOf s)) refuses Refusals.history)
-    ∷ (overrun n (historyOf s) refuses Refusals.closed)
-    ∷ []
-
--- its end mark: 0 for a live hand, 1 for one that has ended
-abbrev pub mark : Bool → ℕ
-mark b = cond b 1 0
-
+-- saved position, with its end mark m
 abbrev pub mark-checks : ℕ → KuhnState → ℕ → List Check
 mark-checks n s m = (not (eqb m (mark (ended n (historyOf s)))) refuses Refusals.end-mark) ∷ []
 

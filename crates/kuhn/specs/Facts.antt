@@ -6,9 +6,10 @@ use Prim.Native.Nat.{ℕ, _≤_}
 use lib.ListN.{length}
 use Rattle.kuhn_rules.specs.Rules.{ended}
 use Rattle.kuhn_rules.specs.Reached.{Reached}
-use Rattle.kuhn.specs.Calls.{cardsOf, historyOf, reachable, mark, saved-refusal}
+use Rattle.kuhn_positions.specs.Positions.{cardsOf, historyOf, reachable, mark}
+use Rattle.kuhn.specs.Calls.{saved-refusal}
 use Rattle.kuhn.specs.declared.KuhnPoker.{KuhnPoker}
-use Rattle.kuhn.specs.declared.KuhnState.{KuhnState}
+use Rattle.kuhn_positions.specs.declared.KuhnState.{KuhnState}
 
 -- a position has ten cards and nineteen actions: every one that a call is given has, by its type
 pub record Sized (s : KuhnState) : Type 0 where

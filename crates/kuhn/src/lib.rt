@@ -1,26 +1,22 @@
 // Kuhn poker for 2 to 10 seats: positions by value, the rules calls and the saved-position check.
 // A call refuses by document 01's numbers, in its order, and then gives the position back as it came.
-mod position;
-
+pub use kuhn_positions::KuhnState;
+use kuhn_positions::checks::end_mark;
+use kuhn_positions::checks::is_live;
+use kuhn_positions::checks::is_over;
+use kuhn_positions::checks::position_refusal;
+use kuhn_positions::checks::saved_refusal;
+use kuhn_positions::checks::seats_outside;
 ghost use mathlib.Core.Path.{_≡_};
-ghost use Prim.Native.Nat.{ℕ, _≤_, _<_};
+ghost use Prim.Native.Nat.{_≤_, _<_};
 ghost use lib.ListN.{length, take};
-ghost use Rattle.kuhn.specs.Calls.{initial, start-refusal, started, deal-refusal, dealt, step-refusal, stepped, with-card, with-action, counted};
+ghost use Rattle.kuhn_positions.specs.Positions.{position-checks};
+ghost use Rattle.kuhn.specs.Calls.{start-refusal, started, deal-refusal, dealt, step-refusal, stepped, legal-of, legal-refusal, listed, key-of, key-refusal, keyed, written, payoff-refusal, paid, checked};
 ghost use Rattle.refusals.specs.Refusals.{first};
-ghost use Rattle.kuhn.specs.Calls.{position-checks, legal-of, listed, key-of, keyed, written};
-ghost use Rattle.kuhn.specs.Calls.{payoff-refusal, paid, saved-refusal, checked};
 
 // The game: how many seats play.
 pub struct KuhnPoker {
     pub players: usize,
-}
-
-// A position: the cards dealt, seat by seat, and the actions made. Places past a length are not part of it.
-pub struct KuhnState {
-    pub cards: [u8; 10],
-    pub dealt: usize,
-    pub history: [u8; 19],
-    pub acted: usize,
 }
 
 // A call's refusal number, 0 if it was accepted, and a position: the new one of an accepted deal or step, else the one handed in.
@@ -45,27 +41,27 @@ pub struct Payoffs {
 }
 
 impl KuhnPoker {
-    pub const PASS: u8 = 0;
+    pub const PASS: u8 = kuhn_rules::PASS;
 
-    pub const BET: u8 = 1;
+    pub const BET: u8 = kuhn_rules::BET;
 
-    pub const LEAST_SEATS: usize = 2;
+    pub const LEAST_SEATS: usize = kuhn_positions::LEAST_SEATS;
 
-    pub const MOST_SEATS: usize = 10;
-    // The places of a position: a card for each of ten seats, and the 2 × 10 - 1 actions of the longest hand.
-    pub const CARDS: usize = 10;
+    pub const MOST_SEATS: usize = kuhn_positions::MOST_SEATS;
+    // The places of a position.
+    pub const CARDS: usize = kuhn_positions::CARDS;
 
-    pub const ACTIONS: usize = 19;
+    pub const ACTIONS: usize = kuhn_positions::ACTIONS;
     // The stakes.
-    pub const ANTE: u64 = 1;
+    pub const ANTE: u64 = kuhn_rules::ANTE;
 
-    pub const STAKE: u64 = 1;
+    pub const STAKE: u64 = kuhn_rules::STAKE;
 
     // Number 2: the seat count is outside 2 to 10.
     pub fn validate(self) -> u64
         ensures { λ r. ⌜ r ≡ start-refusal self ⌝ }
     {
-        if position::seats_outside(self.players) {
+        if seats_outside(self.players) {
             return refusals::SEATS;
         }
         refusals::ACCEPTED
@@ -98,11 +94,11 @@ impl KuhnPoker {
     fn step_refusal(self, state: KuhnState) -> u64
         ensures { λ r. ⌜ r ≡ step-refusal self state ⌝ }
     {
-        let refusal = self.position_refusal(state);
+        let refusal = position_refusal(self.players, state);
         if refusal != refusals::ACCEPTED {
             return refusal;
         }
-        if !position::is_live(self.players, state) {
+        if !is_live(self.players, state) {
             return refusals::UNFIT;
         }
         refusals::ACCEPTED
@@ -112,31 +108,36 @@ impl KuhnPoker {
     pub fn apply_chance_node(self, state: KuhnState, outcome: usize) -> Moved
         ensures { λ r. ⌜ r ≡ dealt self state outcome ⌝ }
     {
-        let refusal = self.position_refusal(state);
+        let refusal = self.deal_refusal(state, outcome);
         if refusal != refusals::ACCEPTED {
             return Moved { refusal, state };
+        }
+        let cards = state.cards;
+        let card = kuhn_rules::cards::nth_remaining(&cards, state.dealt, self.players, outcome);
+        let next = state.with_card(card);
+        Moved {
+            refusal,
+            state: next,
+        }
+    }
+
+    fn deal_refusal(self, state: KuhnState, outcome: usize) -> u64
+        ensures { λ r. ⌜ r ≡ deal-refusal self state outcome ⌝ }
+    {
+        let refusal = position_refusal(self.players, state);
+        if refusal != refusals::ACCEPTED {
+            return refusal;
         }
         let n = self.players;
         let dealt = state.dealt;
         if n <= dealt {
-            return Moved {
-                refusal: refusals::UNFIT,
-                state,
-            };
+            return refusals::UNFIT;
         }
         let cards = state.cards;
-        let card = kuhn_rules::cards::nth_remaining(&cards, dealt, n, outcome);
-        if n < card {
-            return Moved {
-                refusal: refusals::UNFIT,
-                state,
-            };
+        if n < kuhn_rules::cards::nth_remaining(&cards, dealt, n, outcome) {
+            return refusals::UNFIT;
         }
-        let next = state.with_card(card);
-        Moved {
-            refusal: refusals::ACCEPTED,
-            state: next,
-        }
+        refusals::ACCEPTED
     }
 
     // Legal list: what a seat may do, written to out; nothing while it is not its turn.
@@ -144,7 +145,7 @@ impl KuhnPoker {
         ensures answer { λ r. ⌜ r ≡ listed self state agent (length (now (out .entry))) ⌝ }
         ensures output { λ r. ⌜ now (out .exit) ≡ written (r .refusal) (legal-of self state agent) (now (out .entry)) ⌝ }
     {
-        let refusal = self.position_refusal(state);
+        let refusal = self.legal_refusal(state, agent, out.len());
         if refusal != refusals::ACCEPTED {
             return Written {
                 refusal,
@@ -154,13 +155,6 @@ impl KuhnPoker {
         }
         let legal = self.legal(state, agent);
         let count = legal.count;
-        if out.len() < count {
-            return Written {
-                refusal: refusals::OUTPUT,
-                state,
-                count: 0,
-            };
-        }
         let actions = legal.actions;
         finite::copy_at(out, 0, &actions, count);
         Written {
@@ -168,6 +162,20 @@ impl KuhnPoker {
             state,
             count,
         }
+    }
+
+    fn legal_refusal(self, state: KuhnState, agent: usize, room: usize) -> u64
+        ensures { λ r. ⌜ r ≡ legal-refusal self state agent room ⌝ }
+    {
+        let refusal = position_refusal(self.players, state);
+        if refusal != refusals::ACCEPTED {
+            return refusal;
+        }
+        let legal = self.legal(state, agent);
+        if room < legal.count {
+            return refusals::OUTPUT;
+        }
+        refusals::ACCEPTED
     }
 
     // What a seat may do, by value.
@@ -178,7 +186,7 @@ impl KuhnPoker {
         let n = self.players;
         let acted = state.acted;
         let actions = [Self::PASS, Self::BET];
-        if !position::is_live(n, state) {
+        if !is_live(n, state) {
             return Legal { count: 0, actions };
         }
         if agent != acted % n {
@@ -192,7 +200,7 @@ impl KuhnPoker {
         ensures answer { λ r. ⌜ r ≡ keyed self state agent (length (now (out .entry))) ⌝ }
         ensures output { λ r. ⌜ now (out .exit) ≡ written (r .refusal) (key-of state agent) (now (out .entry)) ⌝ }
     {
-        let refusal = self.position_refusal(state);
+        let refusal = self.key_refusal(state, agent, out.len());
         if refusal != refusals::ACCEPTED {
             return Written {
                 refusal,
@@ -200,23 +208,7 @@ impl KuhnPoker {
                 count: 0,
             };
         }
-        let dealt = state.dealt;
-        if dealt <= agent {
-            return Written {
-                refusal: refusals::UNFIT,
-                state,
-                count: 0,
-            };
-        }
         let acted = state.acted;
-        let count = 2 + acted;
-        if out.len() < count {
-            return Written {
-                refusal: refusals::OUTPUT,
-                state,
-                count: 0,
-            };
-        }
         let cards = state.cards;
         let history = state.history;
         out[0] = agent as u8;
@@ -225,8 +217,24 @@ impl KuhnPoker {
         Written {
             refusal,
             state,
-            count,
+            count: 2 + acted,
         }
+    }
+
+    fn key_refusal(self, state: KuhnState, agent: usize, room: usize) -> u64
+        ensures { λ r. ⌜ r ≡ key-refusal self state agent room ⌝ }
+    {
+        let refusal = position_refusal(self.players, state);
+        if refusal != refusals::ACCEPTED {
+            return refusal;
+        }
+        if state.dealt <= agent {
+            return refusals::UNFIT;
+        }
+        if room < 2 + state.acted {
+            return refusals::OUTPUT;
+        }
+        refusals::ACCEPTED
     }
 
     // Payoff: what each seat gains or loses at the end of the hand.
@@ -259,11 +267,11 @@ impl KuhnPoker {
     fn payoff_refusal(self, state: KuhnState) -> u64
         ensures { λ r. ⌜ r ≡ payoff-refusal self state ⌝ }
     {
-        let refusal = self.position_refusal(state);
+        let refusal = position_refusal(self.players, state);
         if refusal != refusals::ACCEPTED {
             return refusal;
         }
-        if !position::is_over(self.players, state) {
+        if !is_over(self.players, state) {
             return refusals::UNFIT;
         }
         refusals::ACCEPTED
@@ -273,11 +281,11 @@ impl KuhnPoker {
     pub fn validate_decoded_state(self, state: KuhnState, done: u64) -> Moved
         ensures { λ r. ⌜ r ≡ checked self state done ⌝ }
     {
-        let refusal = position::saved_refusal(self.players, state);
+        let refusal = saved_refusal(self.players, state);
         if refusal != refusals::ACCEPTED {
             return Moved { refusal, state };
         }
-        if done != position::end_mark(self.players, state) {
+        if done != end_mark(self.players, state) {
             return Moved {
                 refusal: refusals::END_MARK,
                 state,
@@ -288,74 +296,10 @@ impl KuhnPoker {
             state,
         }
     }
-
-    // What every rules call on a position checks first.
-    fn position_refusal(self, state: KuhnState) -> u64
-        ensures { λ r. ⌜ r ≡ first (position-checks (self .players) state) ⌝ }
-    {
-        let n = self.players;
-        if position::seats_outside(n) {
-            return refusals::SEATS;
-        }
-        if !position::is_reachable(n, state) {
-            return refusals::UNREACHABLE;
-        }
-        refusals::ACCEPTED
-    }
-}
-
-impl KuhnState {
-    // The initial position: no card dealt, no action made.
-    pub fn new() -> Self
-        ensures { λ r. ⌜ r ≡ initial ⌝ }
-    {
-        KuhnState {
-            cards: [0u8; 10],
-            dealt: 0,
-            history: [0u8; 19],
-            acted: 0,
-        }
-    }
-
-    // One card more.
-    fn with_card(self, card: usize) -> Self
-        requires { ⌜ (self .dealt < 10) × (card ≤ 10) ⌝ }
-        ensures { λ r. ⌜ r ≡ with-card self card ⌝ }
-    {
-        let mut next = self;
-        let at = self.dealt;
-        let byte = card as u8;
-        next.cards[at] = byte;
-        next.dealt = at + 1;
-        next
-    }
-
-    // One action more.
-    fn with_action(self, action: usize) -> Self
-        requires { ⌜ self .acted < 19 ⌝ }
-        ensures { λ r. ⌜ r ≡ with-action self (counted action) ⌝ }
-    {
-        let mut next = self;
-        let at = self.acted;
-        let byte = as_action(action);
-        next.history[at] = byte;
-        next.acted = at + 1;
-        next
-    }
 }
 
 // What a seat may do: the first count of the actions.
 struct Legal {
     count: usize,
     actions: [u8; 2],
-}
-
-// Every action above 1 counts as a bet.
-fn as_action(action: usize) -> u8
-    ensures { λ r. ⌜ r ≡ counted action ⌝ }
-{
-    if (KuhnPoker::BET as usize) < action {
-        return KuhnPoker::BET;
-    }
-    action as u8
 }

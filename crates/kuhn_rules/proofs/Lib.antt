@@ -2,7 +2,6 @@
 pub mod Histories
 pub mod Deals
 pub mod Winner
-pub mod Amounts
 pub mod Moves
 pub mod Balance
 pub mod Facts

@@ -1,22 +1,24 @@
 -- Which number each call answers, check by check. Assumes nothing.
-use mathlib.Core.Path.{_≡_, refl, sym, ap, ap₂, _∙_}
-use mathlib.Core.Bool.{Bool, true, false, not}
-use mathlib.Core.List.{List, [], _∷_, _++_}
-use Prim.Native.Nat.{ℕ, zero, suc, _+_, _%_, _≤_, _<_}
+use mathlib.Core.Path.{_≡_, refl, sym, ap, _∙_}
+use mathlib.Core.Bool.{true, false, not}
+use mathlib.Core.List.{List, [], _∷_}
+use Prim.Native.Nat.{ℕ, zero, suc, _%_, _≤_, _<_}
 use native.Mathlib.Omega.{arith}
-use lib.Dec.{eqb, leb, ltb}
-use lib.ListN.{length, getD, take, drop}
+use lib.Dec.{eqb, ltb}
+use lib.ListN.{length, getD}
 use borrow.Author.Tests.{eqb-true, not-false, ltb-true, lt-ltb, le-ltb, le-leb, lt-leb, eq-eqb, ne-eqb}
-use Rattle.refusals.specs.Refusals.{Check, first, _refuses_}
-use Rattle.finite.specs.Finite.{and, those}
-use Rattle.leduc_rules.specs.Rules.{ended, due, live, left, remaining}
-use Rattle.leduc_rules.proofs.Deals.{nth-fits}
-use Rattle.leduc_rules.proofs.Checks.{first-pass, first-stop}
-use Rattle.leduc.specs.Calls.{cardsOf, seenOf, roundOne, roundTwo, reachable, legal-of, key-of, mark, saved-checks}
-use Rattle.leduc.specs.Calls.{deal-refusal, step-refusal, legal-refusal, key-refusal, payoff-refusal, saved-refusal}
-use Rattle.leduc.specs.declared.LeducState.{LeducState}
+use Rattle.refusals.specs.Refusals.{first, _refuses_}
+use Rattle.finite.specs.Finite.{and}
+use Rattle.leduc_betting.specs.Betting.{ended}
+use Rattle.leduc_rules.specs.Rules.{due, live}
+use Rattle.leduc_betting.specs.Cards.{left, remaining}
+use Rattle.leduc_betting.proofs.Deals.{nth-fits}
+use Rattle.leduc_betting.proofs.Checks.{first-pass, first-stop}
+use Rattle.leduc_positions.specs.Positions.{cardsOf, seenOf, roundOne, roundTwo, reachable, legal-of, mark, saved-checks}
+use Rattle.leduc.specs.Calls.{key-of, deal-refusal, step-refusal, legal-refusal, key-refusal, payoff-refusal, saved-refusal}
+use Rattle.leduc_positions.specs.declared.LeducState.{LeducState}
 use Rattle.refusals.proofs.Order.{fails-first}
-use Rattle.leduc.proofs.Order.{saved-firm, passes-front}
+use Rattle.leduc_positions.proofs.Order.{saved-firm, passes-front}
 
 any-default : (l : List ℕ) (k a b : ℕ) → k < length l → getD l k a ≡ getD l k b
 any-default [] k a b h = absurd (omega arith)

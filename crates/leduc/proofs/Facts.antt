@@ -1,29 +1,30 @@
 -- The facts of specs/Facts.antt, proved. Assumes nothing.
-use mathlib.Core.Path.{_≡_, refl, sym, ap, ap₂, _∙_}
+use mathlib.Core.Path.{_≡_, refl, sym, ap, _∙_}
 use mathlib.Core.Bool.{Bool, true, false, not}
-use mathlib.Core.List.{List, [], _∷_, _++_}
-use Prim.Native.Nat.{ℕ, _≤_, _<_}
+use mathlib.Core.List.{List, [], _∷_}
+use Prim.Native.Nat.{ℕ}
 use native.Mathlib.Omega.{arith}
-use lib.Dec.{eqb, leb, ltb}
+use lib.Dec.{eqb, ltb}
 use lib.ListN.{length, take}
 use lib.Seq.{length-take-le}
-use borrow.Author.Tests.{eqb-true, eq-eqb, le-leb, le-ltb, ltb-false, not-true, not-false}
-use Rattle.refusals.specs.Refusals.{Check, first, _refuses_}
+use borrow.Author.Tests.{eq-eqb, le-leb, le-ltb}
+use Rattle.refusals.specs.Refusals.{first, _refuses_}
 use Rattle.refusals.proofs.Order.{fails-first, fails-rest}
 use Rattle.finite.specs.Finite.{and, or}
-use Rattle.finite.proofs.Tests.{Tested, holds, fails, tested, both, neither, or-left, or-right, or-cases, or-false-right, true≢false}
-use Rattle.leduc_rules.specs.Rules.{closes, ended, hidden, seen, public-due, due}
-use Rattle.leduc_rules.specs.Reached.{Reached, strange, twice, possible}
-use Rattle.leduc_rules.specs.Checks.{barred-by, malformed, action-checks, card-checks, round-checks, public-checks}
-use Rattle.leduc_rules.proofs.Checks.{cards-pass, round-pass, round-firm, second-checks}
+use Rattle.finite.proofs.Tests.{both, neither, or-left, or-false-right, true≢false}
+use Rattle.leduc_betting.specs.Betting.{closes, ended}
+use Rattle.leduc_betting.specs.Cards.{hidden, seen, strange, twice}
+use Rattle.leduc_rules.specs.Rules.{public-due, due}
+use Rattle.leduc_betting.specs.Checks.{barred-by, malformed, action-checks, card-checks, round-checks, public-checks}
+use Rattle.leduc_betting.proofs.Checks.{cards-pass, round-pass, round-firm, second-checks}
 use Rattle.leduc_rules.proofs.Lawful.{actions-played, blind-empty, fits-length, first-passes, second-passes}
 use Rattle.leduc_rules.proofs.Reaching.{Possible, possible-parts}
 use Rattle.leduc_rules.proofs.Moves.{possible-all, reached-parts, parts-reached}
-use Rattle.leduc.specs.Calls.{cardsOf, seenOf, roundOne, roundTwo, reachable, saved-checks, mark, saved-refusal}
+use Rattle.leduc_positions.specs.Positions.{cardsOf, seenOf, roundOne, roundTwo, reachable, saved-checks}
 use Rattle.leduc.specs.Facts.{Sized, Reachable-by-moves, Saved-accepts, Waiting-refused}
-use Rattle.leduc.specs.declared.LeducState.{LeducState}
-use Rattle.leduc.proofs.Positions.{Short, reachable-short, reachable-possible}
-use Rattle.leduc.proofs.Order.{passes-front, passes-rest, saved-dealt, saved-rounds, saved-second, rounds-checks, cards-there}
+use Rattle.leduc_positions.specs.declared.LeducState.{LeducState}
+use Rattle.leduc_positions.proofs.Positions.{reachable-short, reachable-possible}
+use Rattle.leduc_positions.proofs.Order.{passes-front, passes-rest, saved-dealt, saved-rounds, saved-second, rounds-checks, cards-there}
 use Rattle.leduc.proofs.Answers.{saved-stops, saved-accepted, saved-marked}
 
 pub reachable-by-moves : Reachable-by-moves

@@ -1,6 +1,4 @@
--- Laws of Leduc's positions and of the checks of a saved one.
-pub mod Positions
-pub mod Order
+-- Laws of Leduc's calls.
 pub mod Writing
 pub mod Answers
 pub mod Facts

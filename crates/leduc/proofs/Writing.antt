@@ -1,12 +1,13 @@
 -- Laws of bytes written one part after the other. Assumes nothing.
-use mathlib.Core.Path.{_≡_, refl, sym, ap, ap₂, _∙_}
+use mathlib.Core.Path.{_≡_, sym, ap, ap₂, _∙_}
 use mathlib.Core.List.{List, [], _∷_, _++_, append-assoc}
-use Prim.Native.Nat.{ℕ, zero, suc, _+_, _≤_, _<_}
+use Prim.Native.Nat.{ℕ, _+_}
 use native.Mathlib.Omega.{arith}
-use lib.ListN.{length, getD, take, drop, length-append, length-take, length-drop}
+use lib.ListN.{length, getD, drop, length-append}
 use Rattle.leduc_rules.specs.Rules.{key, shown-public}
-use Rattle.leduc.specs.Calls.{cardsOf, roundOne, roundTwo, key-of}
-use Rattle.leduc.specs.declared.LeducState.{LeducState}
+use Rattle.leduc_positions.specs.Positions.{cardsOf, roundOne, roundTwo}
+use Rattle.leduc.specs.Calls.{key-of}
+use Rattle.leduc_positions.specs.declared.LeducState.{LeducState}
 use lib.Seq.{take-length, take-append-seam, drop-append-add, drop-drop, paste}
 
 -- the bytes at the front of an output, and what it held beyond them

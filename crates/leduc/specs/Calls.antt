@@ -1,75 +1,22 @@
 -- What each call answers, and what it leaves in lent memory (document 01, "What comes back when a call is refused" and "The two games").
 -- A refused answer holds its number, the position handed in, and 0 in every other field.
-use mathlib.Core.Bool.{Bool, true, false, not, cond}
+use mathlib.Core.Bool.{not}
 use mathlib.Core.List.{List, [], _∷_, _++_}
-use Prim.Native.Nat.{ℕ, zero, suc, _+_}
+use Prim.Native.Nat.{ℕ, zero, suc}
 use lib.Dec.{eqb, leb, ltb}
-use lib.IntN.{ℤ, pos}
-use lib.ListN.{length, getD, take, drop, set, replicate}
+use lib.IntN.{pos}
+use lib.ListN.{length, getD, drop, replicate}
 use Rattle.refusals.specs.Refusals.{Check, first, _refuses_}
 use Rattle.refusals.specs.Refusals as Refusals
-use Rattle.finite.specs.Finite.{and, or}
-use Rattle.leduc_rules.specs.Rules.{closes, counted, in-play, ended, hidden, seen, remaining, due, live, legal, key, payoff}
-use Rattle.leduc_rules.specs.Stakes.{ante, raise₁, raise₂}
-use Rattle.leduc_rules.specs.Reached.{possible}
-use Rattle.leduc_rules.specs.Checks.{barred-by, card-checks, round-checks, public-checks}
-use Rattle.leduc_rules.specs.declared.Public.{Public}
-use Rattle.leduc_rules.specs.declared.Public.the-variants.{Hidden, Card}
-use Rattle.leduc.specs.declared.LeducState.{LeducState}
+use Rattle.finite.specs.Finite.{and}
+use Rattle.leduc_betting.specs.Betting.{counted, ended}
+use Rattle.leduc_betting.specs.Cards.{remaining}
+use Rattle.leduc_rules.specs.Rules.{due, live, key}
+use Rattle.leduc_positions.specs.Positions.{cardsOf, seenOf, roundOne, roundTwo, initial, with-card, with-action, position-checks, in-playOf, legal-of, payoff-of, saved-checks, mark}
+use Rattle.leduc_positions.specs.declared.LeducState.{LeducState}
 use Rattle.leduc.specs.declared.Moved.{Moved}
 use Rattle.leduc.specs.declared.Written.{Written}
 use Rattle.leduc.specs.declared.Payoffs.{Payoffs}
-
--- ---- positions
-
--- the seats' cards, all cards dealt, and the actions of each round; places past a length are no part of them
-abbrev pub cardsOf : LeducState → List ℕ
-cardsOf s = take (s .dealt) (s .cards)
-
-abbrev pub seenOf : LeducState → List ℕ
-seenOf s = seen (cardsOf s) (s .public)
-
-abbrev pub roundOne : LeducState → List ℕ
-roundOne s = take (s .acted1) (s .history)
-
-abbrev pub roundTwo : LeducState → List ℕ
-roundTwo s = take (s .acted2) (drop 4 (s .history))
-
--- the initial position
-abbrev pub initial : LeducState
-initial = record { cards = replicate 2 0; dealt = 0; public = Hidden; history = replicate 8 0; acted1 = 0; acted2 = 0 }
-
--- one card more: a seat's, or the public one once both have theirs
-abbrev pub with-private : LeducState → ℕ → LeducState
-with-private s c = record { cards = set (s .cards) (s .dealt) c; dealt = s .dealt + 1; public = s .public; history = s .history; acted1 = s .acted1; acted2 = s .acted2 }
-
-abbrev pub with-public : LeducState → ℕ → LeducState
-with-public s c = record { cards = s .cards; dealt = s .dealt; public = Card c; history = s .history; acted1 = s .acted1; acted2 = s .acted2 }
-
-abbrev pub with-card : LeducState → ℕ → LeducState
-with-card s c = cond (ltb (s .dealt) 2) (with-private s c) (with-public s c)
-
--- one action more: of round 1, or of round 2 once round 1 has closed
-abbrev pub with-first : LeducState → ℕ → LeducState
-with-first s a = record { cards = s .cards; dealt = s .dealt; public = s .public; history = set (s .history) (s .acted1) a; acted1 = s .acted1 + 1; acted2 = s .acted2 }
-
-abbrev pub with-second : LeducState → ℕ → LeducState
-with-second s a = record { cards = s .cards; dealt = s .dealt; public = s .public; history = set (s .history) (4 + s .acted2) a; acted1 = s .acted1; acted2 = s .acted2 + 1 }
-
-abbrev pub with-action : LeducState → ℕ → LeducState
-with-action s a = cond (closes (roundOne s)) (with-second s a) (with-first s a)
-
--- ---- checks
-
--- number 19: no length is above its part of the array, and the cards and actions can be reached by legal moves
-unfoldable pub reachable : LeducState → Bool
-reachable s =
-    and (and (leb (s .dealt) 2) (and (leb (s .acted1) 4) (leb (s .acted2) 4)))
-    (possible (cardsOf s) (s .public) (roundOne s) (roundTwo s))
-
--- the check of every rules call on a position, before its own
-abbrev pub position-checks : LeducState → List Check
-position-checks s = (not (reachable s) refuses Refusals.unreachable) ∷ []
 
 -- ---- answers
 
@@ -111,16 +58,10 @@ step-checks s = (not (live (cardsOf s) (s .public) (roundOne s) (roundTwo s)) re
 unfoldable pub step-refusal : LeducState → ℕ
 step-refusal s = first (position-checks s ++ step-checks s)
 
-abbrev pub in-playOf : LeducState → List ℕ
-in-playOf s = in-play (roundOne s) (roundTwo s)
-
 abbrev pub stepped : LeducState → ℕ → Moved
 stepped s a = moved (step-refusal s) s (with-action s (counted (in-playOf s) a))
 
 -- legal list, of a seat t, into an output of room bytes
-abbrev pub legal-of : LeducState → ℕ → List ℕ
-legal-of s t = legal (cardsOf s) (s .public) (roundOne s) (roundTwo s) t
-
 abbrev pub legal-checks : LeducState → ℕ → ℕ → List Check
 legal-checks s t room = (ltb room (length (legal-of s t)) refuses Refusals.output) ∷ []
 
@@ -150,9 +91,6 @@ payoff-checks s = (not (ended (roundOne s) (roundTwo s)) refuses Refusals.unfit)
 unfoldable pub payoff-refusal : LeducState → ℕ
 payoff-refusal s = first (position-checks s ++ payoff-checks s)
 
-abbrev pub payoff-of : LeducState → ℕ → ℤ
-payoff-of s t = payoff ante raise₁ raise₂ (cardsOf s) (s .public) (roundOne s) (roundTwo s) t
-
 abbrev pub payoff-answer : ℕ → LeducState → Payoffs
 payoff-answer zero s = record { refusal = zero; state = s; count = 2; payoffs = payoff-of s 0 ∷ payoff-of s 1 ∷ replicate 8 (pos 0) }
 payoff-answer (suc r) s = record { refusal = suc r; state = s; count = 0; payoffs = replicate 10 (pos 0) }
@@ -160,19 +98,7 @@ payoff-answer (suc r) s = record { refusal = suc r; state = s; count = 0; payoff
 abbrev pub paid : LeducState → Payoffs
 paid s = payoff-answer (payoff-refusal s) s
 
--- numbers 10 to 17 of a saved position; without the public card no action of round 2 is legal
-unfoldable pub saved-checks : LeducState → List Check
-saved-checks s =
-    (not (eqb (s .dealt) 2) refuses Refusals.card-count)
-    ∷ card-checks (seenOf s)
-    ++ (round-checks false false (s .acted1) (roundOne s)
-    ++ (round-checks (barred-by (roundOne s)) (hidden (s .public)) (s .acted2) (roundTwo s)
-    ++ public-checks (hidden (s .public)) (roundOne s) (roundTwo s)))
-
--- its end mark: 0 for a live hand, 1 for one that has ended
-abbrev pub mark : Bool → ℕ
-mark b = cond b 1 0
-
+-- saved position, with its end mark m
 abbrev pub mark-checks : LeducState → ℕ → List Check
 mark-checks s m = (not (eqb m (mark (ended (roundOne s) (roundTwo s)))) refuses Refusals.end-mark) ∷ []
 

@@ -5,10 +5,12 @@ use mathlib.Core.Bool.{true, false}
 use Prim.Native.Nat.{ℕ, _≤_}
 use lib.ListN.{length}
 use Rattle.refusals.specs.Refusals as Refusals
-use Rattle.leduc_rules.specs.Rules.{ended, public-due, due}
+use Rattle.leduc_betting.specs.Betting.{ended}
+use Rattle.leduc_rules.specs.Rules.{public-due, due}
 use Rattle.leduc_rules.specs.Reached.{Reached}
-use Rattle.leduc.specs.Calls.{cardsOf, roundOne, roundTwo, reachable, mark, saved-refusal}
-use Rattle.leduc.specs.declared.LeducState.{LeducState}
+use Rattle.leduc_positions.specs.Positions.{cardsOf, roundOne, roundTwo, reachable, mark}
+use Rattle.leduc.specs.Calls.{saved-refusal}
+use Rattle.leduc_positions.specs.declared.LeducState.{LeducState}
 
 -- a position of two cards and eight actions
 pub record Sized (s : LeducState) : Type 0 where

@@ -1,44 +1,30 @@
 // Leduc hold'em for two seats: positions by value, the rules calls and the saved-position check.
 // A call refuses by document 01's numbers, in its order, and then gives the position back as it came.
-
 mod output;
-mod saved;
-mod state;
 
 use crate::output::write_at;
 use crate::output::write_key;
-use crate::saved::saved_refusal;
-use crate::state::card_due;
-use crate::state::end_mark;
-use crate::state::hand_over;
-use crate::state::is_reachable;
-use crate::state::legal_list;
-use crate::state::next_card;
-use crate::state::seat_acts;
-use crate::state::state_gains;
-use crate::state::step_action;
-use crate::state::with_action;
-use crate::state::with_card;
-use leduc_rules::Public;
+pub use leduc_positions::LeducState;
+use leduc_positions::saved::saved_refusal;
+use leduc_positions::state::card_due;
+use leduc_positions::state::end_mark;
+use leduc_positions::state::hand_over;
+use leduc_positions::state::is_reachable;
+use leduc_positions::state::legal_list;
+use leduc_positions::state::next_card;
+use leduc_positions::state::seat_acts;
+use leduc_positions::state::state_gains;
+use leduc_positions::state::step_action;
+use leduc_positions::state::with_action;
+use leduc_positions::state::with_card;
 ghost use mathlib.Core.Path.{_≡_};
 ghost use lib.IntN.{pos};
 ghost use lib.ListN.{length, replicate};
-ghost use Rattle.leduc.specs.Calls.{initial, started, dealt, stepped, legal-of, legal-refusal, listed, key-of, key-refusal, keyed, written};
-ghost use Rattle.leduc.specs.Calls.{paid, checked};
+ghost use Rattle.leduc_positions.specs.Positions.{legal-of};
+ghost use Rattle.leduc.specs.Calls.{started, dealt, stepped, legal-refusal, listed, key-of, key-refusal, keyed, written, paid, checked};
 
 // The game.
 pub struct LeducPoker {}
-
-// A position: the seats' cards, the public card, and the actions of round 1 from place 0 and of round 2 from place 4.
-// Places past a length are not part of it.
-pub struct LeducState {
-    pub cards: [u8; 2],
-    pub dealt: usize,
-    pub public: Public,
-    pub history: [u8; 8],
-    pub acted1: usize,
-    pub acted2: usize,
-}
 
 // A call's refusal number, 0 if it was accepted, and a position: the new one of an accepted deal or step, else the one handed in.
 pub struct Moved {
@@ -62,15 +48,15 @@ pub struct Payoffs {
 }
 
 impl LeducPoker {
-    pub const FOLD: u8 = leduc_rules::FOLD;
+    pub const FOLD: u8 = leduc_betting::FOLD;
 
-    pub const CALL: u8 = leduc_rules::CALL;
+    pub const CALL: u8 = leduc_betting::CALL;
 
-    pub const RAISE: u8 = leduc_rules::RAISE;
+    pub const RAISE: u8 = leduc_betting::RAISE;
 
-    pub const DECK: u8 = leduc_rules::DECK;
+    pub const DECK: u8 = leduc_betting::DECK;
 
-    pub const RAISES: usize = leduc_rules::RAISES;
+    pub const RAISES: usize = leduc_betting::RAISES;
 
     pub const SEATS: usize = leduc_rules::SEATS;
 
@@ -258,21 +244,5 @@ fn no_payoffs(state: LeducState, refusal: u64) -> Payoffs
         state,
         count: 0,
         payoffs: [0i64; 10],
-    }
-}
-
-impl LeducState {
-    // The initial position: no card dealt, no action made.
-    pub fn new() -> Self
-        ensures { λ r. ⌜ r ≡ initial ⌝ }
-    {
-        LeducState {
-            cards: [0u8; 2],
-            dealt: 0,
-            public: Public::Hidden,
-            history: [0u8; 8],
-            acted1: 0,
-            acted2: 0,
-        }
     }
 }

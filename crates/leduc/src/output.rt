@@ -1,13 +1,14 @@
 // What a call writes into lent memory.
 use crate::LeducState;
-use leduc_rules::Public;
+use leduc_betting::Public;
 ghost use mathlib.Core.Path.{_≡_};
 ghost use Prim.Native.Nat.{_+_, _≤_, _<_};
 ghost use mathlib.Core.List.{[], _∷_};
 ghost use lib.ListN.{length, getD};
 ghost use lib.Seq.{paste};
 ghost use Rattle.leduc_rules.specs.Rules.{shown-public};
-ghost use Rattle.leduc.specs.Calls.{cardsOf, key-of, written};
+ghost use Rattle.leduc_positions.specs.Positions.{cardsOf};
+ghost use Rattle.leduc.specs.Calls.{key-of, written};
 
 // The bytes, written from a place on.
 pub fn write_at(out: &mut [u8], at: usize, bytes: &[u8])

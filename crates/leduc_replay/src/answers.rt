@@ -3,7 +3,7 @@ use leduc::LeducState;
 use leduc::Moved;
 use leduc::Payoffs;
 use leduc::Written;
-use leduc_rules::Public;
+use leduc_betting::Public;
 use replay::Line;
 
 fn least(a: usize, b: usize) -> usize {

@@ -6,7 +6,7 @@ mod rules;
 
 use leduc::LeducPoker;
 use leduc::LeducState;
-use leduc_rules::Public;
+use leduc_betting::Public;
 use replay::Line;
 use replay::Source;
 

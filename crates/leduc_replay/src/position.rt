@@ -1,6 +1,6 @@
 // A position as a line gives it.
 use leduc::LeducState;
-use leduc_rules::Public;
+use leduc_betting::Public;
 use replay::Bytes;
 use replay::Given;
 use replay::Source;

@@ -1,25 +1,24 @@
 -- The seat to act is behind exactly when it has paid less than the other. Assumes nothing.
 use mathlib.Core.Path.{_≡_, refl, sym, ap, ap₂, subst, _∙_}
-use mathlib.Core.Bool.{Bool, true, false, not, cond}
+use mathlib.Core.Bool.{Bool, true, false, cond}
 use mathlib.Core.List.{List, [], _∷_, _++_}
-use Prim.Native.Nat.{ℕ, zero, suc, _+_, _-_, _%_, _≤_, _<_}
+use Prim.Native.Nat.{ℕ, suc, _+_, _-_, _%_, _<_}
 use native.Mathlib.Omega.{arith}
 use native.Mathlib.Nat as NatL
 use lib.Dec.{eqb, leb, ltb}
 use lib.ListN.{length, getD, length-append}
 use lib.Seq.{getD-at}
-use borrow.Author.Tests.{eqb-true, eq-eqb, eqb-false, lt-ltb, le-ltb}
+use borrow.Author.Tests.{eqb-true, eqb-false, lt-ltb, le-ltb}
 use Rattle.finite.specs.Finite.{and, or, some}
 use Rattle.finite.proofs.Tests.{Tested, holds, fails, tested, and-right, or-cases, true≢false}
-use Rattle.leduc_rules.specs.Rules.{CALL, RAISE, ends-with, folded, closes, behind, in-play, turn, live, matched, bet, seated, after-round, contribution}
-use Rattle.leduc_rules.specs.Reached.{played, Reached}
+use Rattle.leduc_betting.specs.Betting.{CALL, RAISE, ends-with, folded, closes, behind, in-play, turn, played}
+use Rattle.leduc_rules.specs.Rules.{matched, bet, seated, after-round, contribution}
 use Rattle.leduc_rules.specs.Facts.{Behind-pays-less}
-use Rattle.leduc_rules.specs.declared.Public.{Public}
 use Rattle.leduc_rules.specs.declared.Pot.{Pot}
 use Rattle.leduc_rules.proofs.Pots.{pot-of}
-use Rattle.leduc_rules.proofs.Rounds.{all-of, rounds, round-rule}
-use Rattle.leduc_rules.proofs.Reaching.{Possible, nothing-closed}
-use Rattle.leduc_rules.proofs.Moves.{reached-parts, still-hidden, hidden-none, acting, Acting, goes-on}
+use Rattle.leduc_betting.proofs.Rounds.{all-of, rounds, round-rule}
+use Rattle.leduc_rules.proofs.Reaching.{nothing-closed}
+use Rattle.leduc_rules.proofs.Moves.{reached-parts, still-hidden, hidden-none, acting, goes-on}
 
 -- ---- the last action of a round
 

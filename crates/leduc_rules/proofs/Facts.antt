@@ -4,22 +4,23 @@ use mathlib.Core.Bool.{Bool, true, false, not, cond}
 use mathlib.Core.List.{List, [], _∷_, _++_}
 use Prim.Native.Nat.{ℕ, zero, suc, _+_, _-_, _≤_, _<_}
 use native.Mathlib.Omega.{arith}
-use lib.Dec.{eqb, leb, ltb}
-use lib.IntN.{ℤ, pos, negℤ, _+ℤ_, +ℤ-invr, +ℤ-invl}
+use lib.Dec.{leb, ltb}
+use lib.IntN.{pos, _+ℤ_, +ℤ-invr, +ℤ-invl}
 use lib.ListN.{length, getD, take, drop}
-use lib.Seq.{take-append-seam, drop-append-seam, take-at, drop-at}
-use borrow.Author.Tests.{ltb-true, ltb-false, le-ltb, leb-true, leb-false, not-true, not-false}
-use Rattle.finite.specs.Finite.{and, or, some, has, those}
-use Rattle.finite.proofs.Tests.{Tested, holds, fails, tested, both, neither, and-left, and-right, and-left-fails, and-rest, or-left, or-right, or-cases, or-false-right, true≢false}
+use lib.Seq.{take-append-seam, drop-append-seam}
+use borrow.Author.Tests.{ltb-true, leb-true, leb-false, not-true}
+use Rattle.finite.specs.Finite.{and, or, some, has}
+use Rattle.finite.proofs.Tests.{Tested, holds, fails, tested, both, and-left, and-right, and-left-fails, and-rest, or-left, or-right, or-cases, or-false-right, true≢false}
 use Rattle.finite.proofs.Lists.{those-ascending, has-those}
-use Rattle.leduc_rules.specs.Rules.{rank, ends-with, folded, closes, folds, pairs, beats, wins, ended, hidden, seen, left, remaining, public-due, due, live, legal, shown-public, key, contribution, payoff}
-use Rattle.leduc_rules.specs.Reached.{strange}
-use Rattle.leduc_rules.specs.Checks.{action-checks, barred-by}
+use Rattle.leduc_betting.specs.Cards.{rank, left, remaining, strange}
+use Rattle.leduc_betting.specs.Betting.{folded, closes}
+use Rattle.leduc_rules.specs.Rules.{folds, pairs, beats, wins, public-due, due, live, legal, key, contribution, payoff}
+use Rattle.leduc_betting.specs.Checks.{action-checks, barred-by}
 use Rattle.leduc_rules.specs.Facts.{Zero-sum, Ascending, All-left, Longest-round, Same-shape, Key-tells, Key-recalls, Public-told, Second-too-early}
-use Rattle.leduc_rules.specs.declared.Public.{Public}
-use Rattle.leduc_rules.specs.declared.Public.the-variants.{Hidden, Card}
-use Rattle.leduc_rules.proofs.Rounds.{all-of, rounds, round-rule, closed-unfolded}
-use Rattle.leduc_rules.proofs.Amounts.{gained}
+use Rattle.leduc_betting.specs.declared.Public.{Public}
+use Rattle.leduc_betting.specs.declared.Public.the-variants.{Hidden, Card}
+use Rattle.leduc_betting.proofs.Rounds.{all-of, rounds, round-rule, closed-unfolded}
+use Rattle.leduc_rules.proofs.Gains.{gained}
 use Rattle.leduc_rules.proofs.Reaching.{Possible}
 use Rattle.leduc_rules.proofs.Moves.{reached-parts, still-hidden, hidden-none, strange-more}
 

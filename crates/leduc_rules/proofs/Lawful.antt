@@ -1,22 +1,22 @@
 -- The checks of a round pass exactly if it was played by the rules. Assumes nothing.
-use mathlib.Core.Path.{_≡_, refl, sym, ap, ap₂, _∙_}
+use mathlib.Core.Path.{_≡_, refl, ap, ap₂, _∙_}
 use mathlib.Core.Bool.{Bool, true, false, not}
 use mathlib.Core.List.{List, [], _∷_, _++_}
 use Prim.Native.Nat.{ℕ, _≤_}
 use native.Mathlib.Omega.{arith}
-use lib.Dec.{eqb, leb, ltb}
-use lib.ListN.{length, getD}
+use lib.Dec.{eqb, ltb}
+use lib.ListN.{length}
 use borrow.Author.Tests.{eqb-true, ltb-false, le-ltb, not-true, not-false}
-use Rattle.refusals.specs.Refusals.{Check, first, _refuses_}
+use Rattle.refusals.specs.Refusals.{first, _refuses_}
 use Rattle.refusals.proofs.Order.{fails-first, fails-rest}
 use Rattle.finite.specs.Finite.{and, or, some}
-use Rattle.finite.proofs.Tests.{Tested, holds, fails, tested, both, neither, or-rest, or-cases, or-false-left, or-false-right, true≢false}
-use Rattle.leduc_rules.specs.Rules.{folded, closes, open-round, may, ended, hidden, public-due}
-use Rattle.leduc_rules.specs.Reached.{played, unknown}
-use Rattle.leduc_rules.specs.Checks.{action-checks, barred-by, malformed, round-checks, public-checks}
-use Rattle.leduc_rules.specs.declared.Public.{Public}
-use Rattle.leduc_rules.proofs.Checks.{played-first}
-use Rattle.leduc_rules.proofs.Rounds.{all-of, rounds, round-rule, closed-unfolded}
+use Rattle.finite.proofs.Tests.{Tested, holds, fails, tested, both, neither, or-cases, or-false-left, or-false-right, true≢false}
+use Rattle.leduc_betting.specs.Betting.{closes, open-round, may, played, unknown}
+use Rattle.leduc_betting.specs.Cards.{hidden}
+use Rattle.leduc_betting.specs.Checks.{action-checks, barred-by, malformed, round-checks}
+use Rattle.leduc_betting.specs.declared.Public.{Public}
+use Rattle.leduc_betting.proofs.Checks.{played-first}
+use Rattle.leduc_betting.proofs.Rounds.{all-of, rounds, round-rule, closed-unfolded}
 use Rattle.leduc_rules.proofs.Reaching.{Possible}
 use Rattle.leduc_rules.proofs.Moves.{hidden-none}
 

@@ -1,10 +1,6 @@
--- Laws of Leduc's rules and checks.
-pub mod Histories
-pub mod Deals
-pub mod Amounts
+-- Laws of Leduc's rules.
+pub mod Gains
 pub mod Pots
-pub mod Checks
-pub mod Rounds
 pub mod Reaching
 pub mod Moves
 pub mod Facts

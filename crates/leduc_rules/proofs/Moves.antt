@@ -2,19 +2,21 @@
 use mathlib.Core.Path.{_≡_, refl, sym, ap, ap₂, subst, _∙_}
 use mathlib.Core.Bool.{Bool, true, false, not}
 use mathlib.Core.List.{List, [], _∷_, _++_, append-assoc}
-use Prim.Native.Nat.{ℕ, zero, suc, _+_, _≤_, _<_}
+use Prim.Native.Nat.{ℕ, suc, _+_, _≤_, _<_}
 use native.Mathlib.Omega.{arith}
 use lib.Dec.{eqb, leb, ltb}
 use lib.ListN.{length, getD, take, length-append, List·getD-append}
 use lib.Seq.{take-append-le, take-append-seam, getD-at}
-use borrow.Author.Tests.{eqb-true, eq-eqb, leb-true, leb-false, le-leb, lt-leb, lt-ltb, le-ltb, ltb-true, ltb-false, not-true, not-false}
+use borrow.Author.Tests.{eqb-true, eq-eqb, leb-false, le-leb, lt-leb, lt-ltb, le-ltb, ltb-true, ltb-false, not-true}
 use Rattle.finite.specs.Finite.{and, or, some, has}
-use Rattle.finite.proofs.Tests.{some-same, some-none, both, and-left, and-right, and-left-fails, and-right-fails, or-left, or-right, or-cases, or-false-left, or-false-right, neither, true≢false}
-use Rattle.leduc_rules.specs.Rules.{folded, closes, open-round, may, ended, hidden, seen, left, public-due, due, live}
-use Rattle.leduc_rules.specs.Reached.{Reached, start, deal, reveal, act₁, act₂, strange, twice, played, possible, Decides-reached}
-use Rattle.leduc_rules.specs.declared.Public.{Public}
-use Rattle.leduc_rules.specs.declared.Public.the-variants.{Hidden, Card}
-use Rattle.leduc_rules.proofs.Rounds.{closed-unfolded}
+use Rattle.finite.proofs.Tests.{some-same, both, and-left, and-right, and-left-fails, and-right-fails, or-left, or-right, or-cases, or-false-left, or-false-right, neither, true≢false}
+use Rattle.leduc_betting.specs.Betting.{folded, closes, open-round, may, ended, played}
+use Rattle.leduc_betting.specs.Cards.{hidden, seen, left, strange, twice}
+use Rattle.leduc_rules.specs.Rules.{public-due, due, live}
+use Rattle.leduc_rules.specs.Reached.{Reached, start, deal, reveal, act₁, act₂, possible, Decides-reached}
+use Rattle.leduc_betting.specs.declared.Public.{Public}
+use Rattle.leduc_betting.specs.declared.Public.the-variants.{Hidden, Card}
+use Rattle.leduc_betting.proofs.Rounds.{closed-unfolded}
 use Rattle.leduc_rules.proofs.Reaching.{Possible, possible-parts, still-open, no-actions, second-later, nothing-closed}
 
 -- ---- one element more

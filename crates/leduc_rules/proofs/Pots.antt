@@ -1,17 +1,18 @@
 -- Laws of the pot. Assumes nothing.
-use mathlib.Core.Path.{_≡_, refl, sym, ap, ap₂, _∙_}
-use mathlib.Core.Bool.{Bool, true, false, not, cond}
-use mathlib.Core.List.{List, [], _∷_, _++_}
+use mathlib.Core.Path.{_≡_, ap, _∙_}
+use mathlib.Core.Bool.{Bool, true, false, cond}
+use mathlib.Core.List.{List, [], _∷_}
 use Prim.Native.Nat.{ℕ, zero, suc, _+_, _*_, _-_, _%_, _≤_, _<_}
 use native.Mathlib.Omega.{arith}
 use native.Mathlib.Numerals.{add-one}
-use lib.Dec.{eqb, ltb, leb}
-use lib.ListN.{length, getD, take, drop, drop-of-length-le}
+use lib.Dec.{eqb}
+use lib.ListN.{length, getD, drop, drop-of-length-le}
 use lib.Seq.{drop-cons}
-use Rattle.leduc_rules.specs.Rules.{CALL, RAISE, matched, bet, seated, after-round, contribution, wins, payoff}
-use Rattle.leduc_rules.specs.declared.Public.{Public}
+use Rattle.leduc_betting.specs.Betting.{CALL, RAISE}
+use Rattle.leduc_rules.specs.Rules.{matched, bet, seated, after-round, contribution, wins, payoff}
+use Rattle.leduc_betting.specs.declared.Public.{Public}
 use Rattle.leduc_rules.specs.declared.Pot.{Pot}
-use Rattle.leduc_rules.proofs.Amounts.{gained}
+use Rattle.leduc_rules.proofs.Gains.{gained}
 
 abbrev pub pot-of : ℕ → ℕ → Pot
 pot-of a o = record { acting = a; other = o }

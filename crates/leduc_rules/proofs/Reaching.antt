@@ -1,18 +1,20 @@
 -- What the test of number 19 says of the cards and histories that pass it. Assumes nothing.
-use mathlib.Core.Path.{_≡_, refl, sym, ap, _∙_}
-use mathlib.Core.Bool.{Bool, true, false, not}
-use mathlib.Core.List.{List, [], _∷_, _++_}
-use Prim.Native.Nat.{ℕ, zero, suc, _≤_, _<_}
+use mathlib.Core.Path.{_≡_, refl, ap, _∙_}
+use mathlib.Core.Bool.{true, false, not}
+use mathlib.Core.List.{List, [], _∷_}
+use Prim.Native.Nat.{ℕ, _≤_}
 use native.Mathlib.Omega.{arith}
-use lib.Dec.{eqb, leb, ltb}
+use lib.Dec.{eqb}
 use lib.ListN.{length}
-use borrow.Author.Tests.{eqb-true, leb-true, not-true, not-false}
+use borrow.Author.Tests.{eqb-true, leb-true, not-true}
 use Rattle.finite.specs.Finite.{and, or, some}
-use Rattle.finite.proofs.Tests.{and-left, and-right, or-cases, or-false-left, or-false-right, neither, true≢false}
-use Rattle.leduc_rules.specs.Rules.{ends-with, folded, closes, open-round, ended, due, live, hidden, seen}
-use Rattle.leduc_rules.specs.Reached.{strange, twice, played, possible}
-use Rattle.leduc_rules.specs.declared.Public.{Public}
-use Rattle.leduc_rules.proofs.Rounds.{open-short}
+use Rattle.finite.proofs.Tests.{and-left, and-right, or-cases, or-false-right, true≢false}
+use Rattle.leduc_betting.specs.Betting.{folded, closes, open-round, ended, played}
+use Rattle.leduc_rules.specs.Rules.{due, live}
+use Rattle.leduc_betting.specs.Cards.{hidden, seen, strange, twice}
+use Rattle.leduc_rules.specs.Reached.{possible}
+use Rattle.leduc_betting.specs.declared.Public.{Public}
+use Rattle.leduc_betting.proofs.Rounds.{open-short}
 
 pub record Possible (cs : List ℕ) (p : Public) (h₁ h₂ : List ℕ) : Type 0 where
   pub few : length cs ≤ 2

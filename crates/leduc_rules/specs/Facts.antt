@@ -9,11 +9,13 @@ use lib.ListN.{length, getD, take}
 use Rattle.refusals.specs.Refusals.{first}
 use Rattle.refusals.specs.Refusals as Refusals
 use Rattle.finite.specs.Finite.{has}
-use Rattle.leduc_rules.specs.Rules.{closes, behind, in-play, turn, ended, hidden, left, remaining, due, live, legal, shown-public, key, contribution, payoff}
+use Rattle.leduc_betting.specs.Betting.{closes, behind, in-play, turn, ended}
+use Rattle.leduc_betting.specs.Cards.{hidden, left, remaining}
+use Rattle.leduc_rules.specs.Rules.{due, live, legal, shown-public, key, contribution, payoff}
 use Rattle.leduc_rules.specs.Reached.{Reached}
-use Rattle.leduc_rules.specs.Checks.{action-checks, barred-by}
-use Rattle.leduc_rules.specs.declared.Public.{Public}
-use Rattle.leduc_rules.specs.declared.Public.the-variants.{Hidden}
+use Rattle.leduc_betting.specs.Checks.{action-checks, barred-by}
+use Rattle.leduc_betting.specs.declared.Public.{Public}
+use Rattle.leduc_betting.specs.declared.Public.the-variants.{Hidden}
 
 -- payoffs add up to 0 at every end, at all stakes
 abbrev pub Zero-sum : Type 0

@@ -1,6 +1,5 @@
--- Leduc hold'em (document 01, "The two games"; Southey et al. 2005): the rules, the positions that they reach, and the checks of a saved one.
+-- Leduc hold'em (document 01, "The two games"; Southey et al. 2005): the deal, the keys and the money, and the positions that the rules reach.
 pub mod Rules
 pub mod Stakes
 pub mod Reached
-pub mod Checks
 pub mod Facts

@@ -4,11 +4,13 @@ use mathlib.Core.Bool.{Bool, true, false, not}
 use mathlib.Core.List.{List, [], _∷_, _++_}
 use Prim.Native.Nat.{ℕ}
 use lib.Dec.{eqb, leb, ltb}
-use lib.ListN.{length, getD, take}
-use Rattle.finite.specs.Finite.{and, or, some, has}
-use Rattle.leduc_rules.specs.Rules.{RAISE, open-round, may, closes, hidden, seen, left, public-due, live}
-use Rattle.leduc_rules.specs.declared.Public.{Public}
-use Rattle.leduc_rules.specs.declared.Public.the-variants.{Hidden, Card}
+use lib.ListN.{length}
+use Rattle.finite.specs.Finite.{and, or}
+use Rattle.leduc_betting.specs.Betting.{may, closes, played}
+use Rattle.leduc_betting.specs.Cards.{hidden, seen, left, strange, twice}
+use Rattle.leduc_rules.specs.Rules.{public-due, live}
+use Rattle.leduc_betting.specs.declared.Public.{Public}
+use Rattle.leduc_betting.specs.declared.Public.the-variants.{Hidden, Card}
 
 -- the start; a card for a seat that has none; the public card, when it is due; a legal action of round 1, and of round 2 once round 1 has closed
 pub data Reached : List ℕ → Public → List ℕ → List ℕ → Type 0 where
@@ -17,23 +19,6 @@ pub data Reached : List ℕ → Public → List ℕ → List ℕ → Type 0 wher
   reveal : {cs h₁ h₂ : List ℕ} {p : Public} (c : ℕ) → Reached cs p h₁ h₂ → public-due p h₁ h₂ ≡ true → left (seen cs p) c ≡ true → Reached cs (Card c) h₁ h₂
   act₁ : {cs h₁ h₂ : List ℕ} {p : Public} (a : ℕ) → Reached cs p h₁ h₂ → live cs p h₁ h₂ ≡ true → closes h₁ ≡ false → may h₁ a ≡ true → Reached cs p (h₁ ++ (a ∷ [])) h₂
   act₂ : {cs h₁ h₂ : List ℕ} {p : Public} (a : ℕ) → Reached cs p h₁ h₂ → live cs p h₁ h₂ ≡ true → closes h₁ ≡ true → may h₂ a ≡ true → Reached cs p h₁ (h₂ ++ (a ∷ []))
-
--- some card is not in the deck
-unfoldable pub strange : List ℕ → Bool
-strange cs = some (length cs) (λ i. leb 6 (getD cs i 0))
-
--- some card appears twice
-unfoldable pub twice : List ℕ → Bool
-twice cs = some (length cs) (λ i. has (getD cs i 0) (take i cs))
-
--- some action is none of FOLD, CALL and RAISE
-unfoldable pub unknown : List ℕ → Bool
-unknown h = some (length h) (λ i. ltb RAISE (getD h i 0))
-
--- after the actions before of a round come those of h, each legal when made and none after the round closed
-unfoldable pub played : (before h : List ℕ) → Bool
-played before [] = true
-played before (a ∷ h) = and (and (open-round before) (may before a)) (played (before ++ (a ∷ [])) h)
 
 -- the cards are of the deck and differ; no seat has acted before both have a card; both rounds were played by the rules;
 -- the public card lies there only once round 1 has closed, and no action of round 2 without it

@@ -1,101 +1,19 @@
--- Leduc's rules (document 01, "The two games"; Southey et al. 2005), in three layers: the betting depends on the histories alone,
--- the deal on the cards too, the money on both and on the stakes. A history lists the actions of one round, from the first; h₁ and h₂ are those of the two rounds.
-use mathlib.Core.Bool.{Bool, true, false, not, cond}
+-- Leduc's rules over its betting and its cards (document 01, "The two games"; Southey et al. 2005): the deal and the keys depend on
+-- the cards and the histories, the money on the stakes too. h₁ and h₂ are the histories of the two rounds.
+use mathlib.Core.Bool.{Bool, false, not, cond}
 use mathlib.Core.List.{List, [], _∷_, _++_}
-use Prim.Native.Nat.{ℕ, _+_, _-_, _/_, _%_}
-use lib.Dec.{eqb, leb, ltb}
+use Prim.Native.Nat.{ℕ, _+_, _-_, _%_}
+use lib.Dec.{eqb, ltb}
 use lib.IntN.{ℤ, pos, negℤ}
 use lib.ListN.{length, getD}
-use Rattle.finite.specs.Finite.{and, or, some, those, has}
-use Rattle.leduc_rules.specs.declared.Public.{Public}
-use Rattle.leduc_rules.specs.declared.Public.the-variants.{Hidden, Card}
+use Rattle.finite.specs.Finite.{and, or, some}
+use Rattle.leduc_betting.specs.Betting.{FOLD, CALL, RAISE, folded, closes, options, in-play, turn, ended}
+use Rattle.leduc_betting.specs.Cards.{rank, hidden}
+use Rattle.leduc_betting.specs.declared.Public.{Public}
+use Rattle.leduc_betting.specs.declared.Public.the-variants.{Hidden, Card}
 use Rattle.leduc_rules.specs.declared.Pot.{Pot}
 
--- ---- betting: one round
-
-abbrev pub FOLD : ℕ
-FOLD = 0
-
-abbrev pub CALL : ℕ
-CALL = 1
-
-abbrev pub RAISE : ℕ
-RAISE = 2
-
--- the round's last action is a
-unfoldable pub ends-with : ℕ → List ℕ → Bool
-ends-with a h = and (ltb 0 (length h)) (eqb (getD h (length h - 1) 0) a)
-
--- a seat has folded
-unfoldable pub folded : List ℕ → Bool
-folded h = some (length h) (λ i. eqb (getD h i 0) FOLD)
-
--- the round closes at a CALL that is its second or later action
-unfoldable pub closes : List ℕ → Bool
-closes h = and (leb 2 (length h)) (ends-with CALL h)
-
--- the round goes on
-unfoldable pub open-round : List ℕ → Bool
-open-round h = not (or (folded h) (closes h))
-
--- the seat to act is behind: the other has just raised
-unfoldable pub behind : List ℕ → Bool
-behind h = ends-with RAISE h
-
--- how often the round was raised
-unfoldable pub raises : List ℕ → ℕ
-raises [] = 0
-raises (a ∷ h) = cond (eqb a RAISE) 1 0 + raises h
-
--- FOLD is legal only when behind, CALL always, RAISE while the round has fewer than 2 raises
-unfoldable pub may : List ℕ → ℕ → Bool
-may h a = or (and (eqb a FOLD) (behind h)) (or (eqb a CALL) (and (eqb a RAISE) (ltb (raises h) 2)))
-
--- the legal actions, in ascending order
-unfoldable pub options : List ℕ → List ℕ
-options h = those 3 (may h)
-
--- what a step makes of an action: an illegal one becomes FOLD if that is legal, else CALL
-unfoldable pub counted : List ℕ → ℕ → ℕ
-counted h a = cond (may h a) a (cond (may h FOLD) FOLD CALL)
-
--- ---- betting: both rounds
-
--- the history of the round in play: round 2 once round 1 has closed
-unfoldable pub in-play : List ℕ → List ℕ → List ℕ
-in-play h₁ h₂ = cond (closes h₁) h₂ h₁
-
--- the seat whose turn it is
-unfoldable pub turn : List ℕ → List ℕ → ℕ
-turn h₁ h₂ = length (in-play h₁ h₂) % 2
-
--- the hand ends when a seat folds, or round 2 closes
-unfoldable pub ended : List ℕ → List ℕ → Bool
-ended h₁ h₂ = or (folded h₁) (or (folded h₂) (closes h₂))
-
--- ---- cards: 0 to 5, two of each rank; one for each seat, then a public one
-
--- rank = card / 2 rounded down
-abbrev pub rank : ℕ → ℕ
-rank c = c / 2
-
--- no public card lies there
-abbrev pub hidden : Public → Bool
-hidden Hidden = true
-hidden (Card c) = false
-
--- the cards dealt: the seats' and the public one
-abbrev pub seen : List ℕ → Public → List ℕ
-seen cs Hidden = cs
-seen cs (Card c) = cs ++ (c ∷ [])
-
--- card c is left once the cards cs are dealt
-unfoldable pub left : List ℕ → ℕ → Bool
-left cs c = and (ltb c 6) (not (has c cs))
-
--- the cards left, in ascending order
-unfoldable pub remaining : List ℕ → List ℕ
-remaining cs = those 6 (left cs)
+-- ---- the deal: a card for each seat, and the public one once round 1 has closed
 
 -- the public card is due once round 1 has closed
 unfoldable pub public-due : Public → List ℕ → List ℕ → Bool

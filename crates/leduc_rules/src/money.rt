@@ -1,12 +1,12 @@
 // The money: contributions and payoffs.
 use crate::Pot;
-use crate::Public;
-use crate::betting::has_fold;
+use leduc_betting::Public;
+use leduc_betting::betting::has_fold;
 ghost use mathlib.Core.Path.{_≡_};
 ghost use mathlib.Core.Bool.{cond};
 ghost use lib.IntN.{pos, negℤ};
 ghost use Rattle.finite.specs.Finite.{or};
-ghost use Prim.Native.Nat.{ℕ, _+_, _-_, _≤_};
+ghost use Prim.Native.Nat.{_+_, _-_, _≤_};
 ghost use lib.ListN.{length};
 ghost use Rattle.leduc_rules.specs.Stakes.{ante, raise₁, raise₂};
 ghost use Rattle.leduc_rules.specs.Rules.{matched, seated, after-round, folds, pairs, beats, wins, payoff};
@@ -16,10 +16,10 @@ fn paid_after(acting: usize, other: usize, size: usize, action: u8) -> usize
     requires { ⌜ (other ≤ 64) × (size ≤ 4) ⌝ }
     ensures { λ r. ⌜ r ≡ matched size (record { acting = acting; other = other }) action ⌝ }
 {
-    if action == crate::CALL {
+    if action == leduc_betting::CALL {
         return other;
     }
-    if action == crate::RAISE {
+    if action == leduc_betting::RAISE {
         return other + size;
     }
     acting
@@ -74,7 +74,7 @@ pub fn folded_by(h: &[u8], seat: usize) -> bool
 {
     let mut i = 0;
     while i < h.len() {
-        if i % 2 == seat && h[i] == crate::FOLD {
+        if i % 2 == seat && h[i] == leduc_betting::FOLD {
             return true;
         }
         i += 1;

@@ -1,22 +1,21 @@
-// The play: which cards and actions can have come about, whose turn it is and what it may do.
-use crate::Public;
-use crate::betting::is_terminal;
-use crate::betting::last_is;
-use crate::betting::raise_count;
-use crate::betting::round_over;
-use crate::betting::round_refusal;
-use crate::cards::all_seen;
-use crate::cards::card_outside;
-use crate::cards::card_twice;
+// The play: which cards and actions can have come about, when a card is due and when a seat acts.
+use leduc_betting::Public;
+use leduc_betting::betting::is_terminal;
+use leduc_betting::betting::round_over;
+use leduc_betting::betting::round_refusal;
+use leduc_betting::cards::all_seen;
+use leduc_betting::cards::card_outside;
+use leduc_betting::cards::card_twice;
 ghost use mathlib.Core.Path.{_≡_};
-ghost use mathlib.Core.Bool.{true, false, not, cond};
+ghost use mathlib.Core.Bool.{true, false, not};
 ghost use mathlib.Core.List.{[]};
-ghost use Prim.Native.Nat.{_≤_, _%_};
+ghost use Prim.Native.Nat.{_≤_};
 ghost use lib.Dec.{eqb};
 ghost use lib.ListN.{length, take};
 ghost use Rattle.finite.specs.Finite.{and, or};
-ghost use Rattle.leduc_rules.specs.Rules.{closes, options, hidden, seen, public-due, due, live, in-play, turn};
-ghost use Rattle.leduc_rules.specs.Reached.{strange, twice, played};
+ghost use Rattle.leduc_betting.specs.Betting.{closes, played};
+ghost use Rattle.leduc_betting.specs.Cards.{hidden, seen, strange, twice};
+ghost use Rattle.leduc_rules.specs.Rules.{public-due, due, live};
 
 // Whether no public card lies there.
 pub fn is_hidden(public: Public) -> bool
@@ -72,43 +71,6 @@ fn early(full: bool, acted: usize) -> bool
     0 < acted
 }
 
-// The legal actions of a seat, in ascending order.
-pub struct Legal {
-    pub actions: [u8; 3],
-    pub count: usize,
-}
-
-// The legal actions in a round that goes on.
-pub fn options_of(h: &[u8]) -> Legal
-    ensures within { λ r. ⌜ r .count ≤ 3 ⌝ }
-    ensures whole { λ r. ⌜ take (r .count) (r .actions) ≡ options (now (h .entry)) ⌝ }
-{
-    let fold = last_is(h, crate::RAISE);
-    let raise = raise_count(h) < crate::RAISES;
-    if fold {
-        if raise {
-            return Legal {
-                actions: [crate::FOLD, crate::CALL, crate::RAISE],
-                count: 3,
-            };
-        }
-        return Legal {
-            actions: [crate::FOLD, crate::CALL, 0],
-            count: 2,
-        };
-    }
-    if raise {
-        return Legal {
-            actions: [crate::CALL, crate::RAISE, 0],
-            count: 2,
-        };
-    }
-    Legal {
-        actions: [crate::CALL, 0, 0],
-        count: 1,
-    }
-}
-
 // Whether the public card is due.
 pub fn is_public_due(public: Public, round1: &[u8], round2: &[u8]) -> bool
     ensures { λ r. ⌜ r ≡ public-due public (now (round1 .entry)) (now (round2 .entry)) ⌝ }
@@ -140,35 +102,4 @@ pub fn is_live(cards: &[u8], public: Public, round1: &[u8], round2: &[u8]) -> bo
         return false;
     }
     !is_terminal(round1, round2)
-}
-
-// The legal actions in a round for the seat whose turn it is; none for another.
-fn options_at(h: &[u8], agent: usize) -> Legal
-    ensures within { λ r. ⌜ r .count ≤ 3 ⌝ }
-    ensures whole { λ r. ⌜ take (r .count) (r .actions) ≡ cond (eqb agent (length (now (h .entry)) % 2)) (options (now (h .entry))) [] ⌝ }
-{
-    if h.len() % 2 != agent {
-        return Legal {
-            actions: [0u8; 3],
-            count: 0,
-        };
-    }
-    options_of(h)
-}
-
-// The legal actions of a seat: none unless it is its turn.
-pub fn legal_in(round1: &[u8], round2: &[u8], live: bool, agent: usize) -> Legal
-    ensures within { λ r. ⌜ r .count ≤ 3 ⌝ }
-    ensures whole { λ r. ⌜ take (r .count) (r .actions) ≡ cond (and live (eqb agent (turn (now (round1 .entry)) (now (round2 .entry))))) (options (in-play (now (round1 .entry)) (now (round2 .entry)))) [] ⌝ }
-{
-    if !live {
-        return Legal {
-            actions: [0u8; 3],
-            count: 0,
-        };
-    }
-    if round_over(round1) {
-        return options_at(round2, agent);
-    }
-    options_at(round1, agent)
 }

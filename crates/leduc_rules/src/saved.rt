@@ -1,14 +1,13 @@
 // The checks of a saved position's cards and histories, in the order of document 01's list.
-use crate::Public;
-use crate::betting::has_fold;
-use crate::betting::is_terminal;
-use crate::betting::round_over;
-use crate::betting::round_refusal;
-use crate::betting::unknown_action;
-use crate::cards::all_seen;
-use crate::cards::card_outside;
-use crate::cards::card_twice;
-use crate::play::is_hidden;
+use leduc_betting::Public;
+use leduc_betting::betting::has_fold;
+use leduc_betting::betting::is_terminal;
+use leduc_betting::betting::round_over;
+use leduc_betting::betting::round_refusal;
+use leduc_betting::betting::unknown_action;
+use leduc_betting::cards::all_seen;
+use leduc_betting::cards::card_outside;
+use leduc_betting::cards::card_twice;
 ghost use mathlib.Core.Path.{_≡_};
 ghost use mathlib.Core.Bool.{not};
 ghost use mathlib.Core.List.{_++_};
@@ -16,8 +15,9 @@ ghost use Prim.Native.Nat.{_≤_};
 ghost use lib.ListN.{length, take};
 ghost use Rattle.refusals.specs.Refusals.{first};
 ghost use Rattle.finite.specs.Finite.{and};
-ghost use Rattle.leduc_rules.specs.Rules.{closes, ended, seen};
-ghost use Rattle.leduc_rules.specs.Checks.{barred-by, card-checks, round-checks, public-checks};
+ghost use Rattle.leduc_betting.specs.Betting.{closes, ended};
+ghost use Rattle.leduc_betting.specs.Cards.{seen};
+ghost use Rattle.leduc_betting.specs.Checks.{barred-by, card-checks, round-checks, public-checks};
 
 // Numbers 11 and 12: a card is not in the deck, a card appears twice.
 pub fn cards_refusal(cards: [u8; 2], public: Public) -> u64

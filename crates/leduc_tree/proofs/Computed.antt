@@ -13,7 +13,9 @@ use Rattle.game.specs.Recall.{Recall}
 use Rattle.game.specs.Sets.{Decision, size, Heights, sets, setCount, entries, entriesOf}
 use Rattle.game.proofs.Tries.{setsOf, sets-of}
 use Rattle.game.proofs.Checked.{splits, splits-sound, every, every-sound, heights, heights-sound, recall, recall-sound, alike, alike-sound}
-use Rattle.leduc_rules.specs.Rules.{ends-with, folded, closes, behind, raises, may, options, in-play, turn, ended, left, remaining, public-due, due, key}
+use Rattle.leduc_betting.specs.Betting.{ends-with, folded, closes, behind, raises, may, options, in-play, turn, ended}
+use Rattle.leduc_betting.specs.Cards.{left, remaining}
+use Rattle.leduc_rules.specs.Rules.{public-due, due, key}
 use Rattle.leduc_tree.specs.Tree.{next, each, below, leducTree, C, m}
 use Rattle.leduc_tree.specs.Turns.{firstTurns, decisionAt}
 use Rattle.leduc_tree.proofs.Keys.{actionsOf, depthOf, past}

@@ -14,7 +14,10 @@ use Rattle.finite.proofs.Tests.{Tested, holds, fails, tested, true≢false, bot
 use Rattle.game.specs.Tree.{Tree, end, chance, decide, cons}
 use Rattle.game.proofs.Counting.{In}
 use Rattle.game.proofs.Numbers.{in-those}
-use Rattle.leduc_rules.specs.Rules.{ends-with, folded, closes, behind, raises, may, options, in-play, seen, left, remaining, public-due, live, legal}
+use Rattle.leduc_betting.specs.Betting.{ends-with, folded, closes, behind, raises, may, options, in-play}
+use Rattle.leduc_betting.specs.Cards.{seen, left, remaining}
+use Rattle.leduc_rules.specs.Rules.{public-due, live, legal}
+use Rattle.leduc_betting.specs.Betting as Betting
 use Rattle.leduc_rules.specs.Rules as Rules
 use Rattle.leduc_rules.specs.Reached as Reached
 use Rattle.leduc_tree.specs.Tree.{Position, start, dealt, acted, due, ended, actor, choices, key, payoff, afterDeal, afterAction, Next, card, action, nothing, next, each, below, fuel, leducTree}
@@ -78,7 +81,7 @@ lasts (suc r) card q = all-of (afterDeal q) (λ s. lasts r (next s) s)
 lasts (suc r) action q = all-of (afterAction q) (λ s. lasts r (next s) s)
 
 pub fuel-lasts : lasts fuel (next start) start ≡ true
-unfolding lasts next and or some those has ends-with folded closes behind raises may options in-play Rules.ended left remaining public-due Rules.due
+unfolding lasts next and or some those has ends-with folded closes behind raises may options in-play Betting.ended left remaining public-due Rules.due
 fuel-lasts = refl
 
 module _ (ante raise₁ raise₂ : ℕ) where

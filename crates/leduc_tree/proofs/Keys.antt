@@ -6,7 +6,7 @@ use lib.Dec.{eqb}
 use lib.ListN.{length, getD, take, drop}
 use Rattle.game.specs.Tree.{Key}
 use Rattle.game.specs.Recall.{Path, moved}
-use Rattle.leduc_rules.specs.Rules.{closes, behind, raises, options, in-play}
+use Rattle.leduc_betting.specs.Betting.{closes, behind, raises, options, in-play}
 
 -- the histories of round 1 and round 2
 abbrev pub first-of : Key → List ℕ

@@ -12,12 +12,13 @@ use borrow.Author.Tests.{eqb-true, ltb-true}
 use Rattle.finite.proofs.Tests.{Tested, holds, fails, tested}
 use Rattle.game.specs.Tree.{Tree, end, chance, decide, Trees, nil, cons, Pays, PaysAll}
 use Rattle.game.proofs.Integers.{size-of-loss}
-use Rattle.leduc_rules.specs.Rules.{CALL, RAISE, raises, may, matched, bet, after-round, contribution, wins}
+use Rattle.leduc_betting.specs.Betting.{CALL, RAISE, raises, may}
+use Rattle.leduc_rules.specs.Rules.{matched, bet, after-round, contribution, wins}
 use Rattle.leduc_rules.specs.Rules as Rules
 use Rattle.leduc_rules.specs.Reached.{Reached, start, deal, reveal, act₁, act₂}
-use Rattle.leduc_rules.specs.declared.Public.{Public}
+use Rattle.leduc_betting.specs.declared.Public.{Public}
 use Rattle.leduc_rules.specs.declared.Pot.{Pot}
-use Rattle.leduc_rules.proofs.Histories.{may-raise}
+use Rattle.leduc_betting.proofs.Histories.{may-raise}
 use Rattle.leduc_rules.proofs.Pots.{pot-of, Within, seated-bound}
 use Rattle.leduc_tree.specs.Tree.{Position, payoff, leducTree, largestPayoff}
 use Rattle.leduc_tree.specs.Follows.{Reachable, Follows, FollowsAll}

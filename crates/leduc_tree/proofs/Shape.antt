@@ -9,7 +9,9 @@ use Rattle.finite.specs.Finite.{and, or, some, every, those, has}
 use Rattle.finite.proofs.Tests.{true≢false, and-left, and-right, or-cases, or-left, every-at}
 use Rattle.game.specs.Tree.{Tree, end, chance, decide, Trees, nil, cons}
 use Rattle.game.specs.Sets.{size}
-use Rattle.leduc_rules.specs.Rules.{ends-with, folded, closes, behind, raises, may, options, in-play, turn, ended, left, remaining, public-due, due, key}
+use Rattle.leduc_betting.specs.Betting.{ends-with, folded, closes, behind, raises, may, options, in-play, turn, ended}
+use Rattle.leduc_betting.specs.Cards.{left, remaining}
+use Rattle.leduc_rules.specs.Rules.{public-due, due, key}
 use Rattle.leduc_tree.specs.Tree.{Position, start, dealt, payoff, afterDeal, next, each, below, m, leducTree}
 use Rattle.leduc_tree.specs.Shape.{bare, bareAll, withCards, hand}
 

@@ -9,7 +9,7 @@ use Rattle.game.specs.Tree.{Key, Tree, U, chance, Splits, Pays, Every}
 use Rattle.game.specs.Recall.{PerfectRecall}
 use Rattle.game.specs.Sets.{size, sets, setCount, setActions, entries, SameActions, SameHeights}
 use Rattle.game.specs.Table.{Table, ValidTable, RivalTable, tableWorth, tableBest, replyTable}
-use Rattle.leduc_rules.specs.Rules.{left}
+use Rattle.leduc_betting.specs.Cards.{left}
 use Rattle.leduc_tree.specs.Tree.{start, payoff, afterDeal, next, each, below, fuel, leducTree, C, m, largestPayoff}
 use Rattle.leduc_tree.specs.Follows.{Follows}
 use Rattle.leduc_tree.specs.Turns.{firstTurns, decisionAt, actionsInOrder}

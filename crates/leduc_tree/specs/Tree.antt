@@ -7,10 +7,12 @@ use lib.Dec.{ltb}
 use lib.IntN.{ℤ}
 use lib.ListN.{length}
 use Rattle.game.specs.Tree.{Key, Tree, end, chance, decide, Trees, nil, cons}
-use Rattle.leduc_rules.specs.declared.Public.{Public}
-use Rattle.leduc_rules.specs.declared.Public.the-variants.{Hidden, Card}
+use Rattle.leduc_betting.specs.declared.Public.{Public}
+use Rattle.leduc_betting.specs.declared.Public.the-variants.{Hidden, Card}
+use Rattle.leduc_betting.specs.Betting as Betting
 use Rattle.leduc_rules.specs.Rules as Rules
-use Rattle.leduc_rules.specs.Rules.{closes, seen, remaining, in-play, options, turn}
+use Rattle.leduc_betting.specs.Betting.{closes, in-play, options, turn}
+use Rattle.leduc_betting.specs.Cards.{seen, remaining}
 
 -- the seats' cards, the public card, and the histories of the two rounds
 pub record Position : Type 0 where
@@ -40,7 +42,7 @@ abbrev pub due : Position → Bool
 due q = Rules.due (q .cards) (q .public) (q .first) (q .second)
 
 abbrev pub ended : Position → Bool
-ended q = Rules.ended (q .first) (q .second)
+ended q = Betting.ended (q .first) (q .second)
 
 abbrev pub actor : Position → ℕ
 actor q = turn (q .first) (q .second)

@@ -21,7 +21,9 @@ use Rattle.kuhn_tree.proofs.Facts as KuhnFacts
 use Rattle.kuhn_tree.proofs.Facts.{counted}
 use Rattle.kuhn_tree.proofs.Units.{kuhn-every}
 use Rattle.leduc_tree.specs.Tree.{next, leducTree}
-use Rattle.leduc_rules.specs.Rules.{ends-with, folded, closes, behind, raises, may, options, in-play, turn, ended, left, remaining, public-due, due}
+use Rattle.leduc_betting.specs.Betting.{ends-with, folded, closes, behind, raises, may, options, in-play, turn, ended}
+use Rattle.leduc_betting.specs.Cards.{left, remaining}
+use Rattle.leduc_rules.specs.Rules.{public-due, due}
 use Rattle.leduc_tree.specs.Turns.{joined, turns, isFirst, firstOnes, firstTurns, actionsInOrder}
 use Rattle.leduc_tree.proofs.Facts.{counts, actions-in-order}
 use Rattle.leduc_tree.proofs.Facts as LeducFacts

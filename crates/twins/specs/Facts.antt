@@ -1,11 +1,11 @@
 -- What a position keeps on its way through a call, proved in proofs/Facts.antt.
 use mathlib.Core.Path.{_≡_}
 use Prim.Native.Nat.{ℕ}
-use Rattle.leduc_rules.specs.declared.Public.the-variants.{Hidden, Card}
+use Rattle.leduc_betting.specs.declared.Public.the-variants.{Hidden, Card}
 use Rattle.kuhn.specs.Calls as KuhnCalls
-use Rattle.kuhn.specs.declared.KuhnState.{KuhnState}
+use Rattle.kuhn_positions.specs.declared.KuhnState.{KuhnState}
 use Rattle.leduc.specs.Calls as LeducCalls
-use Rattle.leduc.specs.declared.LeducState.{LeducState}
+use Rattle.leduc_positions.specs.declared.LeducState.{LeducState}
 use Rattle.twins.specs.Kuhn as Kuhn
 use Rattle.twins.specs.Leduc as Leduc
 use Rattle.twins.specs.declared.of_kuhn.KuhnPosition.{KuhnPosition}

@@ -1,7 +1,7 @@
 -- Kuhn's twins: what each holds, from the struct of crate kuhn, and a position's way back.
 use Prim.Native.Nat.{ℕ}
 use Rattle.kuhn.specs.declared.KuhnPoker.{KuhnPoker}
-use Rattle.kuhn.specs.declared.KuhnState.{KuhnState}
+use Rattle.kuhn_positions.specs.declared.KuhnState.{KuhnState}
 use Rattle.kuhn.specs.declared.Moved.{Moved}
 use Rattle.kuhn.specs.declared.Written.{Written}
 use Rattle.kuhn.specs.declared.Payoffs.{Payoffs}

@@ -2,9 +2,9 @@
 use mathlib.Core.Bool.{Bool, true, false}
 use Prim.Native.Nat.{ℕ}
 use lib.Dec.{eqb}
-use Rattle.leduc_rules.specs.declared.Public.{Public}
-use Rattle.leduc_rules.specs.declared.Public.the-variants.{Hidden, Card}
-use Rattle.leduc.specs.declared.LeducState.{LeducState}
+use Rattle.leduc_betting.specs.declared.Public.{Public}
+use Rattle.leduc_betting.specs.declared.Public.the-variants.{Hidden, Card}
+use Rattle.leduc_positions.specs.declared.LeducState.{LeducState}
 use Rattle.leduc.specs.declared.Moved.{Moved}
 use Rattle.leduc.specs.declared.Written.{Written}
 use Rattle.leduc.specs.declared.Payoffs.{Payoffs}

@@ -36,12 +36,12 @@ pub struct KuhnPayoffs {
 }
 
 // The way in: what the calls of crate kuhn take.
-pub fn state_of(position: KuhnPosition) -> kuhn::KuhnState
+pub fn state_of(position: KuhnPosition) -> kuhn_positions::KuhnState
     ensures { λ r. ⌜ r ≡ state-of position ⌝ }
 {
     let cards = position.cards;
     let history = position.history;
-    kuhn::KuhnState {
+    kuhn_positions::KuhnState {
         cards,
         dealt: position.dealt as usize,
         history,
@@ -50,7 +50,7 @@ pub fn state_of(position: KuhnPosition) -> kuhn::KuhnState
 }
 
 // The way out: a position handed in comes back to the byte.
-pub fn position_of(state: kuhn::KuhnState) -> KuhnPosition
+pub fn position_of(state: kuhn_positions::KuhnState) -> KuhnPosition
     ensures { λ r. ⌜ r ≡ position-of state ⌝ }
 {
     let cards = state.cards;

@@ -1,6 +1,6 @@
 // Leduc's position and answers as C has them, and the conversions. The public card is a byte, NONE for none; all else is field by field
 // that of crate leduc.
-use leduc_rules::Public;
+use leduc_betting::Public;
 ghost use mathlib.Core.Path.{_≡_};
 ghost use Rattle.twins.specs.Leduc.{public-of, byte-of, state-of, position-of, moved-of, written-of, payoffs-of};
 
@@ -62,13 +62,13 @@ fn byte_of(public: Public) -> u8
 }
 
 // The way in: what the calls of crate leduc take.
-pub fn state_of(position: LeducPosition) -> leduc::LeducState
+pub fn state_of(position: LeducPosition) -> leduc_positions::LeducState
     ensures { λ r. ⌜ r ≡ state-of position ⌝ }
 {
     let cards = position.cards;
     let history = position.history;
     let public = public_of(position.public);
-    leduc::LeducState {
+    leduc_positions::LeducState {
         cards,
         dealt: position.dealt as usize,
         public,
@@ -79,7 +79,7 @@ pub fn state_of(position: LeducPosition) -> leduc::LeducState
 }
 
 // The way out: a position handed in comes back to the byte.
-pub fn position_of(state: leduc::LeducState) -> LeducPosition
+pub fn position_of(state: leduc_positions::LeducState) -> LeducPosition
     ensures { λ r. ⌜ r ≡ position-of state ⌝ }
 {
     let cards = state.cards;

@@ -2,7 +2,8 @@
 use mathlib.Core.Path.{ap, _∙_}
 use lib.ListN.{length}
 use borrow.Author.Needs.{needs}
-use Rattle.leduc.specs.Calls.{listed, legal-of, legal-refusal, written}
+use Rattle.leduc_positions.specs.Positions.{legal-of}
+use Rattle.leduc.specs.Calls.{listed, legal-refusal, written}
 use Rattle.twins.specs.Leduc.{written-of}
 use Rattle.chukkanalli.proofs.leduc_calls.chukkanalli_leduc_legal_actions.Statement.{statement}
 use Rattle.chukkanalli.proofs.leduc_calls.chukkanalli_leduc_legal_actions.Tie as tie

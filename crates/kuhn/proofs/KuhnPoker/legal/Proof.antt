@@ -3,7 +3,7 @@ use mathlib.Core.Path.{_≡_, sym, ap, _∙_}
 use borrow.Author.Needs.{needs}
 use borrow.Author.Tests.{not-true, not-false}
 use lib.ListN.{length}
-use Rattle.kuhn.proofs.Positions.{acted-is}
+use Rattle.kuhn_positions.proofs.Positions.{acted-is}
 use Rattle.kuhn.proofs.Answers.{seats-positive, seats-ten, cards-in, actions-in}
 use Rattle.kuhn.proofs.Outputs.{legal-idle, legal-waits, legal-turn}
 use Rattle.kuhn.proofs.KuhnPoker.legal.Statement.{statement}

@@ -1,15 +1,14 @@
 -- Deal. Assumes nothing.
-use Rattle.leduc.proofs.Answers.{outcome-card}
+use Rattle.leduc.proofs.Answers.{outcome-card, deal-unreachable, deal-idle, deal-past, deal-accepted, outcome-fits}
 use Prim.Native.Nat.{_%_}
 use mathlib.Core.Path.{sym, ap, _∙_}
 use native.Mathlib.Omega.{arith}
 use Prim.Native.Nat.{_<_}
 use borrow.Author.Tests.{not-true, not-false, le-ltb, lt-ltb}
 use lib.ListN.{getD}
-use Rattle.leduc_rules.specs.Rules.{remaining}
-use Rattle.leduc.specs.Calls.{seenOf, with-card}
-use Rattle.leduc.proofs.Positions.{reachable-short}
-use Rattle.leduc.proofs.Answers.{deal-unreachable, deal-idle, deal-past, deal-accepted, outcome-fits}
+use Rattle.leduc_betting.specs.Cards.{remaining}
+use Rattle.leduc_positions.specs.Positions.{seenOf, with-card}
+use Rattle.leduc_positions.proofs.Positions.{reachable-short}
 use borrow.Author.Needs.{needs}
 use Rattle.leduc.proofs.LeducPoker.apply_chance_node.Statement.{statement}
 use Rattle.leduc.proofs.LeducPoker.apply_chance_node.Tie as tie

@@ -3,7 +3,7 @@ use mathlib.Core.Path.{sym, ap, _∙_}
 use native.Mathlib.Omega.{arith}
 use borrow.Author.Tests.{not-true, not-false}
 use lib.ListN.{length}
-use Rattle.leduc.proofs.Positions.{reachable-short, cards-counted, first-counted, second-counted}
+use Rattle.leduc_positions.proofs.Positions.{reachable-short, cards-counted, first-counted, second-counted}
 use Rattle.leduc.proofs.Writing.{key-length}
 use Rattle.leduc.proofs.Answers.{key-unreachable, key-unfit, key-no-room, key-accepted}
 use borrow.Author.Needs.{needs}

@@ -4,9 +4,9 @@ use mathlib.Core.Path.{_≡_, sym, ap, _∙_}
 use native.Mathlib.Omega.{arith}
 use borrow.Author.Tests.{not-true, not-false}
 use lib.ListN.{length, take}
-use Rattle.leduc_rules.proofs.Deals.{front-length}
-use Rattle.leduc.specs.Calls.{legal-of}
-use Rattle.leduc.proofs.Positions.{reachable-short}
+use Rattle.leduc_betting.proofs.Deals.{front-length}
+use Rattle.leduc_positions.specs.Positions.{legal-of}
+use Rattle.leduc_positions.proofs.Positions.{reachable-short}
 use Rattle.leduc.proofs.Answers.{legal-unreachable, legal-no-room, legal-accepted}
 use borrow.Author.Needs.{needs}
 use Rattle.leduc.proofs.LeducPoker.legal_actions.Statement.{statement}

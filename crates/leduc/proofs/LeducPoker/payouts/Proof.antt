@@ -6,7 +6,7 @@ use lib.ListN.{replicate}
 use mir.Syntax.{w64}
 use mir.Val.{toZ, ofZ}
 use borrow.Author.Tests.{not-true, not-false}
-use Rattle.leduc.proofs.Positions.{reachable-short, dealt-in-full}
+use Rattle.leduc_positions.proofs.Positions.{reachable-short, dealt-in-full}
 use Rattle.leduc.proofs.Answers.{payoff-unreachable, payoff-early, payoff-accepted}
 use borrow.Author.Needs.{needs}
 use Rattle.leduc.proofs.LeducPoker.payouts.Statement.{statement}

@@ -1,8 +1,8 @@
 -- Step. Assumes nothing.
 use mathlib.Core.Path.{sym, ap, _∙_}
 use borrow.Author.Tests.{not-true, not-false}
-use Rattle.leduc.specs.Calls.{with-action}
-use Rattle.leduc.proofs.Positions.{reachable-short, room-to-act}
+use Rattle.leduc_positions.specs.Positions.{with-action}
+use Rattle.leduc_positions.proofs.Positions.{reachable-short, room-to-act}
 use Rattle.leduc.proofs.Answers.{step-unreachable, step-idle, step-accepted}
 use borrow.Author.Needs.{needs}
 use Rattle.leduc.proofs.LeducPoker.step.Statement.{statement}

@@ -1,6 +1,6 @@
 -- Saved position. Assumes nothing.
 use mathlib.Core.Path.{sym, ap, _∙_}
-use Rattle.leduc.proofs.Order.{saved-short}
+use Rattle.leduc_positions.proofs.Order.{saved-short}
 use Rattle.leduc.proofs.Answers.{saved-stops, saved-mark-wrong, saved-accepted}
 use borrow.Author.Needs.{needs}
 use Rattle.leduc.proofs.LeducPoker.validate_decoded_state.Statement.{statement}

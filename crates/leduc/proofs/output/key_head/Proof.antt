@@ -5,7 +5,7 @@ use native.Mathlib.Omega.{arith}
 use Prim.Native.Nat.{_%_}
 use lib.ListN.{getD}
 use lib.Seq.{getD-take}
-use Rattle.leduc.specs.Calls.{cardsOf}
+use Rattle.leduc_positions.specs.Positions.{cardsOf}
 use borrow.Author.Needs.{needs}
 use Rattle.leduc.proofs.output.key_head.Statement.{statement}
 use Rattle.leduc.proofs.output.key_head.Tie as tie

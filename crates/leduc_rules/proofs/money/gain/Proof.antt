@@ -1,6 +1,6 @@
 -- What a seat gains. Assumes nothing.
 use native.Mathlib.Omega.{arith}
-use Rattle.leduc_rules.proofs.Amounts.{amount, debt-fits, debt}
+use Rattle.finite.proofs.Amounts.{amount, debt-fits, debt}
 use borrow.Author.Needs.{needs}
 use Rattle.leduc_rules.proofs.money.gain.Statement.{statement}
 use Rattle.leduc_rules.proofs.money.gain.Tie as tie

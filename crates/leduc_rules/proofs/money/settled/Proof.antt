@@ -1,6 +1,6 @@
 -- What each seat gains. Assumes nothing.
 use Prim.Native.Nat.{_≤_}
-use Rattle.leduc_rules.proofs.Amounts.{gained-back}
+use Rattle.leduc_rules.proofs.Gains.{gained-back}
 use Rattle.leduc_rules.proofs.Pots.{payoff-zero, payoff-one}
 use mathlib.Core.Path.{_∙_}
 use native.Mathlib.Omega.{arith}

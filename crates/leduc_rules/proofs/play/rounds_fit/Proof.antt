@@ -7,8 +7,8 @@ use mathlib.Core.List.{[]}
 use borrow.Author.Tests.{eq-eqb, ne-eqb, not-true, not-false}
 use Rattle.finite.specs.Finite.{and, or}
 use Rattle.finite.proofs.Tests.{and-left-fails, and-right-fails}
-use Rattle.leduc_rules.proofs.Checks.{played-first}
-use Rattle.leduc_rules.proofs.Histories.{and-true}
+use Rattle.leduc_betting.proofs.Checks.{played-first}
+use Rattle.leduc_betting.proofs.Histories.{and-true}
 use borrow.Author.Needs.{needs}
 use Rattle.leduc_rules.proofs.play.rounds_fit.Statement.{statement}
 use Rattle.leduc_rules.proofs.play.rounds_fit.Tie as tie

@@ -2,7 +2,7 @@
 use mathlib.Core.Path.{_≡_, sym, _∙_}
 use native.Mathlib.Omega.{arith}
 use lib.ListN.{length}
-use Rattle.leduc_rules.proofs.Deals.{front-length}
+use Rattle.leduc_betting.proofs.Deals.{front-length}
 use borrow.Author.Needs.{needs}
 use Rattle.leduc_rules.proofs.saved.cards_refusal.Statement.{statement}
 use Rattle.leduc_rules.proofs.saved.cards_refusal.Tie as tie

@@ -1,7 +1,7 @@
 -- Numbers 13 to 15 of a round that is not too long. Assumes nothing.
 use mathlib.Core.Path.{sym, _∙_}
 use lib.ListN.{length}
-use Rattle.leduc_rules.proofs.Checks.{not-too-long}
+use Rattle.leduc_betting.proofs.Checks.{not-too-long}
 use borrow.Author.Needs.{needs}
 use Rattle.leduc_rules.proofs.saved.history_refusal.Statement.{statement}
 use Rattle.leduc_rules.proofs.saved.history_refusal.Tie as tie

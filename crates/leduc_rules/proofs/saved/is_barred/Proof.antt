@@ -2,7 +2,7 @@
 use mathlib.Core.Path.{sym, ap, _∙_}
 use mathlib.Core.Bool.{not}
 use Rattle.finite.specs.Finite.{or}
-use Rattle.leduc_rules.specs.Checks.{barred-by}
+use Rattle.leduc_betting.specs.Checks.{barred-by}
 use borrow.Author.Needs.{needs}
 use Rattle.leduc_rules.proofs.saved.is_barred.Statement.{statement}
 use Rattle.leduc_rules.proofs.saved.is_barred.Tie as tie

@@ -1,8 +1,7 @@
 -- Numbers 16 and 17. Assumes nothing.
 use mathlib.Core.Bool.{true, false}
-use Rattle.leduc_rules.proofs.Checks.{public-missing, public-there}
+use Rattle.leduc_betting.proofs.Checks.{public-missing, public-there}
 use mathlib.Core.Path.{sym, _∙_}
-use Rattle.finite.specs.Finite.{and}
 use borrow.Author.Needs.{needs}
 use Rattle.leduc_rules.proofs.saved.public_refusal.Statement.{statement}
 use Rattle.leduc_rules.proofs.saved.public_refusal.Tie as tie

@@ -2,8 +2,8 @@
 use mathlib.Core.Path.{_≡_, sym, ap, _∙_}
 use lib.ListN.{length}
 use Rattle.refusals.specs.Refusals.{first}
-use Rattle.leduc_rules.specs.Checks.{barred-by, round-checks}
-use Rattle.leduc_rules.proofs.Checks.{round-pass, round-stop}
+use Rattle.leduc_betting.specs.Checks.{barred-by, round-checks}
+use Rattle.leduc_betting.proofs.Checks.{round-pass, round-stop}
 use borrow.Author.Needs.{needs}
 use Rattle.leduc_rules.proofs.saved.second_refusal.Statement.{statement}
 use Rattle.leduc_rules.proofs.saved.second_refusal.Tie as tie

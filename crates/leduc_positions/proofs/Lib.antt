@@ -1,0 +1,3 @@
+-- Laws of positions and of the checks of a saved one.
+pub mod Positions
+pub mod Order
