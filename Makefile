@@ -3,8 +3,15 @@ RUST ?= ../shared/docs/src
 
 CARGO_FLAGS := --offline --locked
 
+# How many random hands `compare` plays of each game; its seed, else one from the clock. How many rounds `bench` times.
+HANDS ?= 2000
+SEED ?=
+ROUNDS ?= 101
+
+ARCHIVE := target/staticlib/libchukkanalli.a
+
 .SILENT:
-.PHONY: run check test host-tests lists
+.PHONY: run check test host-tests lists archive compare bench
 
 # Plays a hand through the proved calls.
 run:
@@ -35,3 +42,18 @@ host-tests:
 # Writes the committed lists anew, from the unchanged Rust.
 lists:
 	cd compare && RUST='$(RUST)' cargo run -q $(CARGO_FLAGS) --release --bin lists -- 2026 ../crates
+
+# The calls for C: proves them and writes $(ARCHIVE).
+archive:
+	mkdir -p build
+	rt staticlib chukkanalli >build/archive.log 2>&1 || { cat build/archive.log; exit 1; }
+
+# Document 01's cases through the header from C, then random hands through the archive and through the unchanged Rust.
+compare: archive
+	$(CC) -std=c11 -O1 -Wall -Wextra -Werror -Iinclude compare/cases.c $(ARCHIVE) -o build/cases
+	build/cases
+	cd compare && RUST='$(RUST)' cargo run -q $(CARGO_FLAGS) --release -p host --bin compare -- $(HANDS) $(SEED)
+
+# The time of both on the same random hands, in one run.
+bench: archive
+	cd compare && RUST='$(RUST)' cargo run -q $(CARGO_FLAGS) --release -p host --bin bench -- $(ROUNDS)

@@ -1,7 +1,9 @@
 //! The host: it lends memory to the calls of libchukkanalli.a, and holds them to the unchanged Rust.
 
-pub mod abi;
+#[cfg(feature = "listing")]
+pub mod listing;
 pub mod memory;
+pub mod rules;
 
 /// The middle one of some times.
 pub fn median(mut times: Vec<f64>) -> f64 {

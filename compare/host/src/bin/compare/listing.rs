@@ -1,33 +1,21 @@
-//! `compare [CALLS [SEED]]`: as many calls with random inputs, held to the unchanged Rust. It prints its seed, and stops at
-//! the first difference.
+//! The listing: each tree once, then calls with random games, seats and lengths near those that are needed.
 
-use host::abi::{enumerate_infosets, ListingAnswer};
+use crate::number::some_number;
+use crate::Counts;
+use host::listing::{enumerate_infosets, ListingAnswer};
 use host::memory::Memory;
 use judge::listing::{RECORD, WORDS};
 use judge::listing_lists::{listing_of, Call, KUHN, LEDUC};
 use judge::random::Random;
-use std::env;
-use std::time::{SystemTime, UNIX_EPOCH};
 
-fn main() {
-    let argument = |place| env::args().nth(place).map(|word| word.parse::<u64>().expect("a number"));
-    let calls = argument(1).unwrap_or(2_000);
-    let seed = argument(2).unwrap_or_else(clock);
-    println!("seed {seed}");
-    let mut random = Random::new(seed);
-    each_tree_once(&mut random);
-    let mut counts = [0; 21];
+pub fn compare(calls: u64, random: &mut Random) {
+    each_tree_once(random);
+    let mut counts = Counts::new();
     for _ in 0..calls {
-        counts[listing(&some_call(&mut random), &mut random) as usize] += 1;
+        counts.count(listing(&some_call(random), random));
     }
     println!("listing: each tree once, and {calls} calls at random agree");
-    for (refusal, count) in counts.iter().enumerate().filter(|(_, &count)| count > 0) {
-        println!("  {refusal}: {count} answers");
-    }
-}
-
-fn clock() -> u64 {
-    SystemTime::now().duration_since(UNIX_EPOCH).expect("the clock is past 1970").as_nanos() as u64
+    counts.print();
 }
 
 /// Kuhn 2 to 6 and Leduc, with just enough lent.
@@ -80,18 +68,5 @@ fn near(length: u64, random: &mut Random) -> u64 {
         1 => length - 1 - random.below(24) as u64,
         2..=4 => length + random.below(40) as u64,
         _ => length,
-    }
-}
-
-/// A number of any size: small ones, and those that a cut to 8, 16 or 32 bits would take for them.
-fn some_number(random: &mut Random) -> u64 {
-    let small = random.below(13) as u64;
-    match random.below(6) {
-        0 => small | 1 << 8,
-        1 => small | 1 << 16,
-        2 => small | 1 << 32,
-        3 => u64::MAX - small,
-        4 => random.draw(),
-        _ => small,
     }
 }

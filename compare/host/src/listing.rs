@@ -1,4 +1,4 @@
-//! The functions of the archive. Nothing checks these lines against the Rattle source: `compare` runs them.
+//! The listing of the archive. Nothing checks these lines against the Rattle source: `compare` runs them.
 
 /// What the listing answers; a refused one has no nodes and no sets.
 #[repr(C)]

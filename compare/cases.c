@@ -1,0 +1,136 @@
+/* Document 01's cases a to j through the header and the archive, from C. Ends with status 1 at the first that differs. */
+#include "chukkanalli.h"
+
+#include <stdio.h>
+#include <stdlib.h>
+#include <string.h>
+
+static void expect(const char *name, int holds) {
+    if (!holds) {
+        fprintf(stderr, "case %s differs\n", name);
+        exit(1);
+    }
+}
+
+/* ---- Kuhn with 2 seats */
+
+/* The outcomes and actions of a hand, made one after the other from the start; none may be refused. */
+static chukkanalli_kuhn_position kuhn(const uint64_t outcomes[2], const char *actions) {
+    chukkanalli_kuhn_moved at = chukkanalli_kuhn_initial_state(2);
+    for (int seat = 0; seat < 2; seat++) {
+        expect("Kuhn's deal", at.refusal == 0);
+        at = chukkanalli_kuhn_apply_chance_node(2, at.position, outcomes[seat]);
+    }
+    for (; *actions; actions++) {
+        expect("Kuhn's step", at.refusal == 0);
+        at = chukkanalli_kuhn_step(2, at.position, (uint64_t)(*actions - '0'));
+    }
+    expect("Kuhn's hand", at.refusal == 0);
+    return at.position;
+}
+
+static int kuhn_pays(chukkanalli_kuhn_position position, int64_t zero, int64_t one) {
+    chukkanalli_kuhn_payoffs answer = chukkanalli_kuhn_payouts(2, position);
+    return answer.refusal == 0 && answer.count == 2 && answer.payoffs[0] == zero && answer.payoffs[1] == one
+        && answer.payoffs[2] == 0 && answer.payoffs[9] == 0;
+}
+
+static void kuhn_cases(void) {
+    const uint64_t low_first[2] = {0, 0}; /* cards 0,1 */
+    const uint64_t high_first[2] = {2, 0}; /* cards 2,0 */
+    expect("a", kuhn_pays(kuhn(low_first, "00"), -1, 1));
+    expect("b", kuhn_pays(kuhn(low_first, "10"), 1, -1));
+    expect("c", kuhn_pays(kuhn(high_first, "011"), 2, -2));
+
+    chukkanalli_kuhn_position past_the_end = kuhn(low_first, "00");
+    past_the_end.history[2] = CHUKKANALLI_BET;
+    past_the_end.acted = 3;
+    for (uint64_t mark = 0; mark < 3; mark++) {
+        expect("d", chukkanalli_kuhn_validate_decoded_state(2, past_the_end, mark).refusal == CHUKKANALLI_CLOSED);
+    }
+}
+
+/* ---- Leduc */
+
+static chukkanalli_leduc_position leduc_moves(chukkanalli_leduc_position position, const char *actions) {
+    for (; *actions; actions++) {
+        chukkanalli_leduc_moved at = chukkanalli_leduc_step(position, (uint64_t)(*actions - '0'));
+        expect("Leduc's step", at.refusal == 0);
+        position = at.position;
+    }
+    return position;
+}
+
+static chukkanalli_leduc_position leduc_card(chukkanalli_leduc_position position, uint64_t outcome) {
+    chukkanalli_leduc_moved at = chukkanalli_leduc_apply_chance_node(position, outcome);
+    expect("Leduc's deal", at.refusal == 0);
+    return at.position;
+}
+
+static chukkanalli_leduc_position leduc(uint64_t first, uint64_t second) {
+    chukkanalli_leduc_moved start = chukkanalli_leduc_initial_state();
+    expect("Leduc's start", start.refusal == 0 && start.position.public_card == CHUKKANALLI_NO_CARD);
+    return leduc_card(leduc_card(start.position, first), second);
+}
+
+static int leduc_lists(chukkanalli_leduc_position position, uint64_t seat, const char *actions) {
+    uint8_t out[4] = {9, 9, 9, 9};
+    chukkanalli_leduc_written answer = chukkanalli_leduc_legal_actions(position, seat, out, sizeof out);
+    int holds = answer.refusal == 0 && answer.count == strlen(actions);
+    for (size_t place = 0; place < sizeof out; place++) {
+        holds = holds && out[place] == (place < strlen(actions) ? actions[place] - '0' : 9);
+    }
+    return holds;
+}
+
+static int leduc_pays(chukkanalli_leduc_position position, int64_t zero, int64_t one) {
+    chukkanalli_leduc_payoffs answer = chukkanalli_leduc_payouts(position);
+    return answer.refusal == 0 && answer.count == 2 && answer.payoffs[0] == zero && answer.payoffs[1] == one
+        && answer.payoffs[2] == 0 && answer.payoffs[9] == 0;
+}
+
+static void leduc_cases(void) {
+    chukkanalli_leduc_position dealt = leduc(0, 4); /* cards 0,5 */
+    expect("e", leduc_lists(dealt, 0, "12"));
+    expect("f", leduc_lists(leduc_moves(dealt, "2"), 1, "012"));
+    expect("g", leduc_lists(leduc_moves(dealt, "22"), 0, "01"));
+    expect("h", leduc_pays(leduc_moves(leduc_card(leduc_moves(dealt, "11"), 0), "11"), 1, -1)); /* public 1 */
+    expect("i", leduc_pays(leduc_moves(leduc_card(leduc_moves(leduc(0, 0), "221"), 0), "221"), 0, 0)); /* cards 0,1, public 2 */
+
+    chukkanalli_leduc_position raised = leduc_moves(leduc(0, 3), "2"); /* cards 0,4 */
+    const uint8_t key[7] = {1, 4, 255, 1, 2, 0, 9};
+    uint8_t out[7] = {9, 9, 9, 9, 9, 9, 9};
+    chukkanalli_leduc_written answer = chukkanalli_leduc_information_state_key(raised, 1, out, sizeof out);
+    expect("j", answer.refusal == 0 && answer.count == 6 && memcmp(out, key, sizeof key) == 0);
+}
+
+/* ---- refusals: the position comes back to the byte, whatever its public card, and the output stays */
+
+static void refusals(void) {
+    expect("seats", chukkanalli_kuhn_validate(11) == CHUKKANALLI_SEATS && chukkanalli_kuhn_validate(10) == CHUKKANALLI_ACCEPTED);
+    expect("seats, 64 bits", chukkanalli_kuhn_validate(((uint64_t)1 << 32) + 2) == CHUKKANALLI_SEATS);
+    for (int byte = 0; byte < 256; byte++) {
+        chukkanalli_leduc_position odd;
+        memset(&odd, 0, sizeof odd);
+        memset(odd.history, 7, sizeof odd.history);
+        odd.dealt = 3;
+        odd.public_card = (uint8_t)byte;
+        chukkanalli_leduc_moved answer = chukkanalli_leduc_step(odd, CHUKKANALLI_CALL);
+        chukkanalli_leduc_position back = answer.position;
+        expect("19", answer.refusal == CHUKKANALLI_UNREACHABLE);
+        expect("the position back",
+            memcmp(back.cards, odd.cards, sizeof odd.cards) == 0 && back.dealt == 3 && back.public_card == byte
+                && memcmp(back.history, odd.history, sizeof odd.history) == 0 && back.acted1 == 0 && back.acted2 == 0);
+    }
+    uint8_t out[1] = {9};
+    expect("9", chukkanalli_leduc_legal_actions(leduc(0, 4), 0, out, sizeof out).refusal == CHUKKANALLI_OUTPUT && out[0] == 9);
+    expect("9, nothing lent", chukkanalli_leduc_legal_actions(leduc(0, 4), 0, NULL, 0).refusal == CHUKKANALLI_OUTPUT);
+}
+
+int main(void) {
+    kuhn_cases();
+    leduc_cases();
+    refusals();
+    puts("cases a to j from C: as document 01 has them");
+    return 0;
+}

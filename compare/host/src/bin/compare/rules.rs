@@ -1,0 +1,213 @@
+//! The rules calls and saved-position checks: random hands of both games, with litter in the places past the lengths. At each position every
+//! call is made with numbers that fit and that do not, and again at a position that was damaged.
+
+use crate::number::some_number;
+use crate::Counts;
+use host::rules::{Calls, Kuhn, KuhnPosition, Leduc, LeducPosition};
+use judge::answer;
+use judge::calls::{validate, Asked, Judged};
+use judge::leduc::HALF;
+use judge::line::{untouched, ROOM};
+use judge::random::Random;
+use reinfors_games::kuhn::KuhnPoker;
+use reinfors_games::leduc::LeducPoker;
+use std::fmt::Debug;
+
+pub fn compare(hands: u64, random: &mut Random) {
+    let mut counts = Counts::new();
+    for _ in 0..hands {
+        let seats = 2 + random.below(9);
+        hand(&Kuhn(seats as u64), &KuhnPoker { players: seats }, random, &mut counts);
+        let seats = some_number(random);
+        position(&Kuhn(seats), &KuhnPoker { players: seats as usize }, random, &mut counts);
+    }
+    println!("Kuhn: {hands} hands and as many seat counts agree");
+    counts.print();
+    let mut counts = Counts::new();
+    for _ in 0..hands {
+        hand(&Leduc, &LeducPoker, random, &mut counts);
+    }
+    println!("Leduc: {hands} hands agree");
+    counts.print();
+}
+
+/// A position that can be written to at random.
+trait Position: Copy + Debug {
+    /// Any byte into every place of the arrays.
+    fn litter(&mut self, random: &mut Random);
+
+    /// One byte or one length changed, or one action more.
+    fn damage(&mut self, random: &mut Random);
+}
+
+impl Position for KuhnPosition {
+    fn litter(&mut self, random: &mut Random) {
+        self.cards.iter_mut().chain(&mut self.history).for_each(|byte| *byte = random.draw() as u8);
+    }
+
+    fn damage(&mut self, random: &mut Random) {
+        match random.below(5) {
+            0 => self.cards[random.below(self.cards.len())] = some_byte(random),
+            1 => self.history[random.below(self.history.len())] = some_byte(random),
+            2 => self.dealt = some_number(random),
+            3 => self.acted = some_number(random),
+            _ => append(&mut self.history, &mut self.acted, random),
+        }
+    }
+}
+
+impl Position for LeducPosition {
+    fn litter(&mut self, random: &mut Random) {
+        self.cards.iter_mut().chain(&mut self.history).for_each(|byte| *byte = random.draw() as u8);
+    }
+
+    fn damage(&mut self, random: &mut Random) {
+        let round = random.below(2);
+        match random.below(6) {
+            0 => self.cards[random.below(self.cards.len())] = some_byte(random),
+            1 => self.history[random.below(self.history.len())] = some_byte(random),
+            2 => self.dealt = some_number(random),
+            3 => self.public_card = some_byte(random),
+            4 => self.acted[round] = some_number(random),
+            _ => append(&mut self.history[round * HALF..][..HALF], &mut self.acted[round], random),
+        }
+    }
+}
+
+/// One action more, legal or not.
+fn append(history: &mut [u8], acted: &mut u64, random: &mut Random) {
+    if let Some(place) = history.get_mut(*acted as usize) {
+        *place = random.below(4) as u8;
+    }
+    *acted += 1;
+}
+
+/// Any byte once in three, else a small one.
+fn some_byte(random: &mut Random) -> u8 {
+    let below = random.pick(&[3, 7, 256]);
+    random.below(below) as u8
+}
+
+/// The answers of both on one hand, from the start to its end.
+fn hand<C, G>(ours: &C, game: &G, random: &mut Random, counts: &mut Counts)
+where
+    C: Calls<Position: Position + Into<G::Position>>,
+    G: Judged<Position: PartialEq + Debug>,
+{
+    let mut at = Family { ours, game, counts }.start();
+    at.litter(random);
+    loop {
+        let next = Family { ours, game, counts }.all(at, random);
+        let mut damaged = at;
+        damaged.damage(random);
+        Family { ours, game, counts }.all(damaged, random);
+        if next.is_empty() {
+            return;
+        }
+        at = random.pick(&next);
+    }
+}
+
+/// The answers of both on one position with litter in it, whatever the game.
+fn position<C, G>(ours: &C, game: &G, random: &mut Random, counts: &mut Counts)
+where
+    C: Calls<Position: Position + Into<G::Position>>,
+    G: Judged<Position: PartialEq + Debug>,
+{
+    let mut at = Family { ours, game, counts }.start();
+    at.damage(random);
+    Family { ours, game, counts }.all(at, random);
+}
+
+/// All calls of a game.
+struct Family<'a, C, G> {
+    ours: &'a C,
+    game: &'a G,
+    counts: &'a mut Counts,
+}
+
+impl<C, G> Family<'_, C, G>
+where
+    C: Calls<Position: Position + Into<G::Position>>,
+    G: Judged<Position: PartialEq + Debug>,
+{
+    fn start(&mut self) -> C::Position {
+        let (ours, rust) = (self.ours.start(), self.game.start());
+        assert_eq!((ours.refusal, ours.position.into()), (rust.refusal, rust.position), "start");
+        assert_eq!(self.ours.validate(), rust.refusal, "validate");
+        self.counts.count(rust.refusal);
+        ours.position
+    }
+
+    /// Every call on a position; the positions that its moves lead to.
+    fn all(&mut self, at: C::Position, random: &mut Random) -> Vec<C::Position> {
+        let asked = Asked::new(self.game, at.into());
+        let [mut seats, mut outcomes, mut actions] = self.game.tries();
+        for tried in [&mut seats, &mut outcomes, &mut actions] {
+            tried.push(some_number(random));
+        }
+        for &seat in &seats {
+            let room = random.below(ROOM + 1);
+            let mut out = untouched();
+            let ours = self.ours.legal(at, seat, &mut out[..room]);
+            let rust = asked.legal(seat, room as u64);
+            self.written((ours.refusal, ours.position, ours.count, out), rust, at, &format!("legal list of {seat}"));
+            let mut out = untouched();
+            let ours = self.ours.key(at, seat, &mut out[..room]);
+            self.written(
+                (ours.refusal, ours.position, ours.count, out),
+                asked.key(seat, room as u64),
+                at,
+                &format!("key of {seat}"),
+            );
+        }
+        let mut next = Vec::new();
+        for outcome in outcomes {
+            let ours = self.ours.deal(at, outcome);
+            next.extend(self.moved((ours.refusal, ours.position), asked.deal(outcome), at, &format!("deal {outcome}")));
+        }
+        for action in actions {
+            let ours = self.ours.step(at, action);
+            next.extend(self.moved((ours.refusal, ours.position), asked.step(action), at, &format!("step {action}")));
+        }
+        self.payoff(&asked, at);
+        for done in [0, 1, 2, some_number(random)] {
+            let ours = self.ours.saved(at, done);
+            let rust = answer::Moved { refusal: validate(self.game, &at.into(), done), position: at.into() };
+            self.moved((ours.refusal, ours.position), rust, at, &format!("saved with {done}"));
+        }
+        next
+    }
+
+    fn moved(
+        &mut self,
+        ours: (u64, C::Position),
+        rust: answer::Moved<G::Position>,
+        at: C::Position,
+        call: &str,
+    ) -> Option<C::Position> {
+        assert_eq!((ours.0, ours.1.into()), (rust.refusal, rust.position), "{call} at {at:?}");
+        self.counts.count(rust.refusal);
+        (rust.refusal == 0).then_some(ours.1)
+    }
+
+    fn written(
+        &mut self,
+        (refusal, position, count, out): (u64, C::Position, u64, [u8; ROOM]),
+        rust: answer::Written,
+        at: C::Position,
+        call: &str,
+    ) {
+        assert_eq!((refusal, count, out), (rust.refusal, rust.count, rust.out), "{call} at {at:?}");
+        assert_eq!(position.into(), at.into(), "the position after {call} at {at:?}");
+        self.counts.count(rust.refusal);
+    }
+
+    fn payoff(&mut self, asked: &Asked<G>, at: C::Position) {
+        let (ours, rust) = (self.ours.payoff(at), asked.payoff());
+        let answers = ((ours.refusal, ours.count, ours.payoffs), (rust.refusal, rust.count, rust.payoffs));
+        assert_eq!(answers.0, answers.1, "payoff at {at:?}");
+        assert_eq!(ours.position.into(), at.into(), "the position after the payoff at {at:?}");
+        self.counts.count(rust.refusal);
+    }
+}

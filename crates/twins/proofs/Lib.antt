@@ -1,0 +1,2 @@
+-- What a position keeps on its way through a call.
+pub mod Facts

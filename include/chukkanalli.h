@@ -1,0 +1,165 @@
+/*
+ * Kuhn poker for 2 to 10 seats and Leduc hold'em for 2: the rules calls and the saved-position checks of libchukkanalli.a, for x86-64 Linux.
+ *
+ * Every call is defined on every input, and answers a refusal number: 0 if it was accepted, else the first number of the list below that
+ * applies. A refused call leaves all lent memory as it was. Every answer of a call on a position holds a position: the new one of an
+ * accepted deal or step, else the one handed in, to the byte. Every other field of a refused answer is 0. A call touches no memory but what
+ * it is lent, and keeps no state.
+ *
+ * What a caller owes: a pointer is valid for reading and writing as many bytes as the length beside it says, and is null only where that
+ * length is 0; no two slices lent to one call overlap, nor does any thread use them during the call.
+ */
+#ifndef CHUKKANALLI_H
+#define CHUKKANALLI_H
+
+#include <stddef.h>
+#include <stdint.h>
+
+#ifdef __cplusplus
+extern "C" {
+#endif
+
+/* The refusal numbers of the calls below. */
+enum {
+    CHUKKANALLI_ACCEPTED = 0,
+    CHUKKANALLI_SEATS = 2,         /* the seat count is outside 2 to 10 */
+    CHUKKANALLI_OUTPUT = 9,        /* the output is shorter than its answer */
+    CHUKKANALLI_CARD_COUNT = 10,   /* a saved position does not hold one card per seat */
+    CHUKKANALLI_CARD = 11,         /* a card is not in the deck */
+    CHUKKANALLI_CARD_TWICE = 12,   /* a card appears twice */
+    CHUKKANALLI_HISTORY = 13,      /* a history is too long or holds an unknown action */
+    CHUKKANALLI_CLOSED = 14,       /* an action stands after the hand or its round closed */
+    CHUKKANALLI_ILLEGAL = 15,      /* a Leduc action was not legal when made */
+    CHUKKANALLI_NO_PUBLIC = 16,    /* a live second round has no public card */
+    CHUKKANALLI_EARLY_PUBLIC = 17, /* a public card lies there before round 1 closed */
+    CHUKKANALLI_END_MARK = 18,     /* the saved end mark differs from the position */
+    CHUKKANALLI_UNREACHABLE = 19,  /* the position cannot be reached from the start by legal moves */
+    CHUKKANALLI_UNFIT = 20         /* the call does not fit the position */
+};
+
+/* Kuhn: actions. */
+enum { CHUKKANALLI_PASS = 0, CHUKKANALLI_BET = 1 };
+
+/* Leduc: actions, and the public card that is none. */
+enum { CHUKKANALLI_FOLD = 0, CHUKKANALLI_CALL = 1, CHUKKANALLI_RAISE = 2 };
+enum { CHUKKANALLI_NO_CARD = 255 };
+
+/* ---- Kuhn */
+
+/* A position: the cards of the first `dealt` seats, and the `acted` actions made. Places past a length are not read, and stay. */
+typedef struct {
+    uint8_t cards[10];
+    uint64_t dealt;
+    uint8_t history[19];
+    uint64_t acted;
+} chukkanalli_kuhn_position;
+
+/* What a start, a deal, a step or a saved-position check answers. */
+typedef struct {
+    uint64_t refusal;
+    chukkanalli_kuhn_position position;
+} chukkanalli_kuhn_moved;
+
+/* What a legal list or a key answers: how many bytes it wrote to the front of the output. */
+typedef struct {
+    uint64_t refusal;
+    chukkanalli_kuhn_position position;
+    uint64_t count;
+} chukkanalli_kuhn_written;
+
+/* What a payoff answers: a number for each of `count` seats, 0 past them. */
+typedef struct {
+    uint64_t refusal;
+    chukkanalli_kuhn_position position;
+    uint64_t count;
+    int64_t payoffs[10];
+} chukkanalli_kuhn_payoffs;
+
+/* The refusal number of the seat count: 2 or 0. */
+uint64_t chukkanalli_kuhn_validate(uint64_t seats);
+
+/* Start: no card dealt, no action made. Refuses with 2; its position is all 0 then too. */
+chukkanalli_kuhn_moved chukkanalli_kuhn_initial_state(uint64_t seats);
+
+/* Legal list of a seat, one byte an action; empty for a seat whose turn it is not, while a card is due and after the end. Refuses with 2, 19, 9. */
+chukkanalli_kuhn_written chukkanalli_kuhn_legal_actions(
+    uint64_t seats, chukkanalli_kuhn_position position, uint64_t seat, uint8_t *out, size_t out_len);
+
+/* Deal: the next seat gets the card of an outcome, which counts those left from the lowest. Refuses with 2, 19, 20. */
+chukkanalli_kuhn_moved chukkanalli_kuhn_apply_chance_node(uint64_t seats, chukkanalli_kuhn_position position, uint64_t outcome);
+
+/* Step of the seat whose turn it is; every action above 1 counts as BET. Refuses with 2, 19, 20. */
+chukkanalli_kuhn_moved chukkanalli_kuhn_step(uint64_t seats, chukkanalli_kuhn_position position, uint64_t action);
+
+/* Key of a seat that has a card: seat, card, history; up to 21 bytes. Refuses with 2, 19, 20, 9. */
+chukkanalli_kuhn_written chukkanalli_kuhn_information_state_key(
+    uint64_t seats, chukkanalli_kuhn_position position, uint64_t seat, uint8_t *out, size_t out_len);
+
+/* Payoff of each seat, at the end of a hand. Refuses with 2, 19, 20. */
+chukkanalli_kuhn_payoffs chukkanalli_kuhn_payouts(uint64_t seats, chukkanalli_kuhn_position position);
+
+/* Saved position with its end mark, 0 for a live hand and 1 for one that has ended. Refuses with 2, 10 to 14, 18. */
+chukkanalli_kuhn_moved chukkanalli_kuhn_validate_decoded_state(uint64_t seats, chukkanalli_kuhn_position position, uint64_t done);
+
+/* ---- Leduc */
+
+/* A position: the cards of the first `dealt` seats, the public card or CHUKKANALLI_NO_CARD, the `acted1` actions of round 1 from place 0 and
+ * the `acted2` of round 2 from place 4. Places past a length are not read, and stay. */
+typedef struct {
+    uint8_t cards[2];
+    uint64_t dealt;
+    uint8_t public_card;
+    uint8_t history[8];
+    uint64_t acted1;
+    uint64_t acted2;
+} chukkanalli_leduc_position;
+
+/* What a start, a deal, a step or a saved-position check answers. */
+typedef struct {
+    uint64_t refusal;
+    chukkanalli_leduc_position position;
+} chukkanalli_leduc_moved;
+
+/* What a legal list or a key answers: how many bytes it wrote to the front of the output. */
+typedef struct {
+    uint64_t refusal;
+    chukkanalli_leduc_position position;
+    uint64_t count;
+} chukkanalli_leduc_written;
+
+/* What a payoff answers: a number for each of `count` seats, 0 past them. */
+typedef struct {
+    uint64_t refusal;
+    chukkanalli_leduc_position position;
+    uint64_t count;
+    int64_t payoffs[10];
+} chukkanalli_leduc_payoffs;
+
+/* Start: no card dealt, no action made. Never refuses. */
+chukkanalli_leduc_moved chukkanalli_leduc_initial_state(void);
+
+/* Legal list of a seat, one byte an action; empty for a seat whose turn it is not, while a card is due and after the end. Refuses with 19, 9. */
+chukkanalli_leduc_written chukkanalli_leduc_legal_actions(
+    chukkanalli_leduc_position position, uint64_t seat, uint8_t *out, size_t out_len);
+
+/* Deal of a seat's card, or of the public card once round 1 has closed; an outcome counts the cards left from the lowest. Refuses with 19, 20. */
+chukkanalli_leduc_moved chukkanalli_leduc_apply_chance_node(chukkanalli_leduc_position position, uint64_t outcome);
+
+/* Step of the seat whose turn it is; an illegal action becomes FOLD if that is legal, else CALL. Refuses with 19, 20. */
+chukkanalli_leduc_moved chukkanalli_leduc_step(chukkanalli_leduc_position position, uint64_t action);
+
+/* Key of a seat that has a card: seat, card, public card or 255, then each round's length and actions; up to 13 bytes. Refuses with 19, 20, 9. */
+chukkanalli_leduc_written chukkanalli_leduc_information_state_key(
+    chukkanalli_leduc_position position, uint64_t seat, uint8_t *out, size_t out_len);
+
+/* Payoff of each seat, at the end of a hand. Refuses with 19, 20. */
+chukkanalli_leduc_payoffs chukkanalli_leduc_payouts(chukkanalli_leduc_position position);
+
+/* Saved position with its end mark, 0 for a live hand and 1 for one that has ended. Refuses with 10 to 18. */
+chukkanalli_leduc_moved chukkanalli_leduc_validate_decoded_state(chukkanalli_leduc_position position, uint64_t done);
+
+#ifdef __cplusplus
+}
+#endif
+
+#endif
