@@ -6,3 +6,4 @@ pub mod Bytes
 pub mod Building
 pub mod Walking
 pub mod Linking
+pub mod Members

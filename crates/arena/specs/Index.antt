@@ -9,7 +9,7 @@ use lib.ListN.{length, getD, set, drop}
 use Rattle.finite.specs.Finite.{and}
 use Rattle.game.specs.Tree.{Key, Tree, Every}
 use Rattle.game.specs.Sets.{size, preorder, numbers, entries, firstEntry, setMembers}
-use Rattle.arena.specs.Words.{DECISION, kindOf, actorOf, actionsOf, setOf, nextOf, decisionWord}
+use Rattle.arena.specs.Words.{DECISION, kindOf, actorOf, actionsOf, setOf, nextOf, laterOf, decisionWord}
 use Rattle.arena.specs.Held.{Held}
 
 -- the first of a list of places, 0 if it is empty
@@ -59,6 +59,12 @@ pub record Numbered (code : ℕ → Key → ℕ) (m : ℕ) (old new : List ℕ) 
 pub record Indexed (n h : ℕ) (w : List ℕ) (t : Tree) : Type 0 where
   pub held : Held n (firstEntry t) (laterIn t) w 0 t
   pub heads : Every (λ j k a. getD w (h + firstEntry t j k) 0 ≡ firstOf (setMembers t j k)) t
+
+-- each place of a list names the next in its word, and the last 0
+unfoldable pub Linked : List ℕ → List ℕ → Type 0
+unfolding firstOf
+Linked w [] = Unit {0}
+Linked w (a ∷ l) = (laterOf (getD w a 0) ≡ firstOf l) × Linked w l
 
 -- word x is a decision, and the word at its set's code is 0
 unfoldable pub isNew : List ℕ → ℕ → ℕ → Bool
