@@ -20,8 +20,8 @@ use Rattle.leduc_rules.specs.Rules.{closes, in-play, options, turn, seen, left,
 use Rattle.leduc_rules.specs.Rules as Rules
 use Rattle.leduc_tree.specs.Tree.{Position, dealt, acted, actor, key}
 use Rattle.leduc_tree.specs.Follows.{acts}
-use Rattle.leduc_listing.specs.declared.Spot.{Spot}
-use Rattle.leduc_listing.specs.Walk.{placed}
+use Rattle.leduc_spots.specs.declared.Spot.{Spot}
+use Rattle.leduc_spots.specs.Spots.{placed}
 use Rattle.records.specs.Listing.{padded}
 use Rattle.records.proofs.Bytes.{zeros, padded-set, padded-run}
 
