@@ -8,6 +8,7 @@ use Rattle.leduc_tree.specs.Tree.{Position, dealt, acted, due, ended, next}
 use Rattle.leduc_tree.specs.Follows.{acts}
 use Rattle.leduc_tree.specs.Turns.{turns, isFirst, decisionAt}
 use Rattle.records.specs.Listing.{bytesOf}
+use Rattle.records.specs.Written.{joined}
 use Rattle.leduc_listing.specs.Listing.{cardsOf}
 
 -- the record of a position at which a seat acts
@@ -36,11 +37,6 @@ moveBound q = cond (due q) 6 (cond (ended q) 0 3)
 -- the position after one
 unfoldable pub moved : Position → ℕ → Position
 moved q a = cond (due q) (dealt q a) (acted q a)
-
--- the lists of all numbers, one after another
-unfoldable pub joined : List ℕ → (ℕ → List ℕ) → List ℕ
-joined [] g = []
-joined (a ∷ l) g = g a ++ joined l g
 
 -- the records after the moves below a bound, lower ones first, with at most r moves to come after each
 unfoldable pub nextRecords : ℕ → Position → ℕ → List ℕ
