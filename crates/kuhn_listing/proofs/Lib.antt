@@ -2,4 +2,5 @@
 pub mod Rule
 pub mod Steps
 pub mod Walk
+pub mod Fit
 pub mod Facts

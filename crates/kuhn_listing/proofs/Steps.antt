@@ -4,11 +4,10 @@ use mathlib.Core.Bool.{Bool, true, false, not, cond}
 use mathlib.Core.List.{List, [], _∷_, _++_, append-nil, append-assoc}
 use Prim.Native.Nat.{ℕ, zero, suc, _+_, _-_, _%_, _≤_, _<_}
 use native.Mathlib.Nat as NatL
-use native.Mathlib.Numerals.{add-one}
 use native.Mathlib.Omega.{arith}
 use lib.Dec.{leb}
 use lib.ListN.{length, getD, take, drop, set, length-append}
-use lib.Seq.{length-take-le, getD-take, take-suc-set, getD-set-same, getD-set-other, sets, paste}
+use lib.Seq.{length-take-le, getD-take, getD-set-same, getD-set-other, sets, paste}
 use borrow.Author.Tests.{le-leb}
 use Rattle.finite.specs.Finite.{some, those, has}
 use Rattle.finite.proofs.Tests.{Tested, holds, fails, tested, both, and-right-fails, none-at, below-cases}
@@ -17,11 +16,11 @@ use Rattle.kuhn_rules.specs.Rules.{PASS, BET, ended, turn, left, remaining}
 use Rattle.kuhn_tree.specs.Tree.{m}
 use Rattle.kuhn_tree.specs.Order.{turns, histories, decisionAt, first}
 use Rattle.records.specs.Listing.{padded, bytesOf}
-use Rattle.records.specs.Written.{Wrote}
-use Rattle.records.proofs.Bytes.{zeros, drop-zeros, padded-short, length-bytes, wrote-as, wrote-nothing, wrote-append}
+use Rattle.records.specs.Written.{joined, Wrote}
+use Rattle.records.proofs.Bytes.{joined-last, one-more, zeros, drop-zeros, padded-short, length-bytes, wrote-as, wrote-nothing, wrote-append}
 use Rattle.kuhn_listing.specs.Listing.{kuhnListing}
-use Rattle.kuhn_listing.specs.Walk.{recordAt, recordsOf, handRecords, joined, dealRecords, nextDeals, InDeck}
-use Rattle.kuhn_listing.proofs.Walk.{joined-last, walked}
+use Rattle.kuhn_listing.specs.Walk.{recordAt, recordsOf, handRecords, dealRecords, nextDeals, InDeck}
+use Rattle.kuhn_listing.proofs.Walk.{walked}
 
 -- ---- a key in its bytes
 pub key-padded : (s k : ℕ) (h : List ℕ) (acted : ℕ) → acted ≤ 11 → acted ≤ length h → paste (s ∷ k ∷ zeros 11) 2 h acted ≡ padded 13 (s ∷ k ∷ take acted h)
@@ -89,10 +88,7 @@ module _ (n : ℕ) (cs : List ℕ) where
   unfolding histories
   whole-hand h e = ap (handRecords n cs (m n)) e
 
--- ---- one more in an array
-pub one-more : (xs : List ℕ) (at x : ℕ) → at < length xs → take (at + 1) (set xs at x) ≡ take at xs ++ (x ∷ [])
-one-more xs at x l = ap (λ k. take k (set xs at x)) (add-one at) ∙ take-suc-set xs at x l
-
+-- ---- one more card in an array
 pub in-deck-more : (n : ℕ) (cards : List ℕ) (dealt c : ℕ) → dealt < length cards → c ≤ n → InDeck n dealt cards → InDeck n (dealt + 1) (set cards dealt c)
 in-deck-more n cards dealt c l w d i v = below-cases i dealt (let q : i < suc dealt = omega arith in q)
     (λ u. let e : getD (set cards dealt c) i 0 ≡ getD cards i 0 = getD-set-other cards dealt i c 0 (λ z. omega arith) in rw e (d i u))

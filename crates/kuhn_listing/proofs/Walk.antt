@@ -2,7 +2,7 @@
 use mathlib.Core.Path.{_≡_, refl, sym, ap, ap₂, subst, subst₂, _∙_}
 use mathlib.Core.Logic.{inl, inr}
 use mathlib.Core.Bool.{Bool, true, false, not, cond}
-use mathlib.Core.List.{List, [], _∷_, _++_, append-nil, append-assoc, map}
+use mathlib.Core.List.{List, [], _∷_, _++_, map}
 use Prim.Native.Nat.{ℕ, zero, suc, _+_, _≤_, _<_}
 use native.Mathlib.Nat as NatL
 use native.Mathlib.Omega.{arith}
@@ -26,9 +26,11 @@ use Rattle.kuhn_tree.proofs.Shape.{hand, deals, kuhn-deals}
 use Rattle.kuhn_tree.proofs.Sets.{turns-once}
 use Rattle.kuhn_tree.proofs.Order.{map-append, other-history, Meets, under, meets-more}
 use Rattle.records.specs.Listing.{listing, bytesOf}
+use Rattle.records.specs.Written.{joined}
+use Rattle.records.proofs.Bytes.{joined-last}
 use Rattle.records.proofs.Walk.{Marked, none, over, deal, act, marked-append, marked-decisions, Tells, tells-append, kept, kept-append, listed-by-walk}
 use Rattle.kuhn_listing.specs.Listing.{cardsOf, tree, kuhnListing}
-use Rattle.kuhn_listing.specs.Walk.{recordsOf, joined, dealRecords}
+use Rattle.kuhn_listing.specs.Walk.{recordsOf, dealRecords}
 
 abbrev Mark : Type 0
 Mark = Decision × Position
@@ -42,11 +44,6 @@ unfoldable dealMarks : ℕ → ℕ → List ℕ → List Mark
 unfolding joined histories
 dealMarks n zero cs = map (mark n cs) (histories n)
 dealMarks n (suc k) cs = joined (remaining n cs) (λ c. dealMarks n k (cs ++ (c ∷ [])))
-
-pub joined-last : {A : Type 0} (l : List ℕ) (c : ℕ) (g : ℕ → List A) → joined (l ++ (c ∷ [])) g ≡ joined l g ++ g c
-unfolding joined
-joined-last [] c g = append-nil (g c)
-joined-last (x ∷ l) c g = ap (λ r. g x ++ r) (joined-last l c g) ∙ sym (append-assoc (g x) (joined l g) (g c))
 
 -- ---- the nodes of the tree, with their positions
 module _ (ante bet n : ℕ) where

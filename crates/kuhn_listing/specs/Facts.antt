@@ -3,6 +3,7 @@ use mathlib.Core.Path.{_≡_}
 use mathlib.Core.List.{[], _∷_}
 use Prim.Native.Nat.{ℕ, _*_, _≤_}
 use lib.ListN.{length}
+use Rattle.game.specs.Tree.{Every}
 use Rattle.game.specs.Sets.{setCount}
 use Rattle.kuhn_listing.specs.Listing.{tree, kuhnListing}
 use Rattle.kuhn_listing.specs.Walk.{dealRecords}
@@ -10,6 +11,10 @@ use Rattle.kuhn_listing.specs.Walk.{dealRecords}
 -- the walk by the rule on the cards writes the listing
 abbrev pub Walked : Type 0
 Walked = (n : ℕ) → 1 ≤ n → kuhnListing n ≡ dealRecords n n []
+
+-- no key has more than 2n numbers: with up to 6 seats each is whole in its 13 bytes, and so are the cards in their 6
+abbrev pub Keys-fit : Type 0
+Keys-fit = (n : ℕ) → Every (λ j k a. length k ≤ 2 * n) (tree n)
 
 -- 24 bytes per set
 abbrev pub Long : Type 0

@@ -7,6 +7,7 @@ use Rattle.finite.specs.Finite.{those}
 use Rattle.kuhn_rules.specs.Rules.{ended, turn, left, remaining}
 use Rattle.kuhn_tree.specs.Order.{turns, histories, decisionAt, lowest, first}
 use Rattle.records.specs.Listing.{bytesOf}
+use Rattle.records.specs.Written.{joined}
 
 -- the record of the node with cards cs and history h
 abbrev pub recordAt : ℕ → List ℕ → List ℕ → List ℕ
@@ -21,11 +22,6 @@ recordsOf n cs (h ∷ hs) = let r : List ℕ = recordsOf n cs hs in cond (first 
 -- those from history h on, with at most r actions still to come
 abbrev pub handRecords : ℕ → List ℕ → ℕ → List ℕ → List ℕ
 handRecords n cs r h = recordsOf n cs (turns n r (ended n h) h)
-
--- the lists of all c, one after another
-unfoldable pub joined : {A : Type 0} → List ℕ → (ℕ → List A) → List A
-joined [] g = []
-joined (c ∷ l) g = g c ++ joined l g
 
 -- k cards to deal, then the histories of a hand
 unfoldable pub dealRecords : ℕ → ℕ → List ℕ → List ℕ

@@ -17,10 +17,10 @@ use Rattle.leduc_tree.specs.Turns as Turns
 use Rattle.leduc_tree.specs.Turns.{turns, isFirst, decisionAt}
 use Rattle.leduc_tree.specs.Follows.{acts}
 use Rattle.records.specs.Listing.{padded, bytesOf}
-use Rattle.records.specs.Written.{Wrote}
-use Rattle.records.proofs.Bytes.{length-bytes, wrote-as, wrote-append}
+use Rattle.records.specs.Written.{joined, Wrote}
+use Rattle.records.proofs.Bytes.{joined-last, length-bytes, wrote-as, wrote-append}
 use Rattle.leduc_listing.specs.Listing.{cardsOf, leducListing}
-use Rattle.leduc_listing.specs.Walk.{recordAt, recordsOf, nodeRecords, isMove, moveBound, moved, joined, nextRecords}
+use Rattle.leduc_listing.specs.Walk.{recordAt, recordsOf, nodeRecords, isMove, moveBound, moved, nextRecords}
 use Rattle.leduc_listing.proofs.Walk.{walked}
 
 -- ---- a node
@@ -65,12 +65,7 @@ unfolding joined Turns.joined recordsOf
 records-joined f [] g = refl
 records-joined f (a ∷ l) g = records-append (g (f a)) (Turns.joined (map f l) g) ∙ ap (λ r. recordsOf (g (f a)) ++ r) (records-joined f l g)
 
-joined-last : (l : List ℕ) (a : ℕ) (g : ℕ → List ℕ) → joined (l ++ (a ∷ [])) g ≡ joined l g ++ g a
-unfolding joined
-joined-last [] a g = append-nil (g a)
-joined-last (x ∷ l) a g = ap (λ r. g x ++ r) (joined-last l a g) ∙ sym (append-assoc (g x) (joined l g) (g a))
-
-joined-none : (l : List ℕ) → joined l (λ a. []) ≡ []
+joined-none : (l : List ℕ) → joined {A = ℕ} l (λ a. []) ≡ []
 unfolding joined
 joined-none [] = refl
 joined-none (a ∷ l) = joined-none l

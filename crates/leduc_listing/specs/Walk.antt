@@ -1,8 +1,7 @@
 -- What the walk of the code writes, by the rule on the cards: a tool of private contracts, equal to the listing (proofs/Facts.antt).
 use mathlib.Core.Bool.{Bool, cond}
 use mathlib.Core.List.{List, [], _∷_, _++_}
-use Prim.Native.Nat.{ℕ, _+_, _≤_}
-use lib.ListN.{take}
+use Prim.Native.Nat.{ℕ}
 use Rattle.finite.specs.Finite.{those}
 use Rattle.leduc_betting.specs.Cards.{seen, left}
 use Rattle.leduc_betting.specs.Betting.{in-play, may}
@@ -10,8 +9,8 @@ use Rattle.leduc_tree.specs.Tree.{Position, dealt, acted, due, ended, next}
 use Rattle.leduc_tree.specs.Follows.{acts}
 use Rattle.leduc_tree.specs.Turns.{turns, isFirst, decisionAt}
 use Rattle.records.specs.Listing.{bytesOf}
+use Rattle.records.specs.Written.{joined}
 use Rattle.leduc_listing.specs.Listing.{cardsOf}
-use Rattle.leduc_listing.specs.declared.Spot.{Spot}
 
 -- the record of a position at which a seat acts
 abbrev pub recordAt : Position → List ℕ
@@ -40,25 +39,7 @@ moveBound q = cond (due q) 6 (cond (ended q) 0 3)
 unfoldable pub moved : Position → ℕ → Position
 moved q a = cond (due q) (dealt q a) (acted q a)
 
--- the lists of all numbers, one after another
-unfoldable pub joined : List ℕ → (ℕ → List ℕ) → List ℕ
-joined [] g = []
-joined (a ∷ l) g = g a ++ joined l g
-
 -- the records after the moves below a bound, lower ones first, with at most r moves to come after each
 unfoldable pub nextRecords : ℕ → Position → ℕ → List ℕ
 unfolding recordsOf turns next isMove moved joined
 nextRecords r q bound = joined (those bound (isMove q)) (λ a. recordsOf (turns r (next (moved q a)) (moved q a)))
-
--- the position that a spot of the code holds
-abbrev pub placed : Spot → Position
-placed s = record { cards = take (s .dealt) (s .cards); public = s .public; first = take (s .acted1) (s .first); second = take (s .acted2) (s .second) }
-
--- how many cards and actions it holds, but for the public card
-abbrev pub made : Spot → ℕ
-made s = s .dealt + s .acted1 + s .acted2
-
--- it has places for so many moves more
-pub record Room (s : Spot) (more : ℕ) : Type 0 where
-  pub seats : s .dealt ≤ 2
-  pub places : made s + more ≤ 11

@@ -1,16 +1,26 @@
 -- Bytes stored in runs, and the bytes of a record. Assumes nothing.
 use mathlib.Core.Path.{_≡_, refl, sym, ap, ap₂, subst, _∙_}
-use mathlib.Core.List.{List, [], _∷_, _++_, append-assoc, map}
+use mathlib.Core.List.{List, [], _∷_, _++_, append-assoc, append-nil, map}
 use Prim.Native.Nat.{ℕ, zero, suc, _+_, _-_, _*_, _≤_, _<_}
 use native.Mathlib.Numerals.{add-one}
 use native.Mathlib.Omega.{arith}
 use lib.ListN.{length, take, drop, set, replicate, length-append, length-replicate, length-set}
-use lib.Seq.{sets, sets-eq, length-sets, paste, length-take-le, take-all, take-append-add, take-append-seam, drop-append-add, set-append-seam}
+use lib.Seq.{sets, sets-eq, length-sets, paste, length-take-le, take-all, take-append-add, take-append-seam, drop-append-add, set-append-seam, take-suc-set}
 use Rattle.game.specs.Tree.{Tree}
 use Rattle.records.specs.Listing.{padded, Cards, bytesOf, firstNode, flat, listing}
-use Rattle.records.specs.Written.{Wrote}
+use Rattle.records.specs.Written.{joined, Wrote}
 use Rattle.game.specs.Sets.{Decision, setCount}
 use Rattle.game.specs.Sets as Sets
+
+-- ---- one more
+pub joined-last : {A : Type 0} (l : List ℕ) (c : ℕ) (g : ℕ → List A) → joined (l ++ (c ∷ [])) g ≡ joined l g ++ g c
+unfolding joined
+joined-last [] c g = append-nil (g c)
+joined-last (x ∷ l) c g = ap (λ r. g x ++ r) (joined-last l c g) ∙ sym (append-assoc (g x) (joined l g) (g c))
+
+-- in an array
+pub one-more : (xs : List ℕ) (at x : ℕ) → at < length xs → take (at + 1) (set xs at x) ≡ take at xs ++ (x ∷ [])
+one-more xs at x l = ap (λ k. take k (set xs at x)) (add-one at) ∙ take-suc-set xs at x l
 
 -- ---- runs of bytes, one after another
 pub sets-append : (xs ys l : List ℕ) (i : ℕ) → sets l i (xs ++ ys) ≡ sets (sets l i xs) (i + length xs) ys

@@ -5,8 +5,8 @@ use lib.ListN.{length, take}
 use borrow.Author.Tests.{not-true, not-false}
 use Rattle.records.specs.Listing.{padded}
 use Rattle.records.proofs.Bytes.{wrote-nothing}
-use Rattle.leduc_listing.specs.Walk.{placed}
-use Rattle.leduc_listing.proofs.Spots.{two-dealt, key-count}
+use Rattle.leduc_spots.specs.Spots.{placed}
+use Rattle.leduc_spots.proofs.Spots.{two-dealt, key-count}
 use Rattle.leduc_listing.proofs.Steps.{node-idle, node-later, node-length, wrote-node}
 use borrow.Author.Needs.{needs}
 use Rattle.leduc_listing.proofs.write_first.Statement.{statement}

@@ -4,8 +4,8 @@ use native.Mathlib.Omega.{arith}
 use lib.ListN.{length}
 use Rattle.leduc_betting.proofs.Deals.{front-length}
 use borrow.Author.Needs.{needs}
-use Rattle.leduc_listing.proofs.hand_over.Statement.{statement}
-use Rattle.leduc_listing.proofs.hand_over.Tie as tie
+use Rattle.leduc_spots.proofs.hand_over.Statement.{statement}
+use Rattle.leduc_spots.proofs.hand_over.Tie as tie
 
 array-share-prefix-first : tie.Need-array-share-prefix-first
 array-share-prefix-first c =

@@ -4,11 +4,11 @@ use native.Mathlib.Omega.{arith}
 use Prim.Native.Nat.{_≤_}
 use lib.ListN.{length}
 use lib.Seq.{length-take-le}
-use Rattle.leduc_listing.specs.Walk.{placed}
-use Rattle.leduc_listing.proofs.Spots.{card-to-seat, card-for-all}
+use Rattle.leduc_spots.specs.Spots.{placed}
+use Rattle.leduc_spots.proofs.Spots.{card-to-seat, card-for-all}
 use borrow.Author.Needs.{needs}
-use Rattle.leduc_listing.proofs.with_card.Statement.{statement}
-use Rattle.leduc_listing.proofs.with_card.Tie as tie
+use Rattle.leduc_spots.proofs.with_card.Statement.{statement}
+use Rattle.leduc_spots.proofs.with_card.Tie as tie
 
 element-write-next : tie.Need-element-write-next
 element-write-next c = search needs

@@ -8,10 +8,10 @@ use lib.ListN.{length, getD, take}
 use lib.Seq.{length-take-le}
 use Rattle.leduc_betting.specs.Cards.{seen, remaining}
 use Rattle.leduc_tree.specs.Turns.{isFirst}
-use Rattle.leduc_listing.proofs.Spots.{first-by-lowest}
+use Rattle.leduc_spots.proofs.Spots.{first-by-lowest}
 use borrow.Author.Needs.{needs}
-use Rattle.leduc_listing.proofs.is_first.Statement.{statement}
-use Rattle.leduc_listing.proofs.is_first.Tie as tie
+use Rattle.leduc_spots.proofs.is_first.Statement.{statement}
+use Rattle.leduc_spots.proofs.is_first.Tie as tie
 
 sub-other : tie.Need-sub-other
 sub-other c = search needs

@@ -4,11 +4,11 @@ use native.Mathlib.Nat as NatL
 use native.Mathlib.Omega.{arith}
 use lib.ListN.{length, take}
 use lib.Seq.{length-take-le}
-use Rattle.leduc_listing.proofs.Spots.{turn-in-second, turn-in-first}
+use Rattle.leduc_spots.proofs.Spots.{turn-in-second, turn-in-first}
 use Rattle.leduc_betting.proofs.Deals.{front-length}
 use borrow.Author.Needs.{needs}
-use Rattle.leduc_listing.proofs.seat_to_act.Statement.{statement}
-use Rattle.leduc_listing.proofs.seat_to_act.Tie as tie
+use Rattle.leduc_spots.proofs.seat_to_act.Statement.{statement}
+use Rattle.leduc_spots.proofs.seat_to_act.Tie as tie
 
 array-share-prefix-first : tie.Need-array-share-prefix-first
 array-share-prefix-first c =

@@ -3,11 +3,10 @@ use mathlib.Core.Path.{_≡_, refl, sym, ap, ap₂, _∙_}
 use mathlib.Core.Bool.{true, false, not, cond}
 use mathlib.Core.List.{List, [], _∷_, _++_, append-assoc}
 use Prim.Native.Nat.{ℕ, zero, suc, _+_, _-_, _%_, _≤_, _<_}
-use native.Mathlib.Numerals.{add-one}
 use native.Mathlib.Omega.{arith}
 use lib.Dec.{eqb, ltb}
 use lib.ListN.{length, getD, take, set, length-append}
-use lib.Seq.{length-take-le, getD-take, take-suc-set, paste}
+use lib.Seq.{length-take-le, getD-take, paste}
 use borrow.Author.Tests.{eq-eqb, ne-eqb, lt-ltb, le-ltb, ltb-false, not-true}
 use Rattle.finite.specs.Finite.{and, has}
 use Rattle.finite.proofs.Tests.{both, neither, or-false-left}
@@ -22,10 +21,10 @@ use Rattle.leduc_rules.specs.Rules.{live, shown-public}
 use Rattle.leduc_rules.specs.Rules as Rules
 use Rattle.leduc_tree.specs.Tree.{Position, dealt, acted, actor, key}
 use Rattle.leduc_tree.specs.Follows.{acts}
-use Rattle.leduc_listing.specs.declared.Spot.{Spot}
-use Rattle.leduc_listing.specs.Walk.{placed}
+use Rattle.leduc_spots.specs.declared.Spot.{Spot}
+use Rattle.leduc_spots.specs.Spots.{placed}
 use Rattle.records.specs.Listing.{padded}
-use Rattle.records.proofs.Bytes.{zeros, padded-set, padded-run}
+use Rattle.records.proofs.Bytes.{one-more, zeros, padded-set, padded-run}
 
 -- ---- the turn
 pub turn-in-second : (h₁ h₂ : List ℕ) (k : ℕ) → closes h₁ ≡ true → length h₂ ≡ k → k % 2 ≡ turn h₁ h₂
@@ -100,10 +99,7 @@ pub key-length : (cs h₁ h₂ : List ℕ) (public : Public) (s : ℕ) → lengt
 unfolding Rules.key
 key-length cs h₁ h₂ public s = omega (arith, length-append h₁ (length h₂ ∷ h₂))
 
--- ---- one more in an array
-one-more : (xs : List ℕ) (at x : ℕ) → at < length xs → take (at + 1) (set xs at x) ≡ take at xs ++ (x ∷ [])
-one-more xs at x l = ap (λ k. take k (set xs at x)) (add-one at) ∙ take-suc-set xs at x l
-
+-- ---- one card or action more
 -- a card to a seat
 pub card-to-seat : (q : Position) (cards : List ℕ) (at c : ℕ) → at < 2 → at < length cards → q .cards ≡ take at cards
     → record { cards = take (at + 1) (set cards at c); public = q .public; first = q .first; second = q .second } ≡ dealt q c

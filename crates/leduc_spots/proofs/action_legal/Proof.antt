@@ -5,10 +5,10 @@ use native.Mathlib.Omega.{arith}
 use lib.ListN.{length}
 use Rattle.leduc_betting.specs.Betting.{in-play, may}
 use Rattle.leduc_betting.proofs.Deals.{front-length}
-use Rattle.leduc_listing.specs.Walk.{placed}
+use Rattle.leduc_spots.specs.Spots.{placed}
 use borrow.Author.Needs.{needs}
-use Rattle.leduc_listing.proofs.action_legal.Statement.{statement}
-use Rattle.leduc_listing.proofs.action_legal.Tie as tie
+use Rattle.leduc_spots.proofs.action_legal.Statement.{statement}
+use Rattle.leduc_spots.proofs.action_legal.Tie as tie
 
 array-share-prefix-first : tie.Need-array-share-prefix-first
 array-share-prefix-first c =

@@ -2,11 +2,11 @@
 use mathlib.Core.Path.{_≡_}
 use native.Mathlib.Omega.{arith}
 use lib.ListN.{length}
-use Rattle.leduc_listing.proofs.Spots.{legal-counted}
+use Rattle.leduc_spots.proofs.Spots.{legal-counted}
 use Rattle.leduc_betting.proofs.Deals.{front-length}
 use borrow.Author.Needs.{needs}
-use Rattle.leduc_listing.proofs.legal_count.Statement.{statement}
-use Rattle.leduc_listing.proofs.legal_count.Tie as tie
+use Rattle.leduc_spots.proofs.legal_count.Statement.{statement}
+use Rattle.leduc_spots.proofs.legal_count.Tie as tie
 
 array-share-prefix-first : tie.Need-array-share-prefix-first
 array-share-prefix-first c =

@@ -3,11 +3,11 @@ use mathlib.Core.Path.{_≡_, ap, _∙_}
 use Prim.Native.Nat.{_+_}
 use native.Mathlib.Omega.{arith}
 use lib.ListN.{length, getD, length-set}
-use Rattle.leduc_listing.proofs.Spots.{key-stored, key-told}
+use Rattle.leduc_spots.proofs.Spots.{key-stored, key-told}
 use Rattle.records.specs.Listing.{padded}
 use borrow.Author.Needs.{needs}
-use Rattle.leduc_listing.proofs.key_of.Statement.{statement}
-use Rattle.leduc_listing.proofs.key_of.Tie as tie
+use Rattle.leduc_spots.proofs.key_of.Statement.{statement}
+use Rattle.leduc_spots.proofs.key_of.Tie as tie
 
 cast-key : tie.Need-cast-key
 cast-key c = search needs

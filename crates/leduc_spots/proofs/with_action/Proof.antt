@@ -3,11 +3,11 @@ use mathlib.Core.Path.{_≡_, refl, sym, _∙_}
 use native.Mathlib.Omega.{arith}
 use lib.ListN.{length}
 use Rattle.leduc_betting.proofs.Deals.{front-length}
-use Rattle.leduc_listing.specs.Walk.{placed}
-use Rattle.leduc_listing.proofs.Spots.{action-in-second, action-in-first}
+use Rattle.leduc_spots.specs.Spots.{placed}
+use Rattle.leduc_spots.proofs.Spots.{action-in-second, action-in-first}
 use borrow.Author.Needs.{needs}
-use Rattle.leduc_listing.proofs.with_action.Statement.{statement}
-use Rattle.leduc_listing.proofs.with_action.Tie as tie
+use Rattle.leduc_spots.proofs.with_action.Statement.{statement}
+use Rattle.leduc_spots.proofs.with_action.Tie as tie
 
 array-share-prefix-first : tie.Need-array-share-prefix-first
 array-share-prefix-first c =

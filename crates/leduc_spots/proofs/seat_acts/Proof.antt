@@ -4,8 +4,8 @@ use native.Mathlib.Omega.{arith}
 use lib.ListN.{length}
 use Rattle.leduc_betting.proofs.Deals.{front-length}
 use borrow.Author.Needs.{needs}
-use Rattle.leduc_listing.proofs.seat_acts.Statement.{statement}
-use Rattle.leduc_listing.proofs.seat_acts.Tie as tie
+use Rattle.leduc_spots.proofs.seat_acts.Statement.{statement}
+use Rattle.leduc_spots.proofs.seat_acts.Tie as tie
 
 array-share-prefix-cards : tie.Need-array-share-prefix-cards
 array-share-prefix-cards c =

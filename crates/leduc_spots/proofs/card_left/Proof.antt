@@ -9,8 +9,8 @@ use Rattle.finite.specs.Finite.{has}
 use Rattle.finite.proofs.Tests.{and-rest, and-left-fails}
 use Rattle.leduc_betting.specs.Cards.{left}
 use borrow.Author.Needs.{needs}
-use Rattle.leduc_listing.proofs.card_left.Statement.{statement}
-use Rattle.leduc_listing.proofs.card_left.Tie as tie
+use Rattle.leduc_spots.proofs.card_left.Statement.{statement}
+use Rattle.leduc_spots.proofs.card_left.Tie as tie
 
 wide-requires : tie.Need-wide-requires
 wide-requires c κs = search needs

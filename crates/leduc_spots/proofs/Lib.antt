@@ -1,0 +1,2 @@
+-- Laws of the spots.
+pub mod Spots

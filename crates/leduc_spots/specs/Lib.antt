@@ -1,0 +1,2 @@
+-- The spots of Leduc's walk.
+pub mod Spots
