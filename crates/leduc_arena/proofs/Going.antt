@@ -7,10 +7,11 @@ use native.Mathlib.Nat as NatL
 use native.Mathlib.Omega.{arith}
 use lib.Dec.{eqb, ltb}
 use lib.ListN.{length, getD, set, take, drop, length-set, length-drop}
-use lib.Seq.{take-suc-set, take-set-le, drop-set-lt, drop-set-add, getD-take}
+use lib.Seq.{length-take-le, take-suc-set, take-set-le, drop-set-lt, drop-set-add, getD-take}
 use borrow.Author.Tests.{eq-eqb, eqb-true, le-leb, ltb-true, ltb-false}
 use Rattle.finite.specs.Finite.{and, or}
 use Rattle.finite.proofs.Tests.{Tested, holds, fails, tested, true≢false, both, neither, and-right, or-cases}
+use Rattle.arena.specs.Words.{decisionWord}
 use Rattle.leduc_betting.specs.Betting.{closes, in-play, turn}
 use Rattle.leduc_betting.proofs.Rounds.{open-short}
 use Rattle.leduc_rules.specs.Rules.{public-due, live, legal, shown-public}
@@ -24,7 +25,7 @@ use Rattle.leduc_positions.proofs.Positions.{reachable-short, reachable-possibl
 use Rattle.leduc_tree.specs.Tree.{Position, dealt, acted, due, ended, actor, choices, key}
 use Rattle.leduc_tree.specs.Follows.{Reachable}
 use Rattle.leduc_arena.specs.Codes.{codeFrom, codeOf, codes}
-use Rattle.leduc_arena.specs.Layout.{positionOf, isOver, isEnd, isMove, moved, movedState, Going, Moving}
+use Rattle.leduc_arena.specs.Layout.{positionOf, isOver, isEnd, isMove, moved, movedState, nodeWord, Going, Moving}
 use Rattle.leduc_arena.proofs.Numbers.{code-few, code-key}
 
 -- ---- what the rules say of such a position
@@ -70,6 +71,15 @@ module _ (s : LeducState) (k : ℕ) (m : Moving s k) (e : due (positionOf s) ≡
   code-small = rw (code-key (cardsOf s) (s .public) (roundOne s) (roundTwo s) (actor (positionOf s)) (actor (positionOf s)))
       (code-few (cardsOf s) (roundOne s) (roundTwo s) (s .public) (actor (positionOf s)) (parts s (k + 1) (m .going)) acts
       (omega (arith, one-of-two, both-dealt, cards-counted s (m .going .pair) (m .going .places) (m .going .reached))))
+
+  -- a word of that seat, of as many actions as the legal list has, and of that code is the node's
+  pub word-is : (i n d next r : ℕ) (actions : List ℕ) → i ≡ actor (positionOf s) → n ≤ 3 → length actions ≡ 3 → take n actions ≡ legal-of s i
+      → d ≡ codeFrom (getD (s .cards) i 0) (shown-public (s .public)) (roundOne s) (roundTwo s) → r ≡ decisionWord i n d next 0 → r ≡ nodeWord (positionOf s) next
+  unfolding nodeWord
+  word-is i n d next r actions seat few three list code word =
+      let count : n ≡ length (choices (positionOf s)) = sym (length-take-le n actions (omega arith)) ∙ ap length (list ∙ ap (legal-of s) seat ∙ legal-choices) in
+      let set : d ≡ codeOf (actor (positionOf s)) (key (positionOf s)) = code ∙ code-is i seat in
+      rw e (omega arith)
 
   -- round 1 has room until it closes
   pub first-room : closes (roundOne s) ≡ false → s .acted1 < 4

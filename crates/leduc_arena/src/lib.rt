@@ -19,6 +19,9 @@ ghost use Rattle.leduc_tree.specs.Tree.{leducTree};
 ghost use Rattle.leduc_arena.specs.Codes.{codeOf};
 ghost use Rattle.leduc_arena.specs.Layout.{positionOf, treeAt, childrenTo, childAt, Going, Moving, Room};
 
+// The most cards and actions in a hand: a card each, the public card, and four actions in each round.
+const LONGEST: usize = 11;
+
 // Lays out the tree below a position, of at most left cards and actions, at place at; the place behind it.
 fn tree(w: &mut [u64], at: usize, state: LeducState, left: usize) -> usize
     requires { ⌜ Going state left ⌝ }
@@ -42,7 +45,7 @@ fn children(w: &mut [u64], at: usize, state: LeducState, left: usize) -> usize
 {
     let mut next = at;
     let mut x = 0;
-    while x < 6 {
+    while x < leduc_betting::DECK {
         next = child(w, next, state, left, x);
         x += 1;
     }
@@ -66,5 +69,5 @@ pub fn build(w: &mut [u64]) -> usize
     requires { ⌜ 9457 ≤ length (now w) ⌝ }
     ensures { λ r. ⌜ Built 2 codeOf 0 (now (w .entry)) (now (w .exit)) (leducTree ante raise₁ raise₂) r ⌝ }
 {
-    tree(w, 0, LeducState::new(), 11)
+    tree(w, 0, LeducState::new(), LONGEST)
 }

@@ -1,13 +1,9 @@
 -- The word of a chance node or of a decision. Assumes nothing.
 use borrow.Author.Needs.{needs}
-use Rattle.leduc_positions.specs.Positions.{legal-of}
-use mathlib.Core.Path.{_≡_, sym, ap, _∙_}
+use mathlib.Core.Path.{sym, _∙_}
 use native.Mathlib.Omega.{arith}
-use lib.ListN.{length}
-use lib.Seq.{length-take-le}
-use Rattle.leduc_tree.specs.Tree.{choices}
-use Rattle.leduc_arena.specs.Layout.{positionOf, nodeWord}
-use Rattle.leduc_arena.proofs.Going.{short, one-of-two, legal-choices, code-is, code-small}
+use Rattle.leduc_arena.specs.Layout.{nodeWord}
+use Rattle.leduc_arena.proofs.Going.{short, one-of-two, code-is, code-small, word-is}
 use Rattle.leduc_arena.proofs.words.node_word.Statement.{statement}
 use Rattle.leduc_arena.proofs.words.node_word.Tie as tie
 
@@ -39,13 +35,7 @@ decision-requires c κs = let d = sym (c .before .before .before .before .card-d
     (omega (arith, c .before .before .turn .ensures), omega (arith, c .before .legal-list .ensures .0), omega (arith, c .code .ensures, code-is _ _ (c .before .before .before .before .before .pre .0) d _ (c .before .before .turn .ensures), code-small _ _ (c .before .before .before .before .before .pre .0) d), c .before .before .before .before .before .pre .1, omega arith)
 
 returns-2 : tie.Need-returns-2
-unfolding nodeWord
-returns-2 c = let d = sym (c .before .before .before .before .before .card-due .ensures) ∙ c .before .before .before .before .if1 .left in
-    let s = c .before .before .before .before .before .before .args .state in
-    let three : length (c .before .before .legal-list .result .actions) ≡ 3 = search needs in
-    let count : c .before .before .legal-list .result .count ≡ length (choices (positionOf s)) =
-    sym (length-take-le (c .before .before .legal-list .result .count) (c .before .before .legal-list .result .actions) (omega (arith, c .before .before .legal-list .ensures .0))) ∙ ap length (c .before .before .legal-list .ensures .1 ∙ ap (legal-of s) (c .before .before .before .turn .ensures) ∙ legal-choices _ _ (c .before .before .before .before .before .before .pre .0) d) in
-    rw d (c .decision .ensures ∙ omega (arith, c .before .before .before .turn .ensures, count, c .before .code .ensures, code-is _ _ (c .before .before .before .before .before .before .pre .0) d _ (c .before .before .before .turn .ensures)))
+returns-2 c = word-is _ _ (c .before .before .before .before .before .before .pre .0) (sym (c .before .before .before .before .before .card-due .ensures) ∙ c .before .before .before .before .if1 .left) _ _ _ _ _ _ (c .before .before .before .turn .ensures) (c .before .before .legal-list .ensures .0) (search needs) (c .before .before .legal-list .ensures .1) (c .before .code .ensures) (c .decision .ensures)
 
 pub node-word-spec : {M : Type 1} → statement M
 node-word-spec =
