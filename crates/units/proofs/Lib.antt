@@ -1,2 +1,3 @@
 pub mod Six
 pub mod Adding
+pub mod Lifting
