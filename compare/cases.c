@@ -1,4 +1,4 @@
-/* Document 01's cases a to j through the header and the archive, from C. Ends with status 1 at the first that differs. */
+/* Document 01's cases a to j and the keys of Kuhn 2 through the header and the archive, from C. Ends with status 1 at the first that differs. */
 #include "chukkanalli.h"
 
 #include <stdio.h>
@@ -104,6 +104,33 @@ static void leduc_cases(void) {
     expect("j", answer.refusal == 0 && answer.count == 6 && memcmp(out, key, sizeof key) == 0);
 }
 
+/* ---- The listing of Kuhn 2: its keys in order, and the bytes that it may not touch */
+
+static void listing(void) {
+    static const char *const keys[12] = {"00", "110", "0001", "111", "120", "121", "01", "100", "0101", "101", "02", "0201"};
+    static uint64_t work[12 * 58];
+    uint8_t out[12 * CHUKKANALLI_RECORD + 1];
+    memset(out, 9, sizeof out);
+    chukkanalli_listing answer = chukkanalli_enumerate_infosets(CHUKKANALLI_KUHN_POKER, 2, work, 12 * 58, out, sizeof out);
+    expect("Kuhn 2's counts", answer.refusal == 0 && answer.nodes == 58 && answer.sets == 12 && out[sizeof out - 1] == 9);
+    for (int set = 0; set < 12; set++) {
+        const uint8_t *record = out + set * CHUKKANALLI_RECORD;
+        int holds = record[1] == strlen(keys[set]) && record[0] == record[2] && record[15] == CHUKKANALLI_NO_CARD && record[22] == 2;
+        for (int place = 0; place < 13; place++) {
+            holds = holds && record[2 + place] == (place < record[1] ? keys[set][place] - '0' : 0);
+        }
+        expect("Kuhn 2's keys", holds);
+    }
+    memset(out, 9, sizeof out);
+    expect("4", chukkanalli_enumerate_infosets(CHUKKANALLI_KUHN_POKER, 2, work, 12 * 58 - 1, out, sizeof out).refusal == CHUKKANALLI_MEMORY);
+    expect("9 of the listing",
+        chukkanalli_enumerate_infosets(CHUKKANALLI_KUHN_POKER, 2, work, 12 * 58, out, 12 * CHUKKANALLI_RECORD - 1).refusal == CHUKKANALLI_OUTPUT);
+    expect("1", chukkanalli_enumerate_infosets(2, 2, NULL, 0, NULL, 0).refusal == CHUKKANALLI_GAME);
+    for (size_t place = 0; place < sizeof out; place++) {
+        expect("what a refused listing leaves", out[place] == 9);
+    }
+}
+
 /* ---- refusals: the position comes back to the byte, whatever its public card, and the output stays */
 
 static void refusals(void) {
@@ -130,7 +157,8 @@ static void refusals(void) {
 int main(void) {
     kuhn_cases();
     leduc_cases();
+    listing();
     refusals();
-    puts("cases a to j from C: as document 01 has them");
+    puts("cases a to j and Kuhn 2's keys from C: as document 01 has them");
     return 0;
 }

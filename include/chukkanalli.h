@@ -1,12 +1,13 @@
 /*
- * Kuhn poker for 2 to 10 seats and Leduc hold'em for 2: the rules calls and the saved-position checks of libchukkanalli.a, for x86-64 Linux.
+ * Kuhn poker for 2 to 10 seats and Leduc hold'em for 2: the rules calls, the saved-position checks and the listing of libchukkanalli.a, for
+ * x86-64 Linux.
  *
  * Every call is defined on every input, and answers a refusal number: 0 if it was accepted, else the first number of the list below that
  * applies. A refused call leaves all lent memory as it was. Every answer of a call on a position holds a position: the new one of an
  * accepted deal or step, else the one handed in, to the byte. Every other field of a refused answer is 0. A call touches no memory but what
  * it is lent, and keeps no state.
  *
- * What a caller owes: a pointer is valid for reading and writing as many bytes as the length beside it says, and is null only where that
+ * What a caller owes: a pointer is valid for reading and writing as many elements as the length beside it says, and is null only where that
  * length is 0; no two slices lent to one call overlap, nor does any thread use them during the call.
  */
 #ifndef CHUKKANALLI_H
@@ -22,7 +23,10 @@ extern "C" {
 /* The refusal numbers of the calls below. */
 enum {
     CHUKKANALLI_ACCEPTED = 0,
-    CHUKKANALLI_SEATS = 2,         /* the seat count is outside 2 to 10 */
+    CHUKKANALLI_GAME = 1,          /* the game number is neither 0 (Kuhn) nor 1 (Leduc) */
+    CHUKKANALLI_SEATS = 2,         /* the seat count is outside 2 to 10 for Kuhn, or not 2 for Leduc */
+    CHUKKANALLI_TREE = 3,          /* the tree has more than 4,000,000 nodes: Kuhn with 7 to 10 seats */
+    CHUKKANALLI_MEMORY = 4,        /* the work memory has fewer than 12 words per node of the tree */
     CHUKKANALLI_OUTPUT = 9,        /* the output is shorter than its answer */
     CHUKKANALLI_CARD_COUNT = 10,   /* a saved position does not hold one card per seat */
     CHUKKANALLI_CARD = 11,         /* a card is not in the deck */
@@ -157,6 +161,26 @@ chukkanalli_leduc_payoffs chukkanalli_leduc_payouts(chukkanalli_leduc_position p
 
 /* Saved position with its end mark, 0 for a live hand and 1 for one that has ended. Refuses with 10 to 18. */
 chukkanalli_leduc_moved chukkanalli_leduc_validate_decoded_state(chukkanalli_leduc_position position, uint64_t done);
+
+/* ---- Either game, by its number */
+
+enum { CHUKKANALLI_KUHN_POKER = 0, CHUKKANALLI_LEDUC_POKER = 1 };
+
+/* The bytes that the listing writes for a set. */
+enum { CHUKKANALLI_RECORD = 24 };
+
+/* What the listing answers: the nodes and the sets of the game's tree. */
+typedef struct {
+    uint64_t refusal;
+    uint64_t nodes;
+    uint64_t sets;
+} chukkanalli_listing;
+
+/* Listing of a game's sets to the front of the output, in set order, 24 bytes a set: seat, key length, key in 13 bytes, public card or 255, the
+ * first node's cards in 6 bytes, legal count, 0; unused bytes are 0. The work memory holds 12 words for each node of the tree, and is not
+ * touched. Refuses with 1, 2, 3, 4, 9. */
+chukkanalli_listing chukkanalli_enumerate_infosets(
+    uint64_t game, uint64_t seats, const uint64_t *work, size_t work_len, uint8_t *out, size_t out_len);
 
 #ifdef __cplusplus
 }

@@ -1,9 +1,9 @@
 //! The host: it lends memory to the calls of libchukkanalli.a, and holds them to the unchanged Rust.
 
-#[cfg(feature = "listing")]
 pub mod listing;
 pub mod memory;
 pub mod rules;
+pub mod stack;
 
 /// The middle one of some times.
 pub fn median(mut times: Vec<f64>) -> f64 {

@@ -13,7 +13,7 @@ extern "C" {
     fn chukkanalli_enumerate_infosets(
         game: u64,
         seats: u64,
-        work: *mut u64,
+        work: *const u64,
         work_len: usize,
         out: *mut u8,
         out_len: usize,
@@ -21,7 +21,7 @@ extern "C" {
 }
 
 /// The listing of a game's sets into an output, with lent work memory.
-pub fn enumerate_infosets(game: u64, seats: u64, work: &mut [u64], out: &mut [u8]) -> ListingAnswer {
-    // SAFETY: each pointer is valid for its length, and two slices that can be written do not overlap.
-    unsafe { chukkanalli_enumerate_infosets(game, seats, work.as_mut_ptr(), work.len(), out.as_mut_ptr(), out.len()) }
+pub fn enumerate_infosets(game: u64, seats: u64, work: &[u64], out: &mut [u8]) -> ListingAnswer {
+    // SAFETY: each pointer is valid for its length, and a slice that can be written overlaps no other.
+    unsafe { chukkanalli_enumerate_infosets(game, seats, work.as_ptr(), work.len(), out.as_mut_ptr(), out.len()) }
 }

@@ -8,7 +8,8 @@ ghost use Rattle.refusals.specs.Refusals.{first};
 ghost use Rattle.tables.specs.Checks.{tree-checks};
 ghost use Rattle.listing.specs.Calls.{listingOf, listing-refusal, answer, written, gameOf};
 
-// A call's refusal number, 0 if it was accepted, and the nodes and sets of the game's tree; these are 0 if it was refused.
+// A call's refusal number, 0 if it was accepted, and the nodes and sets of the game's tree; these are 0 if it was refused. C has it as it is.
+#[repr(C)]
 pub struct ListingAnswer {
     pub refusal: u64,
     pub nodes: usize,

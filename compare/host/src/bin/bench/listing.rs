@@ -1,5 +1,5 @@
 //! The listing: the Rust's `enumerate_infosets` and ours on the same games. The memory that is lent was filled before, so no page is touched
-//! for the first time.
+//! for the first time. The Rust makes its sets from the whole tree, ours finds the first node of each.
 
 use crate::row;
 use host::listing::enumerate_infosets;
@@ -22,7 +22,7 @@ fn listing<G: Listed>(name: &str, number: u64, seats: u64, game: &G, rounds: usi
     let tree = listing_of(number, seats).expect("a tree within the limit");
     let mut memory = Memory::new(tree.words(), tree.room());
     let mut ours = || {
-        let answer = enumerate_infosets(number, seats, &mut memory.work, &mut memory.out);
+        let answer = enumerate_infosets(number, seats, &memory.work, &mut memory.out);
         assert_eq!((answer.refusal, answer.sets), (0, tree.sets.len() as u64), "{name} is listed");
         black_box(&mut memory.out);
     };

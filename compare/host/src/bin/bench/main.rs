@@ -1,7 +1,6 @@
 //! `bench [ROUNDS]`: our time and the Rust's on the same inputs in one run. Both take turns, round after round; a row has the
-//! median of each and their ratio.
+//! median of each and their ratio, and how many rounds it had: fewer where they would take too long.
 
-#[cfg(feature = "listing")]
 mod listing;
 mod rules;
 
@@ -11,33 +10,36 @@ use std::time::Instant;
 
 /// A round repeats what is quick until it takes about so long, in milliseconds.
 const ROUND: f64 = 5.0;
+/// The rounds of a row take about so long at most, in milliseconds, but there are five.
+const ROW: f64 = 20_000.0;
 
 fn main() {
     let rounds = env::args().nth(1).map_or(15, |word| word.parse().expect("a number of rounds"));
-    println!("median of {rounds} interleaved rounds, in milliseconds");
-    println!("| what | Rust | ours | times as fast |");
-    println!("| --- | --- | --- | --- |");
-    rules::bench(rounds);
-    #[cfg(feature = "listing")]
+    println!("medians of interleaved rounds, in milliseconds");
+    println!("| what | rounds | Rust | ours | times as fast |");
+    println!("| --- | --- | --- | --- | --- |");
     listing::bench(rounds);
+    rules::bench(rounds);
 }
 
 /// Times both in turn, prints their medians, and hands them back.
 fn row(name: &str, rounds: usize, rust: &mut dyn FnMut(), ours: &mut dyn FnMut()) -> (f64, f64) {
-    let (many_rust, many_ours) = (repeats(rust), repeats(ours));
+    let (first_rust, first_ours) = (time(1, rust), time(1, ours));
+    let (many_rust, many_ours) = (repeats(first_rust), repeats(first_ours));
+    let rounds = rounds.min((ROW / (first_rust + first_ours).max(ROUND)) as usize).max(5);
     let (mut rusts, mut all_ours) = (Vec::new(), Vec::new());
     for _ in 0..rounds {
         rusts.push(time(many_rust, rust));
         all_ours.push(time(many_ours, ours));
     }
     let (rust, ours) = (median(rusts), median(all_ours));
-    println!("| {name} | {rust:.4} | {ours:.4} | {:.1} |", rust / ours);
+    println!("| {name} | {rounds} | {rust:.4} | {ours:.4} | {:.1} |", rust / ours);
     (rust, ours)
 }
 
-/// How often a round makes a call, from one run of it.
-fn repeats(call: &mut dyn FnMut()) -> u32 {
-    (ROUND / time(1, call)).clamp(1.0, 10_000.0) as u32
+/// How often a round makes a call that takes so long.
+fn repeats(one: f64) -> u32 {
+    (ROUND / one).clamp(1.0, 10_000.0) as u32
 }
 
 /// The milliseconds of one call, over so many of them.

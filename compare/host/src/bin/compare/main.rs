@@ -1,7 +1,6 @@
 //! `compare [CALLS [SEED]]`: as many hands of each game, and as many listings, with random inputs, held to the unchanged Rust.
 //! It prints its seed, and stops at the first difference.
 
-#[cfg(feature = "listing")]
 mod listing;
 mod number;
 mod rules;
@@ -17,7 +16,6 @@ fn main() {
     println!("seed {seed}");
     let mut random = Random::new(seed);
     rules::compare(calls, &mut random);
-    #[cfg(feature = "listing")]
     listing::compare(calls, &mut random);
 }
 
