@@ -41,6 +41,6 @@ pub fn lifted(x: u64, seat: usize) -> u64
     requires { ⌜ seat < 6 ⌝ }
     ensures { λ r. ⌜ (r ≡ byteOf x seat) × (r < 128) ⌝ }
 {
-    let bits = x / 4 >> (8 * seat);
-    bits % 128
+    let shifted = x / 4 >> (8 * seat);
+    shifted % 128
 }
