@@ -75,6 +75,11 @@ unfoldable pub join : Trees → Trees → Trees
 join nil g = g
 join (cons t f) g = cons t (join f g)
 
+pub join-nil : (f : Trees) → join f nil ≡ f
+unfolding join
+join-nil nil = refl
+join-nil (cons t f) = ap (cons t) (join-nil f)
+
 pub sizes-join : (f g : Trees) → sizes (join f g) ≡ sizes f + sizes g
 unfolding join size
 sizes-join nil g = omega arith

@@ -1,7 +1,8 @@
 -- A tree, or a row of trees, written into work memory from a place on. Definitions only; nothing is assumed.
 use mathlib.Core.Path.{_≡_}
 use mathlib.Core.List.{List}
-use Prim.Native.Nat.{ℕ, _+_}
+use Prim.Native.Nat.{ℕ, _+_, _≤_, _<_}
+use lib.ListN.{length}
 use Rattle.game.specs.Tree.{Key, Tree, Trees}
 use Rattle.game.specs.Sets.{size, sizes}
 use Rattle.arena.specs.Held.{Held, HeldAll}
@@ -18,3 +19,8 @@ pub record Row (n : ℕ) (code : ℕ → Key → ℕ) (at : ℕ) (old new : List
   pub next : r ≡ at + sizes f
   pub held : HeldAll n code unlinked new at f
   pub kept : Kept at (at + sizes f) old new
+
+-- room for a tree of z nodes from a place on, in the words and in the field of a place
+pub record Room (at : ℕ) (w : List ℕ) (z : ℕ) : Type 0 where
+  pub words : at + z ≤ length w
+  pub places : at + z < 2097152

@@ -32,24 +32,21 @@ unfolding Bits
 bits-more [] a b l = (l, tt)
 bits-more (c ∷ h) a b l = (b .0, bits-more h a (b .1) l)
 
+twice : (x k : ℕ) → x * 2 ^ suc k ≡ 2 * x * 2 ^ k
+twice x k = ap (λ y. x * y) (NatL.pow-succ' 2 k) ∙ sym (NatL.mul-assoc x 2 (2 ^ k)) ∙ ap (λ y. y * 2 ^ k) (NatL.mul-comm x 2)
+
 -- the numbers of histories of one length stand together
 number-least : (c : ℕ) (h : List ℕ) → (c + 1) * 2 ^ length h ≤ numberFrom c h + 1
 unfolding numberFrom
 number-least c [] = omega arith
 number-least c (a ∷ h) = let i = number-least (2 * c + a + 1) h in
     NatL.le-trans (rw (twice (c + 1) (length h)) (NatL.mul-le-mul-right {m = 2 * (c + 1)} {n = 2 * c + a + 1 + 1} (2 ^ length h) (omega arith))) i
-  where
-    twice : (x k : ℕ) → x * 2 ^ suc k ≡ 2 * x * 2 ^ k
-    twice x k = ap (λ y. x * y) (NatL.pow-succ' 2 k) ∙ sym (NatL.mul-assoc x 2 (2 ^ k)) ∙ ap (λ y. y * 2 ^ k) (NatL.mul-comm x 2)
 
 number-most : (c : ℕ) (h : List ℕ) → Bits h → numberFrom c h + 2 ≤ (c + 2) * 2 ^ length h
 unfolding numberFrom Bits
 number-most c [] b = omega arith
 number-most c (a ∷ h) b = let i = number-most (2 * c + a + 1) h (b .1) in
     NatL.le-trans i (rw (twice (c + 2) (length h)) (NatL.mul-le-mul-right {m = 2 * c + a + 1 + 2} {n = 2 * (c + 2)} (2 ^ length h) (omega (arith, b .0))))
-  where
-    twice : (x k : ℕ) → x * 2 ^ suc k ≡ 2 * x * 2 ^ k
-    twice x k = ap (λ y. x * y) (NatL.pow-succ' 2 k) ∙ sym (NatL.mul-assoc x 2 (2 ^ k)) ∙ ap (λ y. y * 2 ^ k) (NatL.mul-comm x 2)
 
 -- so a shorter history has a smaller number
 shorter : (h g : List ℕ) → Bits h → length h < length g → numberFrom 0 h < numberFrom 0 g

@@ -17,27 +17,22 @@ use Rattle.game.specs.Sets.{size, sizes}
 use Rattle.arena.specs.Words.{chanceWord}
 use Rattle.arena.specs.Held.{Says}
 use Rattle.arena.specs.Index.{unlinked}
-use Rattle.arena.specs.Built.{Built, Row}
+use Rattle.arena.specs.Built.{Built, Row, Room}
 use Rattle.arena.proofs.Packing.{chance-kind, chance-next}
-use Rattle.arena.proofs.Building.{size-some, row-none, row-one, row-join, join, sizes-join, built-chance}
+use Rattle.arena.proofs.Building.{size-some, row-none, row-one, row-join, join, join-nil, sizes-join, built-chance}
 use Rattle.kuhn_rules.specs.Rules.{ended, left, remaining}
 use Rattle.kuhn_rules.specs.Stakes.{ante, stake}
 use Rattle.kuhn_positions.specs.declared.KuhnState.{KuhnState}
 use Rattle.kuhn_positions.specs.Positions.{cardsOf, historyOf, with-card}
 use Rattle.kuhn_tree.specs.Tree.{each, m}
 use Rattle.kuhn_tree.proofs.Shape.{hand, deals}
-use Rattle.kuhn_arena.specs.Layout.{numberFrom, codeOf, handAt, dealAt, childrenTo, childAt, Playing, Dealing, Room}
+use Rattle.kuhn_arena.specs.Layout.{numberFrom, codeOf, handAt, dealAt, childrenTo, childAt, Playing, Dealing}
 
 -- ---- rows of children
 each-append : (xs ys : List ℕ) (g : ℕ → Tree) → each (xs ++ ys) g ≡ join (each xs g) (each ys g)
 unfolding each join
 each-append [] ys g = refl
 each-append (x ∷ xs) ys g = ap (cons (g x)) (each-append xs ys g)
-
-join-nil : (f : Trees) → join f nil ≡ f
-unfolding join
-join-nil nil = refl
-join-nil (cons t f) = ap (cons t) (join-nil f)
 
 module _ (n : ℕ) (s : KuhnState) (k : ℕ) where
   pub children-none : childrenTo n s k 0 ≡ nil

@@ -20,7 +20,7 @@ use Rattle.arena.specs.Words.{END, DECISION, kindOf, payoffOf, decisionWord}
 use Rattle.arena.specs.Payoffs.{Pays}
 use Rattle.arena.specs.Held.{Says}
 use Rattle.arena.specs.Index.{unlinked}
-use Rattle.arena.specs.Built.{Built, Row}
+use Rattle.arena.specs.Built.{Built, Row, Room}
 use Rattle.arena.proofs.Packing.{kind-of, actor-of, actions-of, set-of, next-of, later-of}
 use Rattle.arena.proofs.Bytes.{bits, bits-of}
 use Rattle.arena.proofs.Building.{size-some, built-end, built-decide, row-none, row-more, snoc}
@@ -30,7 +30,7 @@ use Rattle.kuhn_positions.specs.declared.KuhnState.{KuhnState}
 use Rattle.kuhn_positions.specs.Positions.{cardsOf, historyOf, with-action}
 use Rattle.kuhn_tree.proofs.Shape.{hand}
 use Rattle.kuhn_tree.proofs.Payoffs.{payoff-size}
-use Rattle.kuhn_arena.specs.Layout.{numberFrom, codeOf, handAt, Ends, Playing, Room}
+use Rattle.kuhn_arena.specs.Layout.{numberFrom, codeOf, handAt, Ends, Playing}
 
 -- ---- the number of a history
 number-after : (c : ℕ) (h : List ℕ) (a : ℕ) → numberFrom c (h ++ (a ∷ [])) ≡ 2 * numberFrom c h + a + 1

@@ -9,7 +9,7 @@ use lib.ListN.{length}
 use Rattle.game.specs.Tree.{Tree, Every}
 use Rattle.game.specs.Sets.{size, entries}
 use Rattle.arena.specs.Index.{unlinked, Cleared, Coded, Indexed, Indexes}
-use Rattle.arena.specs.Built.{Built}
+use Rattle.arena.specs.Built.{Built, Room}
 use Rattle.arena.proofs.Building.{held-same}
 use Rattle.kuhn_tree.proofs.Units.{kuhn-every}
 use Rattle.kuhn_arena.proofs.Apart.{kuhn-codes}
@@ -20,19 +20,23 @@ use Rattle.kuhn_tree.specs.Tree.{kuhnTree}
 use Rattle.kuhn_tree.specs.Counts.{dealNodes, kuhnNodes, kuhnEntries}
 use Rattle.kuhn_tree.proofs.Shape.{deals, kuhn-deals}
 use Rattle.kuhn_tree.proofs.Facts.{counted}
-use Rattle.kuhn_arena.specs.Layout.{codeOf, codeCount, dealAt, Dealing, Room}
+use Rattle.kuhn_arena.specs.Layout.{codeOf, codeCount, dealAt, Dealing}
+
+-- the five numbers of seats, one by one
+pub by-seats : (P : ℕ → Type 0) → P 2 → P 3 → P 4 → P 5 → P 6 → (n : ℕ) → 2 ≤ n → n ≤ 6 → P n
+by-seats P a b c d e zero l k = absurd (omega arith)
+by-seats P a b c d e (suc zero) l k = absurd (omega arith)
+by-seats P a b c d e (suc (suc zero)) l k = a
+by-seats P a b c d e (suc (suc (suc zero))) l k = b
+by-seats P a b c d e (suc (suc (suc (suc zero)))) l k = c
+by-seats P a b c d e (suc (suc (suc (suc (suc zero))))) l k = d
+by-seats P a b c d e (suc (suc (suc (suc (suc (suc zero)))))) l k = e
+by-seats P a b c d e (suc (suc (suc (suc (suc (suc (suc n))))))) l k = absurd (omega arith)
 
 -- with up to six seats the nodes fit the field of a place
 pub nodes-few : (n : ℕ) → 2 ≤ n → n ≤ 6 → kuhnNodes n < 2097152
 unfolding dealNodes
-nodes-few zero a b = absurd (omega arith)
-nodes-few (suc zero) a b = absurd (omega arith)
-nodes-few (suc (suc zero)) a b = omega arith
-nodes-few (suc (suc (suc zero))) a b = omega arith
-nodes-few (suc (suc (suc (suc zero)))) a b = omega arith
-nodes-few (suc (suc (suc (suc (suc zero))))) a b = omega arith
-nodes-few (suc (suc (suc (suc (suc (suc zero)))))) a b = omega arith
-nodes-few (suc (suc (suc (suc (suc (suc (suc n))))))) a b = absurd (omega arith)
+nodes-few = by-seats (λ n. kuhnNodes n < 2097152) (omega arith) (omega arith) (omega arith) (omega arith) (omega arith)
 
 module _ (n : ℕ) (two : 2 ≤ n) (six : n ≤ 6) (s : KuhnState) (e : s ≡ initial) where
   pub starts : Dealing n s n
@@ -52,17 +56,6 @@ module _ (n : ℕ) (two : 2 ≤ n) (six : n ≤ 6) (s : KuhnState) (e : s ≡ in
   built-tree v w r b = rw tree-is at b
 
 -- ---- the index
--- six numbers of seats, one by one
-pub by-seats : (P : ℕ → Type 0) → P 2 → P 3 → P 4 → P 5 → P 6 → (n : ℕ) → 2 ≤ n → n ≤ 6 → P n
-by-seats P a b c d e zero l k = absurd (omega arith)
-by-seats P a b c d e (suc zero) l k = absurd (omega arith)
-by-seats P a b c d e (suc (suc zero)) l k = a
-by-seats P a b c d e (suc (suc (suc zero))) l k = b
-by-seats P a b c d e (suc (suc (suc (suc zero)))) l k = c
-by-seats P a b c d e (suc (suc (suc (suc (suc zero))))) l k = d
-by-seats P a b c d e (suc (suc (suc (suc (suc (suc zero)))))) l k = e
-by-seats P a b c d e (suc (suc (suc (suc (suc (suc (suc n))))))) l k = absurd (omega arith)
-
 pub codes-few : (n : ℕ) → 2 ≤ n → n ≤ 6 → codeCount n ≤ 14336
 codes-few = by-seats (λ n. codeCount n ≤ 14336) (omega arith) (omega arith) (omega arith) (omega arith) (omega arith)
 

@@ -72,8 +72,3 @@ pub record Dealing (n : ℕ) (s : KuhnState) (k : ℕ) : Type 0 where
   pub cards : s .dealt + k ≡ n
   pub places : length (s .history) ≡ 19
   pub tens : length (s .cards) ≡ 10
-
--- room for a tree from a place on, and for its last place in a word
-pub record Room (at : ℕ) (w : List ℕ) (z : ℕ) : Type 0 where
-  pub words : at + z ≤ length w
-  pub places : at + z < 2097152

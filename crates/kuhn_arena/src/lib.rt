@@ -21,9 +21,9 @@ ghost use Rattle.kuhn_rules.specs.Rules.{ended};
 ghost use Rattle.kuhn_positions.specs.Positions.{historyOf};
 ghost use Rattle.game.specs.Sets.{size, sizes};
 ghost use Rattle.arena.specs.Words.{decisionWord};
-ghost use Rattle.arena.specs.Built.{Built, Row};
+ghost use Rattle.arena.specs.Built.{Built, Row, Room};
 ghost use Rattle.arena.specs.Index.{Indexed};
-ghost use Rattle.kuhn_arena.specs.Layout.{codeOf, codeCount, handAt, dealAt, childrenTo, childAt, Ends, Playing, Dealing, Room};
+ghost use Rattle.kuhn_arena.specs.Layout.{codeOf, codeCount, handAt, dealAt, childrenTo, childAt, Ends, Playing, Dealing};
 
 const PASS: usize = 0;
 

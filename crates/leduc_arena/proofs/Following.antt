@@ -16,9 +16,9 @@ use Rattle.game.specs.Sets.{size, sizes}
 use Rattle.arena.specs.Words.{chanceWord, decisionWord}
 use Rattle.arena.specs.Held.{Says}
 use Rattle.arena.specs.Index.{unlinked}
-use Rattle.arena.specs.Built.{Built, Row}
+use Rattle.arena.specs.Built.{Built, Row, Room}
 use Rattle.arena.proofs.Packing.{kind-of, actor-of, actions-of, set-of, next-of, later-of, chance-kind, chance-next}
-use Rattle.arena.proofs.Building.{size-some, row-none, row-one, row-join, join, sizes-join, built-chance, built-decide, built-end}
+use Rattle.arena.proofs.Building.{join-nil, size-some, row-none, row-one, row-join, join, sizes-join, built-chance, built-decide, built-end}
 use Rattle.leduc_betting.specs.Betting.{may, options, in-play}
 use Rattle.leduc_betting.specs.Cards.{remaining}
 use Rattle.leduc_betting.proofs.Deals.{at-most-one, those-counted}
@@ -31,7 +31,7 @@ use Rattle.leduc_positions.specs.Positions.{initial, reachable}
 use Rattle.leduc_tree.specs.Tree.{Position, acted, due, ended, actor, choices, key, payoff, next, each, below, fuel, leducTree}
 use Rattle.leduc_tree.proofs.Facts.{counts}
 use Rattle.leduc_arena.specs.Codes.{codeOf, codes}
-use Rattle.leduc_arena.specs.Layout.{positionOf, treeAt, isOver, isEnd, isMove, moved, movedState, childrenTo, childAt, nodeOf, nodeWord, Ends, Going, Moving, Room}
+use Rattle.leduc_arena.specs.Layout.{positionOf, treeAt, isOver, isEnd, isMove, moved, movedState, childrenTo, childAt, nodeOf, nodeWord, Ends, Going, Moving}
 use Rattle.leduc_arena.proofs.Going.{code-small, one-of-two, state-moved, moves-on}
 
 -- ---- where the tree is an end
@@ -53,11 +53,6 @@ each-more : (move : ℕ → Position) (g : Position → Tree) (xs : List ℕ) (x
 unfolding each join
 each-more move g [] x = refl
 each-more move g (y ∷ xs) x = ap (cons (g (move y))) (each-more move g xs x)
-
-join-nil : (f : Trees) → join f nil ≡ f
-unfolding join
-join-nil nil = refl
-join-nil (cons t f) = ap (cons t) (join-nil f)
 
 fan-each : (move : ℕ → Position) (g : Position → Tree) (xs : List ℕ) → fan (each (map move xs) g) ≡ length xs
 unfolding each fan

@@ -80,8 +80,3 @@ pub record Going (s : LeducState) (k : ℕ) : Type 0 where
 pub record Moving (s : LeducState) (k : ℕ) : Type 0 where
   pub going : Going s (k + 1)
   pub on : isOver (positionOf s) ≡ false
-
--- room for a tree from a place on, and for its last place in a word
-pub record Room (at : ℕ) (w : List ℕ) (z : ℕ) : Type 0 where
-  pub words : at + z ≤ length w
-  pub places : at + z < 2097152

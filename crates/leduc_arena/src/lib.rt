@@ -13,11 +13,11 @@ ghost use mathlib.Core.Path.{_≡_};
 ghost use Prim.Native.Nat.{_+_, _<_, _≤_};
 ghost use lib.ListN.{length};
 ghost use Rattle.game.specs.Sets.{size, sizes};
-ghost use Rattle.arena.specs.Built.{Built, Row};
+ghost use Rattle.arena.specs.Built.{Built, Row, Room};
 ghost use Rattle.leduc_rules.specs.Stakes.{ante, raise₁, raise₂};
 ghost use Rattle.leduc_tree.specs.Tree.{leducTree};
 ghost use Rattle.leduc_arena.specs.Codes.{codeOf};
-ghost use Rattle.leduc_arena.specs.Layout.{positionOf, treeAt, childrenTo, childAt, Going, Moving, Room};
+ghost use Rattle.leduc_arena.specs.Layout.{positionOf, treeAt, childrenTo, childAt, Going, Moving};
 
 // The most cards and actions in a hand: a card each, the public card, and four actions in each round.
 const LONGEST: usize = 11;

@@ -12,6 +12,7 @@ use arena::words::kind;
 use arena::words::next;
 use arena::words::set;
 use arena::words::word;
+use game::decision_share;
 ghost use mathlib.Core.Path.{_≡_};
 ghost use Prim.Native.Nat.{_+_, _*_, _/_, _<_, _≤_};
 ghost use lib.ListN.{length, getD};
@@ -34,7 +35,7 @@ fn share(part: &[u8], a: usize, u: u64, d: usize) -> u64
     if whole < parts {
         return 0;
     }
-    u * parts / whole
+    decision_share(u, parts, whole)
 }
 
 // The lifted worths of the tree at place a, from u units.

@@ -1,42 +1,39 @@
 use borrow.Author.Needs.{needs}
-use denote.Ref.{now}
-use mathlib.Core.Path.{_≡_, sym, ap, _∙_}
-use Prim.Native.Nat.{_*_, _/_, _≤_, _<_}
+use mathlib.Core.Path.{ap, _∙_}
+use Prim.Native.Nat.{_*_, _/_}
 use native.Mathlib.Omega.{arith}
 use Rattle.units.proofs.Adding.{share-few, product-few}
 use Rattle.units.proofs.worths.share.Statement.{statement}
 use Rattle.units.proofs.worths.share.Tie as tie
 use Rattle.units.proofs.worths.share.Reads as reads
 use Rattle.units.proofs.worths.share.Lts as lts
+use Rattle.game.proofs.decision_share.Reads as decision-share-reads
 use Rattle.units.proofs.worths.wide.Reads as wide-reads
 
--- src/worths.rt:32:22
+-- src/worths.rt:33:22
 shared-slice-read-wide : tie.Need-shared-slice-read-wide
 shared-slice-read-wide c = search needs
 
--- src/worths.rt:32:9
+-- src/worths.rt:33:9
 wide-requires : tie.Need-wide-requires
 wide-requires c κs = search needs
 
--- src/worths.rt:35:9
+-- src/worths.rt:36:9
 returns : tie.Need-returns
 returns c = search needs
 
--- src/worths.rt:37:5
-mul-result : tie.Need-mul-result
-mul-result c = record { fits = product-few (c .before .before .before .before .args .u) (c .before .wide .result) (c .before .before .before .before .args .d) (c .before .before .before .before .pre .1) (omega (arith, c .if1 .left)) (c .before .before .before .before .pre .3) }
+-- src/worths.rt:38:5
+decision-share-requires : tie.Need-decision-share-requires
+decision-share-requires c κs = (omega (arith, c .before .before .before .before .pre .2), product-few (c .before .before .before .before .args .u) (c .before .wide .result) (c .before .before .before .before .args .d) (c .before .before .before .before .pre .1) (omega (arith, c .if1 .left)) (c .before .before .before .before .pre .3))
 
--- src/worths.rt:37:5
-div-result : tie.Need-div-result
-div-result c = search needs
-
--- src/worths.rt:28:1
+-- src/worths.rt:29:1
 returns-2 : tie.Need-returns-2
-returns-2 c =
-    let l = share-few (c .before .before .before .before .args .u) (c .before .wide .result) (c .before .before .before .before .args .d) (omega (arith, c .if1 .left)) in
-    (omega (arith, l, c .before .before .before .before .pre .1), λ q. ap (λ x. c .before .before .before .before .args .u * x / c .before .before .before .before .args .d) (c .before .wide .ensures))
+returns-2 c = 
+    let e = c .decision-share .ensures in
+    let l = share-few (c .before .before .before .before .before .args .u) (c .before .before .wide .result) (c .before .before .before .before .before .args .d) (omega (arith, c .before .if1 .left)) in
+    (omega (arith, e, l, c .before .before .before .before .before .pre .1), λ q. e ∙ ap (λ x. c .before .before .before .before .before .args .u * x / c .before .before .before .before .before .args .d) (c .before .before .wide .ensures))
 
 pub share-spec : {M : Type 1} → statement M
 share-spec =
     tie.close
-    (tie.spec shared-slice-read-wide wide-requires returns mul-result div-result returns-2)
+    (tie.spec shared-slice-read-wide wide-requires returns decision-share-requires returns-2)
