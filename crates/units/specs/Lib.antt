@@ -1,3 +1,4 @@
 -- Whole units over a tree in work memory. No public call cites these definitions.
 pub mod Lifted
 pub mod Earned
+pub mod Gain

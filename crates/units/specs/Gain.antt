@@ -1,0 +1,91 @@
+-- What a seat gains under a choice, with payoffs lifted by 64, and where the members of its sets stand. Definitions only; nothing is assumed.
+use mathlib.Core.Path.{_≡_}
+use mathlib.Core.Bool.{cond}
+use mathlib.Core.List.{List, [], _∷_, _++_}
+use mathlib.Core.Bool.{false}
+use Prim.Native.Nat.{ℕ, zero, suc, pred, _+_, _*_, _/_, _<_}
+use lib.Dec.{eqb, ltb}
+use lib.ListN.{getD}
+use Rattle.game.specs.Sums.{sumℕ}
+use Rattle.game.specs.Tree.{Key, Tree, end, chance, decide, Trees, nil, cons, fan, Strategy}
+use Rattle.game.specs.Reply.{Choice, share, same}
+use Rattle.game.specs.Sets.{size}
+use Rattle.units.specs.Lifted.{lift}
+
+-- a member of a set: its place, its units, its children
+abbrev pub Member : Type 0
+Member = ℕ × ℕ × Trees
+
+-- seat i replies to the others of s, with D parts in each set
+module _ (D : ℕ) (s : Strategy) (i : ℕ) where
+  -- of u units at a decision of seat j with key k, what goes on to each action
+  abbrev pub given : ℕ → ℕ → Key → ℕ → ℕ
+  given u j k a = share D (eqb j i) u (s j k a)
+
+  -- what tree t gains from u units under the choice c; in a row the units go by the child's number
+  module _ (c : Choice) where
+    unfoldable mutual
+      unfolding fan share
+
+      pub gain : ℕ → Tree → ℕ
+      gain u (end p) = u * lift (p i)
+      gain u (chance f) = gainAll (λ a. u / fan f) 0 f
+      gain u (decide j k f) = cond (eqb j i) (gainPick (given u j k) 0 f (c k)) (gainAll (given u j k) 0 f)
+
+      pub gainAll : (ℕ → ℕ) → ℕ → Trees → ℕ
+      gainAll g x nil = 0
+      gainAll g x (cons t f) = gain (g x) t + gainAll g (suc x) f
+
+      pub gainPick : (ℕ → ℕ) → ℕ → Trees → ℕ → ℕ
+      gainPick g x nil a = 0
+      gainPick g x (cons t f) zero = gain (g x) t
+      gainPick g x (cons t f) (suc a) = gainPick g (suc x) f a
+
+  -- the members of seat i's set k in a tree at place a with u units, in the order of their places
+  module _ (k : Key) where
+    unfoldable mutual
+      unfolding fan share same size
+
+      pub found : ℕ → ℕ → Tree → List Member
+      found a u (end p) = []
+      found a u (chance f) = foundAll (suc a) (λ x. u / fan f) 0 f
+      found a u (decide j l f) = let r : List Member = foundAll (suc a) (given u j l) 0 f in cond (cond (eqb j i) (same l k) false) ((a, u, f) ∷ r) r
+
+      pub foundAll : ℕ → (ℕ → ℕ) → ℕ → Trees → List Member
+      foundAll a g x nil = []
+      foundAll a g x (cons t f) = found a (g x) t ++ foundAll (a + size t) g (suc x) f
+
+  -- the gains behind an action of the set k, added over all its members
+  unfoldable pub setGain : Choice → Tree → ℕ → Key → ℕ → ℕ
+  unfolding sumℕ gain found
+  setGain c t u k a = sumℕ (λ x. gainPick c (λ y. x .1) 0 (x .2) a) (found k 0 u t)
+
+  -- the units of every node of a tree at place a, with u units, stand from place b on
+  module _ (b : ℕ) (w : List ℕ) where
+    unfoldable mutual
+      unfolding fan share size
+
+      pub Stocked : ℕ → ℕ → Tree → Type 0
+      Stocked a u (end p) = getD w (b + a) 0 ≡ u
+      Stocked a u (chance f) = (getD w (b + a) 0 ≡ u) × StockedAll (suc a) (λ x. u / fan f) 0 f
+      Stocked a u (decide j k f) = (getD w (b + a) 0 ≡ u) × StockedAll (suc a) (given u j k) 0 f
+
+      pub StockedAll : ℕ → (ℕ → ℕ) → ℕ → Trees → Type 0
+      StockedAll a g x nil = Unit {0}
+      StockedAll a g x (cons t f) = Stocked a (g x) t × StockedAll (a + size t) g (suc x) f
+
+-- of the actions 0 to n, the lowest with the greatest q
+unfoldable pub topmost : (ℕ → ℕ) → ℕ → ℕ
+topmost q zero = 0
+topmost q (suc n) = let b : ℕ = topmost q n in cond (ltb (q b) (q (suc n))) (suc n) b
+
+-- no path has more than d nodes, and v gives, by seat and key, how many may follow a decision
+unfoldable mutual
+  pub Levels : (ℕ → Key → ℕ) → ℕ → Tree → Type 0
+  Levels v d (end p) = 0 < d
+  Levels v d (chance f) = (0 < d) × LevelsAll v (pred d) f
+  Levels v d (decide j k f) = (0 < d) × (v j k ≡ pred d) × LevelsAll v (pred d) f
+
+  pub LevelsAll : (ℕ → Key → ℕ) → ℕ → Trees → Type 0
+  LevelsAll v d nil = Unit {0}
+  LevelsAll v d (cons t f) = Levels v d t × LevelsAll v d f
