@@ -32,7 +32,7 @@ no-sum (suc (suc (suc (suc (suc zero))))) h = refl
 no-sum (suc (suc (suc (suc (suc (suc i)))))) h = absurd (omega arith)
 
 -- a byte is the lifted payoff that it stands for
-lift-back : (b : ℕ) → lift (pos b -ℤ pos 64) ≡ b
+pub lift-back : (b : ℕ) → lift (pos b -ℤ pos 64) ≡ b
 lift-back b = at (tested (ltb b 64))
   where
     at : Tested (ltb b 64) → lift (pos b -ℤ pos 64) ≡ b

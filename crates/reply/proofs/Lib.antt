@@ -1,0 +1,2 @@
+-- Lemmas on value and choice over a stored tree.
+pub mod Scenes

@@ -1,0 +1,34 @@
+use borrow.Author.Needs.{needs}
+use Rattle.reply.proofs.pick.child.Statement.{statement}
+use Rattle.reply.proofs.pick.child.Tie as tie
+use Rattle.reply.proofs.pick.child.Reads as reads
+use Rattle.reply.proofs.pick.child.Lts as lts
+use Rattle.arena.proofs.walk.behind.Reads as behind-reads
+
+-- src/pick.rt:18:18
+add-first : tie.Need-add-first
+add-first c = search needs
+
+-- src/pick.rt:20:9
+returns : tie.Need-returns
+returns c = ?
+
+-- src/pick.rt:22:9
+behind-requires : tie.Need-behind-requires
+behind-requires c κs = search needs
+
+-- src/pick.rt:24:9
+returns-2 : tie.Need-returns-2
+returns-2 c = ?
+
+-- src/pick.rt:26:5
+behind-requires-2 : tie.Need-behind-requires-2
+behind-requires-2 c κs = search needs
+
+-- src/pick.rt:14:1
+returns-3 : tie.Need-returns-3
+returns-3 c = ?
+
+pub child-spec : {M : Type 1} → statement M
+child-spec =
+    tie.close (tie.spec add-first returns behind-requires returns-2 behind-requires-2 returns-3)

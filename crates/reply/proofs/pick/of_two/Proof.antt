@@ -1,0 +1,15 @@
+use Rattle.reply.proofs.pick.of_two.Statement.{statement}
+use Rattle.reply.proofs.pick.of_two.Tie as tie
+use Rattle.reply.proofs.pick.of_two.Reads as reads
+use Rattle.reply.proofs.pick.of_two.Lts as lts
+
+-- src/pick.rt:30:1
+returns : tie.Need-returns
+returns c = ?
+
+-- src/pick.rt:30:1
+returns-2 : tie.Need-returns-2
+returns-2 c = ?
+
+pub of-two-spec : {M : Type 1} → statement M
+of-two-spec = tie.close (tie.spec returns returns-2)

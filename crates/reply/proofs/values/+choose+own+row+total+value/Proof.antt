@@ -1,0 +1,1464 @@
+use Prim.Native.Nat.{ℕ, _<_}
+use borrow.Fn.Kinds.{In}
+use borrow.Fn.PlainCycle.{Measures, is, falls, and}
+use Rattle.reply.proofs.values.choose.Reads as choose
+use Rattle.reply.proofs.values.choose.Kinds as choose-kinds
+use Rattle.reply.proofs.values.+choose+own+row+total+value.Lts-choose as choose-lts
+use Rattle.reply.proofs.values.own.Reads as own
+use Rattle.reply.proofs.values.own.Kinds as own-kinds
+use Rattle.reply.proofs.values.+choose+own+row+total+value.Lts-own as own-lts
+use Rattle.reply.proofs.values.row.Reads as row
+use Rattle.reply.proofs.values.row.Kinds as row-kinds
+use Rattle.reply.proofs.values.+choose+own+row+total+value.Lts-row as row-lts
+use Rattle.reply.proofs.values.total.Reads as total
+use Rattle.reply.proofs.values.total.Kinds as total-kinds
+use Rattle.reply.proofs.values.+choose+own+row+total+value.Lts-total as total-lts
+use Rattle.reply.proofs.values.value.Reads as value
+use Rattle.reply.proofs.values.value.Kinds as value-kinds
+use Rattle.reply.proofs.values.+choose+own+row+total+value.Lts-value as value-lts
+use Rattle.arena.proofs.payoffs.lifted.Reads as lifted-reads
+use Rattle.arena.proofs.walk.behind.Reads as behind-reads
+use Rattle.arena.proofs.words.actions.Reads as actions-reads
+use Rattle.arena.proofs.words.actor.Reads as actor-reads
+use Rattle.arena.proofs.words.kind.Reads as kind-reads
+use Rattle.arena.proofs.words.later.Reads as later-reads
+use Rattle.arena.proofs.words.next.Reads as next-reads
+use Rattle.arena.proofs.words.put.Reads as put-reads
+use Rattle.arena.proofs.words.set.Reads as set-reads
+use Rattle.arena.proofs.words.word.Reads as word-reads
+use Rattle.reply.proofs.pick.child.Reads as child-reads
+use Rattle.reply.proofs.pick.of_three.Reads as of-three-reads
+use Rattle.reply.proofs.pick.of_two.Reads as of-two-reads
+use Rattle.std.proofs.num.wrapping_add_u64.Reads as wrapping-add-u64-reads
+use Rattle.reply.proofs.values.+choose+own+row+total+value.{statement}
+use Rattle.reply.proofs.values.+choose+own+row+total+value.Tie.{close}
+
+abbrev μ-choose : Measures 1 choose-kinds.ps ℕ
+μ-choose κs a = ?
+
+abbrev μ-own : Measures 1 own-kinds.ps ℕ
+μ-own κs a = ?
+
+abbrev μ-row : Measures 1 row-kinds.ps ℕ
+μ-row κs a = ?
+
+abbrev μ-total : Measures 1 total-kinds.ps ℕ
+μ-total κs a = ?
+
+abbrev μ-value : Measures 1 value-kinds.ps ℕ
+μ-value κs a = ?
+
+abbrev choose-at : ℕ → In 1 choose-kinds.ps
+choose-at t = and 1 choose-kinds.ps (is 1 choose-kinds.ps μ-choose t) choose.Pre
+
+abbrev choose-below : ℕ → In 1 choose-kinds.ps
+choose-below t = and 1 choose-kinds.ps (falls 1 choose-kinds.ps _<_ μ-choose t) choose.Pre
+
+abbrev own-at : ℕ → In 1 own-kinds.ps
+own-at t = and 1 own-kinds.ps (is 1 own-kinds.ps μ-own t) own.Pre
+
+abbrev own-below : ℕ → In 1 own-kinds.ps
+own-below t = and 1 own-kinds.ps (falls 1 own-kinds.ps _<_ μ-own t) own.Pre
+
+abbrev row-at : ℕ → In 1 row-kinds.ps
+row-at t = and 1 row-kinds.ps (is 1 row-kinds.ps μ-row t) row.Pre
+
+abbrev row-below : ℕ → In 1 row-kinds.ps
+row-below t = and 1 row-kinds.ps (falls 1 row-kinds.ps _<_ μ-row t) row.Pre
+
+abbrev total-at : ℕ → In 1 total-kinds.ps
+total-at t = and 1 total-kinds.ps (is 1 total-kinds.ps μ-total t) total.Pre
+
+abbrev total-below : ℕ → In 1 total-kinds.ps
+total-below t = and 1 total-kinds.ps (falls 1 total-kinds.ps _<_ μ-total t) total.Pre
+
+abbrev value-at : ℕ → In 1 value-kinds.ps
+value-at t = and 1 value-kinds.ps (is 1 value-kinds.ps μ-value t) value.Pre
+
+abbrev value-below : ℕ → In 1 value-kinds.ps
+value-below t = and 1 value-kinds.ps (falls 1 value-kinds.ps _<_ μ-value t) value.Pre
+
+-- src/values.rt:117:25
+choose-add-word : (t : ℕ) → choose-lts.Need-add-word (
+  word-reads.Asked,
+  word-reads.Learnt,
+  total-below t,
+  total.Post,
+  of-two-reads.Asked,
+  of-two-reads.Learnt,
+  put-reads.Asked,
+  put-reads.Learnt,
+  of-three-reads.Asked,
+  of-three-reads.Learnt,
+) (choose-at t) choose.Post
+choose-add-word t c = ?
+
+-- src/values.rt:117:9
+choose-word-requires : (t : ℕ) → choose-lts.Need-word-requires (
+  word-reads.Asked,
+  word-reads.Learnt,
+  total-below t,
+  total.Post,
+  of-two-reads.Asked,
+  of-two-reads.Learnt,
+  put-reads.Asked,
+  put-reads.Learnt,
+  of-three-reads.Asked,
+  of-three-reads.Learnt,
+) (choose-at t) choose.Post
+choose-word-requires t c κs = ?
+
+-- src/values.rt:119:16
+choose-sub-result : (t : ℕ) → choose-lts.Need-sub-result (
+  word-reads.Asked,
+  word-reads.Learnt,
+  total-below t,
+  total.Post,
+  of-two-reads.Asked,
+  of-two-reads.Learnt,
+  put-reads.Asked,
+  put-reads.Learnt,
+  of-three-reads.Asked,
+  of-three-reads.Learnt,
+) (choose-at t) choose.Post
+choose-sub-result t c = ?
+
+-- src/values.rt:119:9
+choose-same-length : (t : ℕ) → choose-lts.Need-same-length (
+  word-reads.Asked,
+  word-reads.Learnt,
+  total-below t,
+  total.Post,
+  of-two-reads.Asked,
+  of-two-reads.Learnt,
+  put-reads.Asked,
+  put-reads.Learnt,
+  of-three-reads.Asked,
+  of-three-reads.Learnt,
+) (choose-at t) choose.Post
+choose-same-length t c = ?
+
+-- src/values.rt:119:9
+choose-returns : (t : ℕ) → choose-lts.Need-returns (
+  word-reads.Asked,
+  word-reads.Learnt,
+  total-below t,
+  total.Post,
+  of-two-reads.Asked,
+  of-two-reads.Learnt,
+  put-reads.Asked,
+  put-reads.Learnt,
+  of-three-reads.Asked,
+  of-three-reads.Learnt,
+) (choose-at t) choose.Post
+choose-returns t c = ?
+
+-- src/values.rt:121:9
+choose-total-requires : (t : ℕ) → choose-lts.Need-total-requires (
+  word-reads.Asked,
+  word-reads.Learnt,
+  total-below t,
+  total.Post,
+  of-two-reads.Asked,
+  of-two-reads.Learnt,
+  put-reads.Asked,
+  put-reads.Learnt,
+  of-three-reads.Asked,
+  of-three-reads.Learnt,
+) (choose-at t) choose.Post
+choose-total-requires t c κs = ?
+
+-- src/values.rt:122:9
+choose-total-requires-2 : (t : ℕ) → choose-lts.Need-total-requires-2 (
+  word-reads.Asked,
+  word-reads.Learnt,
+  total-below t,
+  total.Post,
+  of-two-reads.Asked,
+  of-two-reads.Learnt,
+  put-reads.Asked,
+  put-reads.Learnt,
+  of-three-reads.Asked,
+  of-three-reads.Learnt,
+) (choose-at t) choose.Post
+choose-total-requires-2 t c κs = ?
+
+-- src/values.rt:124:13
+choose-of-two-requires : (t : ℕ) → choose-lts.Need-of-two-requires (
+  word-reads.Asked,
+  word-reads.Learnt,
+  total-below t,
+  total.Post,
+  of-two-reads.Asked,
+  of-two-reads.Learnt,
+  put-reads.Asked,
+  put-reads.Learnt,
+  of-three-reads.Asked,
+  of-three-reads.Learnt,
+) (choose-at t) choose.Post
+choose-of-two-requires t c κs = ?
+
+-- src/values.rt:125:16
+choose-add-put : (t : ℕ) → choose-lts.Need-add-put (
+  word-reads.Asked,
+  word-reads.Learnt,
+  total-below t,
+  total.Post,
+  of-two-reads.Asked,
+  of-two-reads.Learnt,
+  put-reads.Asked,
+  put-reads.Learnt,
+  of-three-reads.Asked,
+  of-three-reads.Learnt,
+) (choose-at t) choose.Post
+choose-add-put t c = ?
+
+-- src/values.rt:125:30
+choose-add-put-2 : (t : ℕ) → choose-lts.Need-add-put-2 (
+  word-reads.Asked,
+  word-reads.Learnt,
+  total-below t,
+  total.Post,
+  of-two-reads.Asked,
+  of-two-reads.Learnt,
+  put-reads.Asked,
+  put-reads.Learnt,
+  of-three-reads.Asked,
+  of-three-reads.Learnt,
+) (choose-at t) choose.Post
+choose-add-put-2 t c = ?
+
+-- src/values.rt:125:9
+choose-put-requires : (t : ℕ) → choose-lts.Need-put-requires (
+  word-reads.Asked,
+  word-reads.Learnt,
+  total-below t,
+  total.Post,
+  of-two-reads.Asked,
+  of-two-reads.Learnt,
+  put-reads.Asked,
+  put-reads.Learnt,
+  of-three-reads.Asked,
+  of-three-reads.Learnt,
+) (choose-at t) choose.Post
+choose-put-requires t c κs = ?
+
+-- src/values.rt:126:9
+choose-same-length-2 : (t : ℕ) → choose-lts.Need-same-length-2 (
+  word-reads.Asked,
+  word-reads.Learnt,
+  total-below t,
+  total.Post,
+  of-two-reads.Asked,
+  of-two-reads.Learnt,
+  put-reads.Asked,
+  put-reads.Learnt,
+  of-three-reads.Asked,
+  of-three-reads.Learnt,
+) (choose-at t) choose.Post
+choose-same-length-2 t c = ?
+
+-- src/values.rt:126:9
+choose-returns-2 : (t : ℕ) → choose-lts.Need-returns-2 (
+  word-reads.Asked,
+  word-reads.Learnt,
+  total-below t,
+  total.Post,
+  of-two-reads.Asked,
+  of-two-reads.Learnt,
+  put-reads.Asked,
+  put-reads.Learnt,
+  of-three-reads.Asked,
+  of-three-reads.Learnt,
+) (choose-at t) choose.Post
+choose-returns-2 t c = ?
+
+-- src/values.rt:128:9
+choose-total-requires-3 : (t : ℕ) → choose-lts.Need-total-requires-3 (
+  word-reads.Asked,
+  word-reads.Learnt,
+  total-below t,
+  total.Post,
+  of-two-reads.Asked,
+  of-two-reads.Learnt,
+  put-reads.Asked,
+  put-reads.Learnt,
+  of-three-reads.Asked,
+  of-three-reads.Learnt,
+) (choose-at t) choose.Post
+choose-total-requires-3 t c κs = ?
+
+-- src/values.rt:129:9
+choose-of-three-requires : (t : ℕ) → choose-lts.Need-of-three-requires (
+  word-reads.Asked,
+  word-reads.Learnt,
+  total-below t,
+  total.Post,
+  of-two-reads.Asked,
+  of-two-reads.Learnt,
+  put-reads.Asked,
+  put-reads.Learnt,
+  of-three-reads.Asked,
+  of-three-reads.Learnt,
+) (choose-at t) choose.Post
+choose-of-three-requires t c κs = ?
+
+-- src/values.rt:130:12
+choose-add-put-3 : (t : ℕ) → choose-lts.Need-add-put-3 (
+  word-reads.Asked,
+  word-reads.Learnt,
+  total-below t,
+  total.Post,
+  of-two-reads.Asked,
+  of-two-reads.Learnt,
+  put-reads.Asked,
+  put-reads.Learnt,
+  of-three-reads.Asked,
+  of-three-reads.Learnt,
+) (choose-at t) choose.Post
+choose-add-put-3 t c = ?
+
+-- src/values.rt:130:26
+choose-add-put-4 : (t : ℕ) → choose-lts.Need-add-put-4 (
+  word-reads.Asked,
+  word-reads.Learnt,
+  total-below t,
+  total.Post,
+  of-two-reads.Asked,
+  of-two-reads.Learnt,
+  put-reads.Asked,
+  put-reads.Learnt,
+  of-three-reads.Asked,
+  of-three-reads.Learnt,
+) (choose-at t) choose.Post
+choose-add-put-4 t c = ?
+
+-- src/values.rt:130:5
+choose-put-requires-2 : (t : ℕ) → choose-lts.Need-put-requires-2 (
+  word-reads.Asked,
+  word-reads.Learnt,
+  total-below t,
+  total.Post,
+  of-two-reads.Asked,
+  of-two-reads.Learnt,
+  put-reads.Asked,
+  put-reads.Learnt,
+  of-three-reads.Asked,
+  of-three-reads.Learnt,
+) (choose-at t) choose.Post
+choose-put-requires-2 t c κs = ?
+
+-- src/values.rt:104:1
+choose-same-length-3 : (t : ℕ) → choose-lts.Need-same-length-3 (
+  word-reads.Asked,
+  word-reads.Learnt,
+  total-below t,
+  total.Post,
+  of-two-reads.Asked,
+  of-two-reads.Learnt,
+  put-reads.Asked,
+  put-reads.Learnt,
+  of-three-reads.Asked,
+  of-three-reads.Learnt,
+) (choose-at t) choose.Post
+choose-same-length-3 t c = ?
+
+-- src/values.rt:104:1
+choose-returns-3 : (t : ℕ) → choose-lts.Need-returns-3 (
+  word-reads.Asked,
+  word-reads.Learnt,
+  total-below t,
+  total.Post,
+  of-two-reads.Asked,
+  of-two-reads.Learnt,
+  put-reads.Asked,
+  put-reads.Learnt,
+  of-three-reads.Asked,
+  of-three-reads.Learnt,
+) (choose-at t) choose.Post
+choose-returns-3 t c = ?
+
+-- src/values.rt:98:28
+own-set-requires : (t : ℕ) → own-lts.Need-set-requires (
+  set-reads.Asked,
+  set-reads.Learnt,
+  actions-reads.Asked,
+  actions-reads.Learnt,
+  choose-below t,
+  choose.Post,
+  child-reads.Asked,
+  child-reads.Learnt,
+  value-below t,
+  value.Post,
+) (own-at t) own.Post
+own-set-requires t c κs = ?
+
+-- src/values.rt:98:36
+own-actions-requires : (t : ℕ) → own-lts.Need-actions-requires (
+  set-reads.Asked,
+  set-reads.Learnt,
+  actions-reads.Asked,
+  actions-reads.Learnt,
+  choose-below t,
+  choose.Post,
+  child-reads.Asked,
+  child-reads.Learnt,
+  value-below t,
+  value.Post,
+) (own-at t) own.Post
+own-actions-requires t c κs = ?
+
+-- src/values.rt:98:9
+own-choose-requires : (t : ℕ) → own-lts.Need-choose-requires (
+  set-reads.Asked,
+  set-reads.Learnt,
+  actions-reads.Asked,
+  actions-reads.Learnt,
+  choose-below t,
+  choose.Post,
+  child-reads.Asked,
+  child-reads.Learnt,
+  value-below t,
+  value.Post,
+) (own-at t) own.Post
+own-choose-requires t c κs = ?
+
+-- src/values.rt:99:9
+own-child-requires : (t : ℕ) → own-lts.Need-child-requires (
+  set-reads.Asked,
+  set-reads.Learnt,
+  actions-reads.Asked,
+  actions-reads.Learnt,
+  choose-below t,
+  choose.Post,
+  child-reads.Asked,
+  child-reads.Learnt,
+  value-below t,
+  value.Post,
+) (own-at t) own.Post
+own-child-requires t c κs = ?
+
+-- src/values.rt:100:5
+own-value-requires : (t : ℕ) → own-lts.Need-value-requires (
+  set-reads.Asked,
+  set-reads.Learnt,
+  actions-reads.Asked,
+  actions-reads.Learnt,
+  choose-below t,
+  choose.Post,
+  child-reads.Asked,
+  child-reads.Learnt,
+  value-below t,
+  value.Post,
+) (own-at t) own.Post
+own-value-requires t c κs = ?
+
+-- src/values.rt:85:1
+own-same-length : (t : ℕ) → own-lts.Need-same-length (
+  set-reads.Asked,
+  set-reads.Learnt,
+  actions-reads.Asked,
+  actions-reads.Learnt,
+  choose-below t,
+  choose.Post,
+  child-reads.Asked,
+  child-reads.Learnt,
+  value-below t,
+  value.Post,
+) (own-at t) own.Post
+own-same-length t c = ?
+
+-- src/values.rt:85:1
+own-returns : (t : ℕ) → own-lts.Need-returns (
+  set-reads.Asked,
+  set-reads.Learnt,
+  actions-reads.Asked,
+  actions-reads.Learnt,
+  choose-below t,
+  choose.Post,
+  child-reads.Asked,
+  child-reads.Learnt,
+  value-below t,
+  value.Post,
+) (own-at t) own.Post
+own-returns t c = ?
+
+abbrev row-Inv-loop : row-lts.InvT-loop
+row-Inv-loop w₀ a end seat depth heads units kept sum₀ at₀ w sum at = ?
+
+abbrev row-μ-loop : row-lts.MeasureT-loop
+row-μ-loop w₀ a end seat depth heads units kept sum₀ at₀ w sum at = ?
+
+-- src/values.rt:72:5
+row-loop-holds : (t : ℕ) → row-lts.Need-loop-holds (
+  value-below t,
+  value.Post,
+  wrapping-add-u64-reads.Asked,
+  wrapping-add-u64-reads.Learnt,
+  behind-reads.Asked,
+  behind-reads.Learnt,
+) (row-at t) row.Post row-Inv-loop row-μ-loop
+row-loop-holds t c = ?
+
+-- src/values.rt:73:13
+row-value-requires : (t : ℕ) → row-lts.Need-value-requires (
+  value-below t,
+  value.Post,
+  wrapping-add-u64-reads.Asked,
+  wrapping-add-u64-reads.Learnt,
+  behind-reads.Asked,
+  behind-reads.Learnt,
+) (row-at t) row.Post row-Inv-loop row-μ-loop
+row-value-requires t c κs = ?
+
+-- src/values.rt:74:9
+row-wrapping-add-u64-requires : (t : ℕ) → row-lts.Need-wrapping-add-u64-requires (
+  value-below t,
+  value.Post,
+  wrapping-add-u64-reads.Asked,
+  wrapping-add-u64-reads.Learnt,
+  behind-reads.Asked,
+  behind-reads.Learnt,
+) (row-at t) row.Post row-Inv-loop row-μ-loop
+row-wrapping-add-u64-requires t c κs = ?
+
+-- src/values.rt:75:13
+row-behind-requires : (t : ℕ) → row-lts.Need-behind-requires (
+  value-below t,
+  value.Post,
+  wrapping-add-u64-reads.Asked,
+  wrapping-add-u64-reads.Learnt,
+  behind-reads.Asked,
+  behind-reads.Learnt,
+) (row-at t) row.Post row-Inv-loop row-μ-loop
+row-behind-requires t c κs = ?
+
+-- src/values.rt:77:13
+row-same-length : (t : ℕ) → row-lts.Need-same-length (
+  value-below t,
+  value.Post,
+  wrapping-add-u64-reads.Asked,
+  wrapping-add-u64-reads.Learnt,
+  behind-reads.Asked,
+  behind-reads.Learnt,
+) (row-at t) row.Post row-Inv-loop row-μ-loop
+row-same-length t c = ?
+
+-- src/values.rt:77:13
+row-returns : (t : ℕ) → row-lts.Need-returns (
+  value-below t,
+  value.Post,
+  wrapping-add-u64-reads.Asked,
+  wrapping-add-u64-reads.Learnt,
+  behind-reads.Asked,
+  behind-reads.Learnt,
+) (row-at t) row.Post row-Inv-loop row-μ-loop
+row-returns t c = ?
+
+-- src/values.rt:72:5
+row-loop-less : (t : ℕ) → row-lts.Need-loop-less (
+  value-below t,
+  value.Post,
+  wrapping-add-u64-reads.Asked,
+  wrapping-add-u64-reads.Learnt,
+  behind-reads.Asked,
+  behind-reads.Learnt,
+) (row-at t) row.Post row-Inv-loop row-μ-loop
+row-loop-less t c = ?
+
+-- src/values.rt:72:5
+row-loop-again : (t : ℕ) → row-lts.Need-loop-again (
+  value-below t,
+  value.Post,
+  wrapping-add-u64-reads.Asked,
+  wrapping-add-u64-reads.Learnt,
+  behind-reads.Asked,
+  behind-reads.Learnt,
+) (row-at t) row.Post row-Inv-loop row-μ-loop
+row-loop-again t c = ?
+
+-- src/values.rt:57:1
+row-same-length-2 : (t : ℕ) → row-lts.Need-same-length-2 (
+  value-below t,
+  value.Post,
+  wrapping-add-u64-reads.Asked,
+  wrapping-add-u64-reads.Learnt,
+  behind-reads.Asked,
+  behind-reads.Learnt,
+) (row-at t) row.Post row-Inv-loop row-μ-loop
+row-same-length-2 t c = ?
+
+-- src/values.rt:57:1
+row-returns-2 : (t : ℕ) → row-lts.Need-returns-2 (
+  value-below t,
+  value.Post,
+  wrapping-add-u64-reads.Asked,
+  wrapping-add-u64-reads.Learnt,
+  behind-reads.Asked,
+  behind-reads.Learnt,
+) (row-at t) row.Post row-Inv-loop row-μ-loop
+row-returns-2 t c = ?
+
+abbrev total-Inv-loop : total-lts.InvT-loop
+total-Inv-loop w₀ first action seat depth heads units kept sum₀ at₀ w sum at = ?
+
+abbrev total-μ-loop : total-lts.MeasureT-loop
+total-μ-loop w₀ first action seat depth heads units kept sum₀ at₀ w sum at = ?
+
+-- src/values.rt:149:27
+total-add-word : (t : ℕ) → total-lts.Need-add-word (
+  word-reads.Asked,
+  word-reads.Learnt,
+  child-reads.Asked,
+  child-reads.Learnt,
+  value-below t,
+  value.Post,
+  wrapping-add-u64-reads.Asked,
+  wrapping-add-u64-reads.Learnt,
+  later-reads.Asked,
+  later-reads.Learnt,
+) (total-at t) total.Post total-Inv-loop total-μ-loop
+total-add-word t c = ?
+
+-- src/values.rt:149:19
+total-word-requires : (t : ℕ) → total-lts.Need-word-requires (
+  word-reads.Asked,
+  word-reads.Learnt,
+  child-reads.Asked,
+  child-reads.Learnt,
+  value-below t,
+  value.Post,
+  wrapping-add-u64-reads.Asked,
+  wrapping-add-u64-reads.Learnt,
+  later-reads.Asked,
+  later-reads.Learnt,
+) (total-at t) total.Post total-Inv-loop total-μ-loop
+total-word-requires t c κs = ?
+
+-- src/values.rt:150:5
+total-loop-holds : (t : ℕ) → total-lts.Need-loop-holds (
+  word-reads.Asked,
+  word-reads.Learnt,
+  child-reads.Asked,
+  child-reads.Learnt,
+  value-below t,
+  value.Post,
+  wrapping-add-u64-reads.Asked,
+  wrapping-add-u64-reads.Learnt,
+  later-reads.Asked,
+  later-reads.Learnt,
+) (total-at t) total.Post total-Inv-loop total-μ-loop
+total-loop-holds t c = ?
+
+-- src/values.rt:151:13
+total-child-requires : (t : ℕ) → total-lts.Need-child-requires (
+  word-reads.Asked,
+  word-reads.Learnt,
+  child-reads.Asked,
+  child-reads.Learnt,
+  value-below t,
+  value.Post,
+  wrapping-add-u64-reads.Asked,
+  wrapping-add-u64-reads.Learnt,
+  later-reads.Asked,
+  later-reads.Learnt,
+) (total-at t) total.Post total-Inv-loop total-μ-loop
+total-child-requires t c κs = ?
+
+-- src/values.rt:152:13
+total-value-requires : (t : ℕ) → total-lts.Need-value-requires (
+  word-reads.Asked,
+  word-reads.Learnt,
+  child-reads.Asked,
+  child-reads.Learnt,
+  value-below t,
+  value.Post,
+  wrapping-add-u64-reads.Asked,
+  wrapping-add-u64-reads.Learnt,
+  later-reads.Asked,
+  later-reads.Learnt,
+) (total-at t) total.Post total-Inv-loop total-μ-loop
+total-value-requires t c κs = ?
+
+-- src/values.rt:153:9
+total-wrapping-add-u64-requires : (t : ℕ) → total-lts.Need-wrapping-add-u64-requires (
+  word-reads.Asked,
+  word-reads.Learnt,
+  child-reads.Asked,
+  child-reads.Learnt,
+  value-below t,
+  value.Post,
+  wrapping-add-u64-reads.Asked,
+  wrapping-add-u64-reads.Learnt,
+  later-reads.Asked,
+  later-reads.Learnt,
+) (total-at t) total.Post total-Inv-loop total-μ-loop
+total-wrapping-add-u64-requires t c κs = ?
+
+-- src/values.rt:154:26
+total-word-requires-2 : (t : ℕ) → total-lts.Need-word-requires-2 (
+  word-reads.Asked,
+  word-reads.Learnt,
+  child-reads.Asked,
+  child-reads.Learnt,
+  value-below t,
+  value.Post,
+  wrapping-add-u64-reads.Asked,
+  wrapping-add-u64-reads.Learnt,
+  later-reads.Asked,
+  later-reads.Learnt,
+) (total-at t) total.Post total-Inv-loop total-μ-loop
+total-word-requires-2 t c κs = ?
+
+-- src/values.rt:154:13
+total-later-requires : (t : ℕ) → total-lts.Need-later-requires (
+  word-reads.Asked,
+  word-reads.Learnt,
+  child-reads.Asked,
+  child-reads.Learnt,
+  value-below t,
+  value.Post,
+  wrapping-add-u64-reads.Asked,
+  wrapping-add-u64-reads.Learnt,
+  later-reads.Asked,
+  later-reads.Learnt,
+) (total-at t) total.Post total-Inv-loop total-μ-loop
+total-later-requires t c κs = ?
+
+-- src/values.rt:156:13
+total-same-length : (t : ℕ) → total-lts.Need-same-length (
+  word-reads.Asked,
+  word-reads.Learnt,
+  child-reads.Asked,
+  child-reads.Learnt,
+  value-below t,
+  value.Post,
+  wrapping-add-u64-reads.Asked,
+  wrapping-add-u64-reads.Learnt,
+  later-reads.Asked,
+  later-reads.Learnt,
+) (total-at t) total.Post total-Inv-loop total-μ-loop
+total-same-length t c = ?
+
+-- src/values.rt:156:13
+total-returns : (t : ℕ) → total-lts.Need-returns (
+  word-reads.Asked,
+  word-reads.Learnt,
+  child-reads.Asked,
+  child-reads.Learnt,
+  value-below t,
+  value.Post,
+  wrapping-add-u64-reads.Asked,
+  wrapping-add-u64-reads.Learnt,
+  later-reads.Asked,
+  later-reads.Learnt,
+) (total-at t) total.Post total-Inv-loop total-μ-loop
+total-returns t c = ?
+
+-- src/values.rt:150:5
+total-loop-less : (t : ℕ) → total-lts.Need-loop-less (
+  word-reads.Asked,
+  word-reads.Learnt,
+  child-reads.Asked,
+  child-reads.Learnt,
+  value-below t,
+  value.Post,
+  wrapping-add-u64-reads.Asked,
+  wrapping-add-u64-reads.Learnt,
+  later-reads.Asked,
+  later-reads.Learnt,
+) (total-at t) total.Post total-Inv-loop total-μ-loop
+total-loop-less t c = ?
+
+-- src/values.rt:150:5
+total-loop-again : (t : ℕ) → total-lts.Need-loop-again (
+  word-reads.Asked,
+  word-reads.Learnt,
+  child-reads.Asked,
+  child-reads.Learnt,
+  value-below t,
+  value.Post,
+  wrapping-add-u64-reads.Asked,
+  wrapping-add-u64-reads.Learnt,
+  later-reads.Asked,
+  later-reads.Learnt,
+) (total-at t) total.Post total-Inv-loop total-μ-loop
+total-loop-again t c = ?
+
+-- src/values.rt:135:1
+total-same-length-2 : (t : ℕ) → total-lts.Need-same-length-2 (
+  word-reads.Asked,
+  word-reads.Learnt,
+  child-reads.Asked,
+  child-reads.Learnt,
+  value-below t,
+  value.Post,
+  wrapping-add-u64-reads.Asked,
+  wrapping-add-u64-reads.Learnt,
+  later-reads.Asked,
+  later-reads.Learnt,
+) (total-at t) total.Post total-Inv-loop total-μ-loop
+total-same-length-2 t c = ?
+
+-- src/values.rt:135:1
+total-returns-2 : (t : ℕ) → total-lts.Need-returns-2 (
+  word-reads.Asked,
+  word-reads.Learnt,
+  child-reads.Asked,
+  child-reads.Learnt,
+  value-below t,
+  value.Post,
+  wrapping-add-u64-reads.Asked,
+  wrapping-add-u64-reads.Learnt,
+  later-reads.Asked,
+  later-reads.Learnt,
+) (total-at t) total.Post total-Inv-loop total-μ-loop
+total-returns-2 t c = ?
+
+-- src/values.rt:40:9
+value-returns : (t : ℕ) → value-lts.Need-returns (
+  word-reads.Asked,
+  word-reads.Learnt,
+  kind-reads.Asked,
+  kind-reads.Learnt,
+  lifted-reads.Asked,
+  lifted-reads.Learnt,
+  next-reads.Asked,
+  next-reads.Learnt,
+  row-below t,
+  row.Post,
+  actor-reads.Asked,
+  actor-reads.Learnt,
+  own-below t,
+  own.Post,
+) (value-at t) value.Post
+value-returns t c = ?
+
+-- src/values.rt:42:9
+value-word-requires : (t : ℕ) → value-lts.Need-word-requires (
+  word-reads.Asked,
+  word-reads.Learnt,
+  kind-reads.Asked,
+  kind-reads.Learnt,
+  lifted-reads.Asked,
+  lifted-reads.Learnt,
+  next-reads.Asked,
+  next-reads.Learnt,
+  row-below t,
+  row.Post,
+  actor-reads.Asked,
+  actor-reads.Learnt,
+  own-below t,
+  own.Post,
+) (value-at t) value.Post
+value-word-requires t c κs = ?
+
+-- src/values.rt:43:9
+value-kind-requires : (t : ℕ) → value-lts.Need-kind-requires (
+  word-reads.Asked,
+  word-reads.Learnt,
+  kind-reads.Asked,
+  kind-reads.Learnt,
+  lifted-reads.Asked,
+  lifted-reads.Learnt,
+  next-reads.Asked,
+  next-reads.Learnt,
+  row-below t,
+  row.Post,
+  actor-reads.Asked,
+  actor-reads.Learnt,
+  own-below t,
+  own.Post,
+) (value-at t) value.Post
+value-kind-requires t c κs = ?
+
+-- src/values.rt:45:24
+value-add-word : (t : ℕ) → value-lts.Need-add-word (
+  word-reads.Asked,
+  word-reads.Learnt,
+  kind-reads.Asked,
+  kind-reads.Learnt,
+  lifted-reads.Asked,
+  lifted-reads.Learnt,
+  next-reads.Asked,
+  next-reads.Learnt,
+  row-below t,
+  row.Post,
+  actor-reads.Asked,
+  actor-reads.Learnt,
+  own-below t,
+  own.Post,
+) (value-at t) value.Post
+value-add-word t c = ?
+
+-- src/values.rt:45:16
+value-word-requires-2 : (t : ℕ) → value-lts.Need-word-requires-2 (
+  word-reads.Asked,
+  word-reads.Learnt,
+  kind-reads.Asked,
+  kind-reads.Learnt,
+  lifted-reads.Asked,
+  lifted-reads.Learnt,
+  next-reads.Asked,
+  next-reads.Learnt,
+  row-below t,
+  row.Post,
+  actor-reads.Asked,
+  actor-reads.Learnt,
+  own-below t,
+  own.Post,
+) (value-at t) value.Post
+value-word-requires-2 t c κs = ?
+
+-- src/values.rt:45:45
+value-lifted-requires : (t : ℕ) → value-lts.Need-lifted-requires (
+  word-reads.Asked,
+  word-reads.Learnt,
+  kind-reads.Asked,
+  kind-reads.Learnt,
+  lifted-reads.Asked,
+  lifted-reads.Learnt,
+  next-reads.Asked,
+  next-reads.Learnt,
+  row-below t,
+  row.Post,
+  actor-reads.Asked,
+  actor-reads.Learnt,
+  own-below t,
+  own.Post,
+) (value-at t) value.Post
+value-lifted-requires t c κs = ?
+
+-- src/values.rt:45:16
+value-mul-result : (t : ℕ) → value-lts.Need-mul-result (
+  word-reads.Asked,
+  word-reads.Learnt,
+  kind-reads.Asked,
+  kind-reads.Learnt,
+  lifted-reads.Asked,
+  lifted-reads.Learnt,
+  next-reads.Asked,
+  next-reads.Learnt,
+  row-below t,
+  row.Post,
+  actor-reads.Asked,
+  actor-reads.Learnt,
+  own-below t,
+  own.Post,
+) (value-at t) value.Post
+value-mul-result t c = ?
+
+-- src/values.rt:45:9
+value-same-length : (t : ℕ) → value-lts.Need-same-length (
+  word-reads.Asked,
+  word-reads.Learnt,
+  kind-reads.Asked,
+  kind-reads.Learnt,
+  lifted-reads.Asked,
+  lifted-reads.Learnt,
+  next-reads.Asked,
+  next-reads.Learnt,
+  row-below t,
+  row.Post,
+  actor-reads.Asked,
+  actor-reads.Learnt,
+  own-below t,
+  own.Post,
+) (value-at t) value.Post
+value-same-length t c = ?
+
+-- src/values.rt:45:9
+value-returns-2 : (t : ℕ) → value-lts.Need-returns-2 (
+  word-reads.Asked,
+  word-reads.Learnt,
+  kind-reads.Asked,
+  kind-reads.Learnt,
+  lifted-reads.Asked,
+  lifted-reads.Learnt,
+  next-reads.Asked,
+  next-reads.Learnt,
+  row-below t,
+  row.Post,
+  actor-reads.Asked,
+  actor-reads.Learnt,
+  own-below t,
+  own.Post,
+) (value-at t) value.Post
+value-returns-2 t c = ?
+
+-- src/values.rt:48:23
+value-add-row : (t : ℕ) → value-lts.Need-add-row (
+  word-reads.Asked,
+  word-reads.Learnt,
+  kind-reads.Asked,
+  kind-reads.Learnt,
+  lifted-reads.Asked,
+  lifted-reads.Learnt,
+  next-reads.Asked,
+  next-reads.Learnt,
+  row-below t,
+  row.Post,
+  actor-reads.Asked,
+  actor-reads.Learnt,
+  own-below t,
+  own.Post,
+) (value-at t) value.Post
+value-add-row t c = ?
+
+-- src/values.rt:48:30
+value-next-requires : (t : ℕ) → value-lts.Need-next-requires (
+  word-reads.Asked,
+  word-reads.Learnt,
+  kind-reads.Asked,
+  kind-reads.Learnt,
+  lifted-reads.Asked,
+  lifted-reads.Learnt,
+  next-reads.Asked,
+  next-reads.Learnt,
+  row-below t,
+  row.Post,
+  actor-reads.Asked,
+  actor-reads.Learnt,
+  own-below t,
+  own.Post,
+) (value-at t) value.Post
+value-next-requires t c κs = ?
+
+-- src/values.rt:48:45
+value-sub-row : (t : ℕ) → value-lts.Need-sub-row (
+  word-reads.Asked,
+  word-reads.Learnt,
+  kind-reads.Asked,
+  kind-reads.Learnt,
+  lifted-reads.Asked,
+  lifted-reads.Learnt,
+  next-reads.Asked,
+  next-reads.Learnt,
+  row-below t,
+  row.Post,
+  actor-reads.Asked,
+  actor-reads.Learnt,
+  own-below t,
+  own.Post,
+) (value-at t) value.Post
+value-sub-row t c = ?
+
+-- src/values.rt:48:9
+value-row-requires : (t : ℕ) → value-lts.Need-row-requires (
+  word-reads.Asked,
+  word-reads.Learnt,
+  kind-reads.Asked,
+  kind-reads.Learnt,
+  lifted-reads.Asked,
+  lifted-reads.Learnt,
+  next-reads.Asked,
+  next-reads.Learnt,
+  row-below t,
+  row.Post,
+  actor-reads.Asked,
+  actor-reads.Learnt,
+  own-below t,
+  own.Post,
+) (value-at t) value.Post
+value-row-requires t c κs = ?
+
+-- src/values.rt:48:9
+value-same-length-2 : (t : ℕ) → value-lts.Need-same-length-2 (
+  word-reads.Asked,
+  word-reads.Learnt,
+  kind-reads.Asked,
+  kind-reads.Learnt,
+  lifted-reads.Asked,
+  lifted-reads.Learnt,
+  next-reads.Asked,
+  next-reads.Learnt,
+  row-below t,
+  row.Post,
+  actor-reads.Asked,
+  actor-reads.Learnt,
+  own-below t,
+  own.Post,
+) (value-at t) value.Post
+value-same-length-2 t c = ?
+
+-- src/values.rt:48:9
+value-returns-3 : (t : ℕ) → value-lts.Need-returns-3 (
+  word-reads.Asked,
+  word-reads.Learnt,
+  kind-reads.Asked,
+  kind-reads.Learnt,
+  lifted-reads.Asked,
+  lifted-reads.Learnt,
+  next-reads.Asked,
+  next-reads.Learnt,
+  row-below t,
+  row.Post,
+  actor-reads.Asked,
+  actor-reads.Learnt,
+  own-below t,
+  own.Post,
+) (value-at t) value.Post
+value-returns-3 t c = ?
+
+-- src/values.rt:50:8
+value-actor-requires : (t : ℕ) → value-lts.Need-actor-requires (
+  word-reads.Asked,
+  word-reads.Learnt,
+  kind-reads.Asked,
+  kind-reads.Learnt,
+  lifted-reads.Asked,
+  lifted-reads.Learnt,
+  next-reads.Asked,
+  next-reads.Learnt,
+  row-below t,
+  row.Post,
+  actor-reads.Asked,
+  actor-reads.Learnt,
+  own-below t,
+  own.Post,
+) (value-at t) value.Post
+value-actor-requires t c κs = ?
+
+-- src/values.rt:51:23
+value-add-row-2 : (t : ℕ) → value-lts.Need-add-row-2 (
+  word-reads.Asked,
+  word-reads.Learnt,
+  kind-reads.Asked,
+  kind-reads.Learnt,
+  lifted-reads.Asked,
+  lifted-reads.Learnt,
+  next-reads.Asked,
+  next-reads.Learnt,
+  row-below t,
+  row.Post,
+  actor-reads.Asked,
+  actor-reads.Learnt,
+  own-below t,
+  own.Post,
+) (value-at t) value.Post
+value-add-row-2 t c = ?
+
+-- src/values.rt:51:30
+value-next-requires-2 : (t : ℕ) → value-lts.Need-next-requires-2 (
+  word-reads.Asked,
+  word-reads.Learnt,
+  kind-reads.Asked,
+  kind-reads.Learnt,
+  lifted-reads.Asked,
+  lifted-reads.Learnt,
+  next-reads.Asked,
+  next-reads.Learnt,
+  row-below t,
+  row.Post,
+  actor-reads.Asked,
+  actor-reads.Learnt,
+  own-below t,
+  own.Post,
+) (value-at t) value.Post
+value-next-requires-2 t c κs = ?
+
+-- src/values.rt:51:45
+value-sub-row-2 : (t : ℕ) → value-lts.Need-sub-row-2 (
+  word-reads.Asked,
+  word-reads.Learnt,
+  kind-reads.Asked,
+  kind-reads.Learnt,
+  lifted-reads.Asked,
+  lifted-reads.Learnt,
+  next-reads.Asked,
+  next-reads.Learnt,
+  row-below t,
+  row.Post,
+  actor-reads.Asked,
+  actor-reads.Learnt,
+  own-below t,
+  own.Post,
+) (value-at t) value.Post
+value-sub-row-2 t c = ?
+
+-- src/values.rt:51:9
+value-row-requires-2 : (t : ℕ) → value-lts.Need-row-requires-2 (
+  word-reads.Asked,
+  word-reads.Learnt,
+  kind-reads.Asked,
+  kind-reads.Learnt,
+  lifted-reads.Asked,
+  lifted-reads.Learnt,
+  next-reads.Asked,
+  next-reads.Learnt,
+  row-below t,
+  row.Post,
+  actor-reads.Asked,
+  actor-reads.Learnt,
+  own-below t,
+  own.Post,
+) (value-at t) value.Post
+value-row-requires-2 t c κs = ?
+
+-- src/values.rt:51:9
+value-same-length-3 : (t : ℕ) → value-lts.Need-same-length-3 (
+  word-reads.Asked,
+  word-reads.Learnt,
+  kind-reads.Asked,
+  kind-reads.Learnt,
+  lifted-reads.Asked,
+  lifted-reads.Learnt,
+  next-reads.Asked,
+  next-reads.Learnt,
+  row-below t,
+  row.Post,
+  actor-reads.Asked,
+  actor-reads.Learnt,
+  own-below t,
+  own.Post,
+) (value-at t) value.Post
+value-same-length-3 t c = ?
+
+-- src/values.rt:51:9
+value-returns-4 : (t : ℕ) → value-lts.Need-returns-4 (
+  word-reads.Asked,
+  word-reads.Learnt,
+  kind-reads.Asked,
+  kind-reads.Learnt,
+  lifted-reads.Asked,
+  lifted-reads.Learnt,
+  next-reads.Asked,
+  next-reads.Learnt,
+  row-below t,
+  row.Post,
+  actor-reads.Asked,
+  actor-reads.Learnt,
+  own-below t,
+  own.Post,
+) (value-at t) value.Post
+value-returns-4 t c = ?
+
+-- src/values.rt:53:24
+value-sub-own : (t : ℕ) → value-lts.Need-sub-own (
+  word-reads.Asked,
+  word-reads.Learnt,
+  kind-reads.Asked,
+  kind-reads.Learnt,
+  lifted-reads.Asked,
+  lifted-reads.Learnt,
+  next-reads.Asked,
+  next-reads.Learnt,
+  row-below t,
+  row.Post,
+  actor-reads.Asked,
+  actor-reads.Learnt,
+  own-below t,
+  own.Post,
+) (value-at t) value.Post
+value-sub-own t c = ?
+
+-- src/values.rt:53:5
+value-own-requires : (t : ℕ) → value-lts.Need-own-requires (
+  word-reads.Asked,
+  word-reads.Learnt,
+  kind-reads.Asked,
+  kind-reads.Learnt,
+  lifted-reads.Asked,
+  lifted-reads.Learnt,
+  next-reads.Asked,
+  next-reads.Learnt,
+  row-below t,
+  row.Post,
+  actor-reads.Asked,
+  actor-reads.Learnt,
+  own-below t,
+  own.Post,
+) (value-at t) value.Post
+value-own-requires t c κs = ?
+
+-- src/values.rt:27:1
+value-same-length-4 : (t : ℕ) → value-lts.Need-same-length-4 (
+  word-reads.Asked,
+  word-reads.Learnt,
+  kind-reads.Asked,
+  kind-reads.Learnt,
+  lifted-reads.Asked,
+  lifted-reads.Learnt,
+  next-reads.Asked,
+  next-reads.Learnt,
+  row-below t,
+  row.Post,
+  actor-reads.Asked,
+  actor-reads.Learnt,
+  own-below t,
+  own.Post,
+) (value-at t) value.Post
+value-same-length-4 t c = ?
+
+-- src/values.rt:27:1
+value-returns-5 : (t : ℕ) → value-lts.Need-returns-5 (
+  word-reads.Asked,
+  word-reads.Learnt,
+  kind-reads.Asked,
+  kind-reads.Learnt,
+  lifted-reads.Asked,
+  lifted-reads.Learnt,
+  next-reads.Asked,
+  next-reads.Learnt,
+  row-below t,
+  row.Post,
+  actor-reads.Asked,
+  actor-reads.Learnt,
+  own-below t,
+  own.Post,
+) (value-at t) value.Post
+value-returns-5 t c = ?
+
+pub +choose+own+row+total+value-spec : {M : Type 1} → statement M
++choose+own+row+total+value-spec =
+    close μ-choose μ-own μ-row μ-total μ-value (λ t. choose-lts.spec (
+      word-reads.Asked,
+      word-reads.Learnt,
+      total-below t,
+      total.Post,
+      of-two-reads.Asked,
+      of-two-reads.Learnt,
+      put-reads.Asked,
+      put-reads.Learnt,
+      of-three-reads.Asked,
+      of-three-reads.Learnt,
+    )
+    (choose-at t)
+    choose.Post
+    (choose-add-word t)
+    (choose-word-requires t)
+    (choose-sub-result t)
+    (choose-same-length t)
+    (choose-returns t)
+    (choose-total-requires t)
+    (choose-total-requires-2 t)
+    (choose-of-two-requires t)
+    (choose-add-put t)
+    (choose-add-put-2 t)
+    (choose-put-requires t)
+    (choose-same-length-2 t)
+    (choose-returns-2 t)
+    (choose-total-requires-3 t)
+    (choose-of-three-requires t)
+    (choose-add-put-3 t)
+    (choose-add-put-4 t)
+    (choose-put-requires-2 t)
+    (choose-same-length-3 t)
+    (choose-returns-3 t))
+    (λ t. own-lts.spec (
+      set-reads.Asked,
+      set-reads.Learnt,
+      actions-reads.Asked,
+      actions-reads.Learnt,
+      choose-below t,
+      choose.Post,
+      child-reads.Asked,
+      child-reads.Learnt,
+      value-below t,
+      value.Post,
+    )
+    (own-at t)
+    own.Post
+    (own-set-requires t)
+    (own-actions-requires t)
+    (own-choose-requires t)
+    (own-child-requires t)
+    (own-value-requires t)
+    (own-same-length t)
+    (own-returns t))
+    (λ t. row-lts.spec (
+      value-below t,
+      value.Post,
+      wrapping-add-u64-reads.Asked,
+      wrapping-add-u64-reads.Learnt,
+      behind-reads.Asked,
+      behind-reads.Learnt,
+    )
+    (row-at t)
+    row.Post
+    row-Inv-loop
+    row-μ-loop
+    (row-loop-holds t)
+    (row-value-requires t)
+    (row-wrapping-add-u64-requires t)
+    (row-behind-requires t)
+    (row-same-length t)
+    (row-returns t)
+    (row-loop-less t)
+    (row-loop-again t)
+    (row-same-length-2 t)
+    (row-returns-2 t))
+    (λ t. total-lts.spec (
+      word-reads.Asked,
+      word-reads.Learnt,
+      child-reads.Asked,
+      child-reads.Learnt,
+      value-below t,
+      value.Post,
+      wrapping-add-u64-reads.Asked,
+      wrapping-add-u64-reads.Learnt,
+      later-reads.Asked,
+      later-reads.Learnt,
+    )
+    (total-at t)
+    total.Post
+    total-Inv-loop
+    total-μ-loop
+    (total-add-word t)
+    (total-word-requires t)
+    (total-loop-holds t)
+    (total-child-requires t)
+    (total-value-requires t)
+    (total-wrapping-add-u64-requires t)
+    (total-word-requires-2 t)
+    (total-later-requires t)
+    (total-same-length t)
+    (total-returns t)
+    (total-loop-less t)
+    (total-loop-again t)
+    (total-same-length-2 t)
+    (total-returns-2 t))
+    λ t. value-lts.spec (
+      word-reads.Asked,
+      word-reads.Learnt,
+      kind-reads.Asked,
+      kind-reads.Learnt,
+      lifted-reads.Asked,
+      lifted-reads.Learnt,
+      next-reads.Asked,
+      next-reads.Learnt,
+      row-below t,
+      row.Post,
+      actor-reads.Asked,
+      actor-reads.Learnt,
+      own-below t,
+      own.Post,
+    )
+    (value-at t)
+    value.Post
+    (value-returns t)
+    (value-word-requires t)
+    (value-kind-requires t)
+    (value-add-word t)
+    (value-word-requires-2 t)
+    (value-lifted-requires t)
+    (value-mul-result t)
+    (value-same-length t)
+    (value-returns-2 t)
+    (value-add-row t)
+    (value-next-requires t)
+    (value-sub-row t)
+    (value-row-requires t)
+    (value-same-length-2 t)
+    (value-returns-3 t)
+    (value-actor-requires t)
+    (value-add-row-2 t)
+    (value-next-requires-2 t)
+    (value-sub-row-2 t)
+    (value-row-requires-2 t)
+    (value-same-length-3 t)
+    (value-returns-4 t)
+    (value-sub-own t)
+    (value-own-requires t)
+    (value-same-length-4 t)
+    (value-returns-5 t)
