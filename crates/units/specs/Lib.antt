@@ -2,3 +2,4 @@
 pub mod Lifted
 pub mod Earned
 pub mod Gain
+pub mod Gains

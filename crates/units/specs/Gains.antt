@@ -1,0 +1,21 @@
+-- What gains say of a seat's reply, statement by statement, of the definitions in Gain. Each is proved in proofs/Found.antt, proofs/Gains.antt or proofs/Choices.antt, which assume nothing.
+-- Throughout: t is a tree, s a strategy with D parts, i a seat, k a key of it, c a choice; the root has U = C × D^m units.
+use mathlib.Core.Path.{_≡_}
+use mathlib.Core.Bool.{true}
+use mathlib.Core.List.{map}
+use Prim.Native.Nat.{ℕ, pred, _*_, _≤_, _<_}
+use lib.IntN.{pos, _+ℤ_}
+use Rattle.game.specs.Tree.{Key, Tree, Strategy, all, U, Splits, Every, Pays, Valid}
+use Rattle.game.specs.Reply.{replyTree, replyKids, Choice, value, members, best, bestValue}
+use Rattle.game.specs.Recall.{PerfectRecall}
+use Rattle.game.specs.Sets.{preorder, numbers}
+use Rattle.units.specs.Gain.{Member, gain, found, setGain, topmost}
+
+-- 1. The members of a set stand at the numbers of its nodes.
+abbrev pub PlacesFound : Type 0
+PlacesFound = (D i : ℕ) (s : Strategy) (k : Key) (t : Tree) (a u : ℕ) → map (λ (x : Member). x .0) (found D s i k a u t) ≡ numbers i k a (preorder t)
+
+-- 2. They are those of the reply tree, with their units and the reply trees of their children.
+abbrev pub MembersFound : Type 0
+MembersFound = (D i : ℕ) (s : Strategy) (k : Key) (t : Tree) (a u : ℕ)
+    → members (replyTree D s i u t) k ≡ map (λ (x : Member). (x .1, k, replyKids D s i true (x .1) i k 0 (x .2))) (found D s i k a u t)
