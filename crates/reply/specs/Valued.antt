@@ -6,7 +6,7 @@ use Prim.Native.Nat.{ℕ, zero, suc, pred, _+_, _%_, _^_, _≤_, _<_}
 use lib.ListN.{length, getD}
 use Rattle.game.specs.Tree.{Key, Tree, decide, Trees, nil, cons, fan, Strategy, Every, EveryAll, Pays, PaysAll}
 use Rattle.game.specs.Reply.{Choice}
-use Rattle.game.specs.Sets.{Decision, size, sizes, decisions, entries, firstEntry}
+use Rattle.game.specs.Sets.{Decision, size, sizes, decisions, entries, firstEntry, SameActions}
 use Rattle.game.proofs.Counting.{In}
 use Rattle.arena.specs.Words.{CHANCE, kindOf, actorOf, actionsOf, setOf}
 use Rattle.arena.specs.Held.{Held, HeldAll}
@@ -48,6 +48,7 @@ pub record Scene (i h b k : ℕ) : Type 0 where
   pub stocked : Stocked parts strategy i b words 0 root tree
   pub level : Levels levels 32 tree
   pub pays : Pays 60 i tree
+  pub actions : SameActions tree
   pub few : Every (λ j y n. (2 ≤ n) × (n ≤ 3)) tree
   pub decided : Every (λ j y n. j ≡ i → choice y ≡ topmost (setGain parts strategy i choice tree root y) (pred n)) tree
   pub bounded : (y : Key) (a : ℕ) → setGain parts strategy i choice tree root y a < 2 ^ 64

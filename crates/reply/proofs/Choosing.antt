@@ -1,0 +1,184 @@
+-- The choice of a set from the sums over its members. Assumes nothing.
+use mathlib.Core.Path.{_≡_, refl, sym, ap, _∙_, subst}
+use mathlib.Core.Logic.{_⊎_, inl, inr}
+use mathlib.Core.Bool.{Bool, true, false, cond}
+use mathlib.Core.List.{List, [], _∷_, map}
+use Prim.Native.Nat.{ℕ, zero, suc, pred, _+_, _-_, _*_, _%_, _^_, _≤_, _<_}
+use native.Mathlib.Nat as NatL
+use native.Mathlib.Omega.{arith}
+use lib.Dec.{eqb, ltb}
+use borrow.Author.Tests.{eqb-true, eqb-false}
+use lib.ListN.{length, getD, set, length-set}
+use lib.Seq.{getD-set-same, getD-set-other}
+use Rattle.finite.proofs.Tests.{Tested, holds, fails, tested}
+use Rattle.game.specs.Sums.{sumℕ}
+use Rattle.game.specs.Tree.{Key, Tree, chance, decide, Trees, fan, Every}
+use Rattle.game.specs.Sets.{Decision, size, sizes, decisions, decides, numbers, preorder, entries, firstEntry, setMembers}
+use Rattle.game.proofs.Counting.{In}
+use Rattle.game.proofs.Entries.{entry-inside, entry-apart}
+use Rattle.arena.specs.Words.{CHANCE, DECISION, kindOf, laterOf}
+use Rattle.arena.specs.Held.{Says, Held}
+use Rattle.arena.specs.Index.{firstOf, laterIn, Indexed, Linked}
+use Rattle.arena.proofs.Members.{members-linked}
+use Rattle.arena.proofs.Numbering.{in-every, every-in}
+use Rattle.units.specs.Gain.{Member, given, gain, gainPick, found, setGain, topmost}
+use Rattle.units.proofs.Found.{places-found}
+use Rattle.units.proofs.Six.{sum-wraps}
+use Rattle.reply.specs.Valued.{Child, Scene, Known, Noted, Here, HereAll, gained, behindAction, placeOf, Valued, Chosen, Totalled}
+use Rattle.reply.proofs.Scenes.{kids-decide, pick-child, known-of, root-here, EachFound, each-found}
+use Rattle.reply.proofs.Valuing.{held-in-all, choice-few, topmost-few}
+
+-- ---- the lowest of the greatest
+topmost-same : (p q : ℕ → ℕ) (n : ℕ) → ((a : ℕ) → a ≤ n → p a ≡ q a) → topmost p n ≡ topmost q n
+unfolding topmost
+topmost-same p q zero h = refl
+topmost-same p q (suc n) h = rw (topmost-same p q n (λ a l. h a (omega arith)), h (topmost q n) (NatL.le-trans (topmost-few q n) (NatL.le-succ n)), h (suc n) (NatL.le-refl (suc n))) refl
+
+-- ---- a choice kept
+module _ {i h b k : ℕ} (S : Scene i h b k) where
+  some : Every (λ j y n. 1 ≤ n) (S .tree)
+  some = in-every (λ j y n. 1 ≤ n) (S .tree) (λ x m. let l : (2 ≤ x .2) × (x .2 ≤ 3) = every-in (λ j y n. (2 ≤ n) × (n ≤ 3)) (S .tree) (S .few) x m in omega (arith, l .0))
+
+  -- a set's first entry is one of the table's
+  pub inside : (y : Key) (n : ℕ) → Known S i y n → firstEntry (S .tree) i y < entries (S .tree)
+  inside y n g = entry-inside (S .tree) some (i, y, n) g
+
+  -- writing the right choice
+  noted-more : (w : List ℕ) → Noted S w → (y : Key) (n : ℕ) → Known S i y n → (c : ℕ) → c ≡ S .choice y → Noted S (set w (k + firstEntry (S .tree) i y) (c + 1))
+  noted-more w m y n g c e = record {
+    words = λ p l. getD-set-other w place p (c + 1) 0 (λ q. omega arith) ∙ m .words p l;
+    long = length-set w place (c + 1) ∙ m .long;
+    choices = λ z a o. at z a o (tested (eqb (firstEntry (S .tree) i z) (firstEntry (S .tree) i y)));
+  }
+    where
+      abbrev place : ℕ
+      place = k + firstEntry (S .tree) i y
+
+      room : place < length w
+      room = omega (arith, inside y n g, S .long, m .long)
+
+      at : (z : Key) (a : ℕ) → Known S i z a → Tested (eqb (firstEntry (S .tree) i z) (firstEntry (S .tree) i y))
+          → (getD (set w place (c + 1)) (k + firstEntry (S .tree) i z) 0 ≡ 0) ⊎ (getD (set w place (c + 1)) (k + firstEntry (S .tree) i z) 0 ≡ suc (S .choice z))
+      at z a o (holds t) = let q : firstEntry (S .tree) i z ≡ firstEntry (S .tree) i y = eqb-true (firstEntry (S .tree) i z) (firstEntry (S .tree) i y) t in
+          inr (ap (λ p. getD (set w place (c + 1)) (k + p) 0) q ∙ getD-set-same w place (c + 1) 0 room ∙ omega (arith, e, ap (S .choice) (entry-apart (S .tree) some (i, z, a) (i, y, n) o g q .1)))
+      at z a o (fails t) = subst (λ v. (v ≡ 0) ⊎ (v ≡ suc (S .choice z)))
+          (sym (getD-set-other w place (k + firstEntry (S .tree) i z) (c + 1) 0 (λ q. eqb-false (firstEntry (S .tree) i z) (firstEntry (S .tree) i y) t (omega arith)))) (m .choices z a o)
+
+module _ (i d h b k e n : ℕ) (old : List ℕ) where
+  -- a choice that was found before
+  pub chosen-known : (v r : ℕ) → v ≡ getD old (k + e) 0 → (v ≡ 0 → ⊥) → r ≡ v - 1 → Chosen i d h b k e n old old r
+  chosen-known v r q z p S m y g l x = (m, at (m .choices y n g))
+    where
+      same : v ≡ getD old (k + firstEntry (S .tree) i y) 0
+      same = q ∙ ap (λ j. getD old (k + j) 0) l
+
+      at : (getD old (k + firstEntry (S .tree) i y) 0 ≡ 0) ⊎ (getD old (k + firstEntry (S .tree) i y) 0 ≡ suc (S .choice y)) → r ≡ S .choice y
+      at (inl o) = absurd (z (same ∙ o))
+      at (inr o) = omega (arith, p, same, o)
+
+  -- the choice of a set of two actions
+  pub chosen-two : (u v new : List ℕ) (x y c : ℕ) → Totalled i d h b k e 0 old u x → Totalled i d h b k e 1 u v y → (n ≡ 3 → ⊥) → c ≡ topmost (λ a. getD (x ∷ y ∷ []) a 0) 1
+      → new ≡ set v (k + e) (c + 1) → Chosen i d h b k e n old new c
+  chosen-two u v new x y c s t z q o S m key g l w =
+      let few : (2 ≤ n) × (n ≤ 3) = known-of S (λ j y n. (2 ≤ n) × (n ≤ 3)) (S .few) i key n g in
+      let two : pred n ≡ 1 = omega (arith, few, z) in
+      let A : Noted S u × (x ≡ behindAction S key 0) = s S m key n g l w (omega (arith, few)) in
+      let B : Noted S v × (y ≡ behindAction S key 1) = t S (A .0) key n g l w (omega (arith, few)) in
+      let top : c ≡ S .choice key = q ∙ topmost-same (λ a. getD (x ∷ y ∷ []) a 0) (behindAction S key) 1 (same x y (behindAction S key) (A .1) (B .1)) ∙ ap (topmost (behindAction S key)) (sym two)
+              ∙ sym (known-of S (λ j y n. j ≡ i → S .choice y ≡ topmost (behindAction S y) (pred n)) (S .decided) i key n g refl) in
+      (subst (Noted S) (ap (λ j. set v (k + j) (c + 1)) (sym l) ∙ sym o) (noted-more S v (B .0) key n g c top), top)
+    where
+      same : (x y : ℕ) (q : ℕ → ℕ) → x ≡ q 0 → y ≡ q 1 → (a : ℕ) → a ≤ 1 → getD (x ∷ y ∷ []) a 0 ≡ q a
+      same x y q A B zero j = A
+      same x y q A B (suc zero) j = B
+      same x y q A B (suc (suc a)) j = absurd (omega arith)
+
+  -- of three
+  pub chosen-three : (u v w new : List ℕ) (x y z c : ℕ) → Totalled i d h b k e 0 old u x → Totalled i d h b k e 1 u v y → Totalled i d h b k e 2 v w z → n ≡ 3
+      → c ≡ topmost (λ a. getD (x ∷ y ∷ z ∷ []) a 0) 2 → new ≡ set w (k + e) (c + 1) → Chosen i d h b k e n old new c
+  chosen-three u v w new x y z c s t r three q o S m key g l f =
+      let two : pred n ≡ 2 = omega (arith, three) in
+      let A : Noted S u × (x ≡ behindAction S key 0) = s S m key n g l f (omega (arith, three)) in
+      let B : Noted S v × (y ≡ behindAction S key 1) = t S (A .0) key n g l f (omega (arith, three)) in
+      let C : Noted S w × (z ≡ behindAction S key 2) = r S (B .0) key n g l f (omega (arith, three)) in
+      let top : c ≡ S .choice key = q ∙ topmost-same (λ a. getD (x ∷ y ∷ z ∷ []) a 0) (behindAction S key) 2 (same x y z (behindAction S key) (A .1) (B .1) (C .1)) ∙ ap (topmost (behindAction S key)) (sym two)
+              ∙ sym (known-of S (λ j y n. j ≡ i → S .choice y ≡ topmost (behindAction S y) (pred n)) (S .decided) i key n g refl) in
+      (subst (Noted S) (ap (λ j. set w (k + j) (c + 1)) (sym l) ∙ sym o) (noted-more S w (C .0) key n g c top), top)
+    where
+      same : (x y z : ℕ) (q : ℕ → ℕ) → x ≡ q 0 → y ≡ q 1 → z ≡ q 2 → (a : ℕ) → a ≤ 2 → getD (x ∷ y ∷ z ∷ []) a 0 ≡ q a
+      same x y z q A B C zero j = A
+      same x y z q A B C (suc zero) j = B
+      same x y z q A B C (suc (suc zero)) j = C
+      same x y z q A B C (suc (suc (suc a))) j = absurd (omega arith)
+
+-- ---- the members one after the other
+-- each place is below those behind it
+unfoldable Rising : List ℕ → Type 0
+Rising [] = Unit {0}
+Rising (a ∷ l) = ((b : ℕ) → In b l → a < b) × Rising l
+
+numbers-from : (j : ℕ) (y : Key) (a : ℕ) (ts : List Tree) (b : ℕ) → In b (numbers j y a ts) → a ≤ b
+unfolding numbers In
+numbers-from j y a [] b m = absurd m
+numbers-from j y a (t ∷ ts) b m = at (decides j y t) m (λ o. numbers-from j y (suc a) ts b o)
+  where
+    at : (x : Bool) → In b (cond x (a ∷ numbers j y (suc a) ts) (numbers j y (suc a) ts)) → (In b (numbers j y (suc a) ts) → suc a ≤ b) → a ≤ b
+    at true (inl e) f = NatL.le-of-eq e
+    at true (inr o) f = omega (arith, f o)
+    at false o f = omega (arith, f o)
+
+numbers-rise : (j : ℕ) (y : Key) (a : ℕ) (ts : List Tree) → Rising (numbers j y a ts)
+unfolding numbers Rising
+numbers-rise j y a [] = tt
+numbers-rise j y a (t ∷ ts) = at (decides j y t)
+  where
+    at : (x : Bool) → Rising (cond x (a ∷ numbers j y (suc a) ts) (numbers j y (suc a) ts))
+    at true = ((λ b o. numbers-from j y (suc a) ts b o), numbers-rise j y (suc a) ts)
+    at false = numbers-rise j y (suc a) ts
+
+abbrev places : List Member → List ℕ
+places ms = map (λ (m : Member). m .0) ms
+
+module _ {i h b k : ℕ} (S : Scene i h b k) (y : Key) (a : ℕ) where
+  -- what the members add behind action a
+  abbrev adds : List Member → ℕ
+  adds ms = sumℕ (λ (m : Member). gainPick (S .parts) (S .strategy) i (S .choice) (λ z. m .1) 0 (m .2) a) ms
+
+  -- members to come, the first of them at place c, and the sum before them
+  pub record Rest (c sum : ℕ) (ms : List Member) : Type 0 where
+    pub each : EachFound S y ms
+    pub linked : Linked (S .words) (places ms)
+    pub rising : Rising (places ms)
+    pub here : c ≡ firstOf (places ms)
+    pub done : ℕ
+    pub is : sum ≡ done % 2 ^ 64
+    pub all : behindAction S y a ≡ done + adds ms
+
+  -- all of them
+  rest-start : (old : List ℕ) → Noted S old → (n : ℕ) → Known S i y n → (c : ℕ) → c ≡ getD old (h + firstEntry (S .tree) i y) 0 % 2097152
+      → Rest c 0 (found (S .parts) (S .strategy) i y 0 (S .root) (S .tree))
+  unfolding setGain
+  rest-start old m n g c e = record {
+    each = each-found S y (S .tree) 32 0 (S .root) (root-here S);
+    linked = rw where-found (members-linked (S .seats) h (S .words) (S .tree) (S .indexed) i y);
+    rising = rw where-found (numbers-rise i y 0 (preorder (S .tree)));
+    here = e ∙ ap (λ j. j % 2097152) head ∙ NatL.mod-eq-of-lt (near all-found (each-found S y (S .tree) 32 0 (S .root) (root-here S)));
+    done = 0;
+    is = refl;
+    all = sym (NatL.zero-add (adds all-found));
+  }
+    where
+      abbrev all-found : List Member
+      all-found = found (S .parts) (S .strategy) i y 0 (S .root) (S .tree)
+
+      where-found : places all-found ≡ setMembers (S .tree) i y
+      where-found = places-found (S .parts) i (S .strategy) y (S .tree) 0 (S .root)
+
+      head : getD old (h + firstEntry (S .tree) i y) 0 ≡ firstOf (places all-found)
+      head = m .words (h + firstEntry (S .tree) i y) (omega (arith, inside S y n g, S .before))
+          ∙ known-of S (λ j y n. getD (S .words) (h + firstEntry (S .tree) j y) 0 ≡ firstOf (setMembers (S .tree) j y)) (S .indexed .heads) i y n g ∙ ap firstOf (sym where-found)
+
+      near : (ms : List Member) → EachFound S y ms → firstOf (places ms) < 2097152
+      unfolding EachFound firstOf size
+      near [] q = omega arith
+      near (x ∷ ms) q = omega (arith, q .0 .room, S .room)
