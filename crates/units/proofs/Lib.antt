@@ -2,3 +2,4 @@ pub mod Six
 pub mod Adding
 pub mod Lifting
 pub mod Found
+pub mod Gains

@@ -1,0 +1,148 @@
+-- A gain is at most 124 for each unit, and it is the value of the reply tree and 64 for each unit. Assumes nothing.
+use mathlib.Core.Path.{_≡_, refl, sym, ap, ap₂, _∙_}
+use mathlib.Core.Bool.{Bool, true, false, cond}
+use mathlib.Core.List.{List, [], _∷_, _++_, map}
+use Prim.Native.Nat.{ℕ, zero, suc, _+_, _*_, _/_, _^_, _≤_, _<_, zero-le}
+use native.Mathlib.Nat as NatL
+use native.Mathlib.Omega.{arith}
+use lib.Dec.{eqb}
+use lib.IntN.{ℤ, pos, negsuc, _+ℤ_, natAbs}
+use lib.ListN.{length, take}
+use lib.Seq.{take-length}
+use Rattle.game.specs.Sums.{sum, sumℕ, parts}
+use Rattle.game.specs.Tree.{Key, Tree, end, chance, decide, Trees, nil, cons, fan, Strategy, all, Every, EveryAll, Pays, PaysAll, Valid}
+use Rattle.game.specs.Reply.{node, share, replyTree, replyKids, Choice, value, total, pick, Node, same, members, setSum}
+use Rattle.game.specs.Recall.{PerfectRecall}
+use Rattle.game.specs.Sets.{size}
+use Rattle.game.proofs.Tests.{Tested, is, isn't, tested, T-of, same→eq, eqb-is}
+use Rattle.game.proofs.Units.{Fits, FitsAll, fits-scale, fits-scale-all, splits-fit, of-fan, part-of}
+use Rattle.game.proofs.Bounds.{members-units}
+use Rattle.units.specs.Lifted.{lift}
+use Rattle.units.specs.Gain.{Member, given, gain, gainAll, gainPick, found, foundAll, setGain}
+use Rattle.units.specs.Gains.{GainBound, SetGainBound, GainValue}
+use Rattle.units.proofs.Lifting.{lift-times, add-up}
+use Rattle.units.proofs.Found.{replyRow, chance-row, decision-row, members-found}
+
+-- ---- the units of a row, by the child's number
+unfoldable rowUnits : (ℕ → ℕ) → ℕ → Trees → ℕ
+rowUnits g x nil = 0
+rowUnits g x (cons t f) = g x + rowUnits g (suc x) f
+
+same-units : (f : Trees) (u x : ℕ) → rowUnits (λ y. u) x f ≡ fan f * u
+unfolding rowUnits fan
+same-units nil u x = sym (NatL.zero-mul u)
+same-units (cons t f) u x = ap (λ n. u + n) (same-units f u (suc x)) ∙ NatL.add-comm u (fan f * u) ∙ sym (NatL.suc-mul (fan f) u)
+
+-- the children of another seat's decision have at most its units together, and all of them where the division is exact
+module _ (D : ℕ) (D-pos : 0 < D) (p : ℕ → ℕ) where
+  share-step : (w W u q P : ℕ) → D * w ≤ u * q → D * W ≤ u * P → D * (w + W) ≤ u * (q + P)
+  share-step w W u q P h g = rw (NatL.mul-add D w W, NatL.mul-add u q P) (NatL.add-le-add h g)
+
+  parts-most : (f : Trees) (u a : ℕ) (x : ℕ → ℕ) → ((b : ℕ) → x b ≡ p (a + b)) → D * rowUnits (λ y. u * p y / D) a f ≤ u * parts (fan f) x
+  unfolding rowUnits fan parts
+  parts-most nil u a x e = rw (NatL.mul-zero D) zero-le
+  parts-most (cons t f) u a x e = share-step (u * p a / D) (rowUnits (λ y. u * p y / D) (suc a) f) u (x 0) (parts (fan f) (λ b. x (suc b)))
+      (rw (e 0, NatL.add-zero a) (NatL.mul-div-le (u * p a) D))
+      (parts-most f u (suc a) (λ b. x (suc b)) (λ b. e (suc b) ∙ ap p (omega arith)))
+
+  shares-most : (f : Trees) (u : ℕ) → parts (fan f) p ≡ D → rowUnits (λ y. u * p y / D) 0 f ≤ u
+  shares-most f u e = NatL.le-of-mul-le-mul-left
+      (NatL.le-trans (parts-most f u 0 p (λ b. ap p (sym (NatL.zero-add b)))) (NatL.le-of-eq (ap (λ n. u * n) e ∙ NatL.mul-comm u D))) D-pos
+
+  parts-units : (f : Trees) (u q a : ℕ) (x : ℕ → ℕ) → ((b : ℕ) → x b ≡ p (a + b)) → u ≡ D * q → rowUnits (λ y. u * p y / D) a f ≡ parts (fan f) x * q
+  unfolding rowUnits fan parts
+  parts-units nil u q a x e w = sym (NatL.zero-mul q)
+  parts-units (cons t f) u q a x e w = ap₂ _+_ (part-of D u q (p a) D-pos w ∙ ap (λ n. n * q) (sym (e 0 ∙ ap p (NatL.add-zero a))))
+      (parts-units f u q (suc a) (λ b. x (suc b)) (λ b. e (suc b) ∙ ap p (omega arith)) w) ∙ sym (NatL.add-mul (x 0) (parts (fan f) (λ b. x (suc b))) q)
+
+  shares-units : (f : Trees) (u q : ℕ) → parts (fan f) p ≡ D → u ≡ D * q → rowUnits (λ y. u * p y / D) 0 f ≡ u
+  shares-units f u q e w = parts-units f u q 0 p (λ b. ap p (sym (NatL.zero-add b))) w ∙ ap (λ n. n * q) e ∙ sym w
+
+-- ---- a property of each member
+unfoldable pub EachMember : (Member → Type 0) → List Member → Type 0
+EachMember P [] = Unit {0}
+EachMember P (x ∷ xs) = P x × EachMember P xs
+
+each-append : (P : Member → Type 0) (xs ys : List Member) → EachMember P xs → EachMember P ys → EachMember P (xs ++ ys)
+unfolding EachMember
+each-append P [] ys h g = g
+each-append P (x ∷ xs) ys h g = (h .0, each-append P xs ys (h .1) g)
+
+each-cond : (P : Member → Type 0) (x : Member) (xs : List Member) (b : Bool) → (b ≡ true → P x) → EachMember P xs → EachMember P (cond b (x ∷ xs) xs)
+unfolding EachMember
+each-cond P x xs true h g = (h refl, g)
+each-cond P x xs false h g = g
+
+-- ---- at most 124 for each unit
+lift-most : (z : ℤ) → natAbs z ≤ 60 → lift z ≤ 124
+lift-most (pos a) h = omega arith
+lift-most (negsuc a) h = omega arith
+
+module _ (D : ℕ) (D-pos : 0 < D) (s : Strategy) (i : ℕ) (c : Choice) where
+  abbrev Parted : ℕ → Key → ℕ → Type 0
+  Parted j k n = parts n (s j k) ≡ D
+
+  mutual
+    unfolding gain rowUnits Every Pays fan share
+
+    gain-most : (t : Tree) (u : ℕ) → Every Parted t → Pays 60 i t → gain D s i c u t ≤ u * 124
+    gain-most (end p) u v h = NatL.mul-le-mul-left u (lift-most (p i) h)
+    gain-most (chance f) u v h = NatL.le-trans (gain-all-most f (λ y. u / fan f) 0 v h)
+        (NatL.mul-le-mul-right 124 (NatL.le-trans (NatL.le-of-eq (same-units f (u / fan f) 0)) (NatL.mul-div-le u (fan f))))
+    gain-most (decide j k f) u v h = at (eqb j i) (gain-pick-most f u 0 (c k) (v .1) h) (gain-all-most f (λ y. u * s j k y / D) 0 (v .1) h)
+      where
+        at : (b : Bool) → gainPick D s i c (λ y. u) 0 f (c k) ≤ u * 124 → gainAll D s i c (λ y. u * s j k y / D) 0 f ≤ rowUnits (λ y. u * s j k y / D) 0 f * 124
+            → cond b (gainPick D s i c (λ y. share D b u (s j k y)) 0 f (c k)) (gainAll D s i c (λ y. share D b u (s j k y)) 0 f) ≤ u * 124
+        at true x y = x
+        at false x y = NatL.le-trans y (NatL.mul-le-mul-right 124 (shares-most D D-pos (s j k) f u (v .0)))
+
+    gain-all-most : (f : Trees) (g : ℕ → ℕ) (x : ℕ) → EveryAll Parted f → PaysAll 60 i f → gainAll D s i c g x f ≤ rowUnits g x f * 124
+    gain-all-most nil g x v h = zero-le
+    gain-all-most (cons t f) g x v h = omega (arith, gain-most t (g x) (v .0) (h .0), gain-all-most f g (suc x) (v .1) (h .1))
+
+    gain-pick-most : (f : Trees) (u x a : ℕ) → EveryAll Parted f → PaysAll 60 i f → gainPick D s i c (λ y. u) x f a ≤ u * 124
+    gain-pick-most nil u x a v h = zero-le
+    gain-pick-most (cons t f) u x zero v h = gain-most t u (v .0) (h .0)
+    gain-pick-most (cons t f) u x (suc a) v h = gain-pick-most f u (suc x) a (v .1) (h .1)
+
+  -- so for each member of a set, whose units add up to at most the root's
+  module _ (k : Key) (a : ℕ) where
+    abbrev Small : Member → Type 0
+    Small x = gainPick D s i c (λ y. x .1) 0 (x .2) a ≤ x .1 * 124
+
+    mutual
+      unfolding found Every Pays EachMember
+
+      found-small : (t : Tree) (b u : ℕ) → Every Parted t → Pays 60 i t → EachMember Small (found D s i k b u t)
+      found-small (end p) b u v h = tt
+      found-small (chance f) b u v h = found-small-all f (suc b) (λ x. u / fan f) 0 v h
+      found-small (decide j l f) b u v h = each-cond Small (b, u, f) (foundAll D s i k (suc b) (given D s i u j l) 0 f) (cond (eqb j i) (same l k) false)
+          (λ e. gain-pick-most f u 0 a (v .1) h) (found-small-all f (suc b) (given D s i u j l) 0 (v .1) h)
+
+      found-small-all : (f : Trees) (b : ℕ) (g : ℕ → ℕ) (x : ℕ) → EveryAll Parted f → PaysAll 60 i f → EachMember Small (foundAll D s i k b g x f)
+      found-small-all nil b g x v h = tt
+      found-small-all (cons t f) b g x v h = each-append Small (found D s i k b (g x) t) (foundAll D s i k (b + size t) g (suc x) f)
+          (found-small t b (g x) (v .0) (h .0)) (found-small-all f (b + size t) g (suc x) (v .1) (h .1))
+
+    sum-small : (xs : List Member) → EachMember Small xs → sumℕ (λ (x : Member). gainPick D s i c (λ y. x .1) 0 (x .2) a) xs ≤ sumℕ (λ (x : Member). x .1) xs * 124
+    unfolding EachMember sumℕ
+    sum-small [] h = zero-le
+    sum-small (x ∷ xs) h = omega (arith, h .0, sum-small xs (h .1))
+
+  sumℕ-seen : (k : Key) (xs : List Member) → sumℕ (λ (x : Node). x .0) (map (λ (x : Member). (x .1, k, replyKids D s i true (x .1) i k 0 (x .2))) xs) ≡ sumℕ (λ (x : Member). x .1) xs
+  unfolding sumℕ
+  sumℕ-seen k [] = refl
+  sumℕ-seen k (x ∷ xs) = ap (λ n. x .1 + n) (sumℕ-seen k xs)
+
+  found-units : (t : Tree) (u : ℕ) (k : Key) → PerfectRecall i t → Valid (all D) s t → sumℕ (λ (x : Member). x .1) (found D s i k 0 u t) ≤ u
+  found-units t u k g v = NatL.le-trans
+      (NatL.le-of-eq (sym (ap (sumℕ (λ x. x .0)) (take-length (members (replyTree D s i u t) k) ∙ members-found D i s k t 0 u) ∙ sumℕ-seen k (found D s i k 0 u t))))
+      (members-units D i u (length (members (replyTree D s i u t) k)) s t k D-pos g v)
+
+pub gain-bound : GainBound
+gain-bound D i u s t c d v h = gain-most D d s i c t u v h
+
+pub set-gain-bound : SetGainBound
+unfolding setGain
+set-gain-bound D i u a s t k c d g v h = NatL.le-trans (sum-small D d s i c k a (found D s i k 0 u t) (found-small D d s i c k a t 0 u v h))
+    (NatL.mul-le-mul-right 124 (found-units D d s i c t u k g v))
