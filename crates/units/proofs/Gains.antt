@@ -146,3 +146,79 @@ pub set-gain-bound : SetGainBound
 unfolding setGain
 set-gain-bound D i u a s t k c d g v h = NatL.le-trans (sum-small D d s i c k a (found D s i k 0 u t) (found-small D d s i c k a t 0 u v h))
     (NatL.mul-le-mul-right 124 (found-units D d s i c t u k g v))
+
+-- ---- the value of the reply tree, and 64 for each unit
+-- each child of a row has units that split evenly all the way down
+unfoldable FitsRow : ℕ → (ℕ → ℕ) → ℕ → Trees → Type 0
+FitsRow D g x nil = Unit {0}
+FitsRow D g x (cons t f) = Fits (all D) (g x) t × FitsRow D g (suc x) f
+
+same-fits : (D : ℕ) (f : Trees) (u x : ℕ) → FitsAll (all D) u f → FitsRow D (λ y. u) x f
+unfolding FitsRow Fits
+same-fits D nil u x h = tt
+same-fits D (cons t f) u x h = (h .0, same-fits D f u (suc x) (h .1))
+
+shares-fit : (D : ℕ) (p : ℕ → ℕ) (f : Trees) (u q x : ℕ) → 0 < D → u ≡ D * q → FitsAll (all D) q f → FitsRow D (λ y. u * p y / D) x f
+unfolding FitsRow Fits
+shares-fit D p nil u q x d e h = tt
+shares-fit D p (cons t f) u q x d e h = (rw (part-of D u q (p x) d e) (fits-scale t (all D) q (p x) (h .0)), shares-fit D p f u q (suc x) d e (h .1))
+
+module _ (D : ℕ) (D-pos : 0 < D) (s : Strategy) (i : ℕ) (c : Choice) where
+  -- seat i's choice is an action that is there
+  abbrev Taken : ℕ → Key → ℕ → Type 0
+  Taken j k n = j ≡ i → c k < n
+
+  -- the units of an own decision fit its children
+  own-fits : (u j : ℕ) (k : Key) (f : Trees) → Fits (all D) u (decide j k f) → FitsAll (all D) u f
+  unfolding Fits
+  own-fits u j k f h = rw (h .1) (fits-scale-all f (all D) (h .0) D (h .2))
+
+  given-fits : (u j : ℕ) (k : Key) (f : Trees) → Fits (all D) u (decide j k f) → FitsRow D (given D s i u j k) 0 f
+  unfolding Fits share
+  given-fits u j k f h = at (eqb j i)
+    where
+      at : (b : Bool) → FitsRow D (λ y. share D b u (s j k y)) 0 f
+      at true = same-fits D f u 0 (own-fits u j k f h)
+      at false = shares-fit D (s j k) f u (h .0) 0 D-pos (h .1) (h .2)
+
+  chance-fits : (u : ℕ) (f : Trees) → Fits (all D) u (chance f) → FitsRow D (λ y. u / fan f) 0 f
+  unfolding Fits
+  chance-fits u f h = same-fits D f (u / fan f) 0 (rw (of-fan u (fan f) (h .0) (h .1) (h .2)) (h .3))
+
+  chance-units : (u : ℕ) (f : Trees) → Fits (all D) u (chance f) → rowUnits (λ y. u / fan f) 0 f ≡ u
+  unfolding Fits
+  chance-units u f h = same-units f (u / fan f) 0 ∙ ap (λ n. fan f * n) (of-fan u (fan f) (h .0) (h .1) (h .2)) ∙ sym (h .1)
+
+  mutual
+    unfolding gain replyTree replyRow value rowUnits FitsRow Fits Every Pays fan share node
+
+    gain-is : (t : Tree) (u : ℕ) → Fits (all D) u t → Every (Parted D D-pos s i c) t → Pays 60 i t → Every Taken t
+        → pos (gain D s i c u t) ≡ value c (replyTree D s i u t) +ℤ pos (64 * u)
+    gain-is (end p) u e v h o = lift-times u (p i) h
+    gain-is (chance f) u e v h o = gain-all-is f (λ y. u / fan f) 0 (chance-fits u f e) v h o
+        ∙ ap₂ (λ r n. total c r +ℤ pos (64 * n)) (sym (chance-row D s i f (u / fan f) 0)) (chance-units u f e)
+    gain-is (decide j k f) u e v h o = at (eqb j i) (λ w. gain-pick-is f u j k 0 (c k) (o .0 (eqb-is j i w)) (own-fits u j k f e) (v .1) h (o .1))
+        (gain-all-is f (λ y. u * s j k y / D) 0 (shares-fit D (s j k) f u (e .0) 0 D-pos (e .1) (e .2)) (v .1) h (o .1)
+        ∙ ap₂ (λ r n. total c r +ℤ pos (64 * n)) (sym (decision-row D s i f false u j k 0)) (shares-units D D-pos (s j k) f u (e .0) (v .0) (e .1)))
+      where
+        at : (b : Bool) → (b ≡ true → pos (gainPick D s i c (λ y. u) 0 f (c k)) ≡ pick c (replyKids D s i true u j k 0 f) (c k) +ℤ pos (64 * u))
+            → pos (gainAll D s i c (λ y. u * s j k y / D) 0 f) ≡ total c (replyKids D s i false u j k 0 f) +ℤ pos (64 * u)
+            → pos (cond b (gainPick D s i c (λ y. share D b u (s j k y)) 0 f (c k)) (gainAll D s i c (λ y. share D b u (s j k y)) 0 f))
+            ≡ value c (node b u k (replyKids D s i b u j k 0 f)) +ℤ pos (64 * u)
+        at true x y = x refl
+        at false x y = y
+
+    gain-all-is : (f : Trees) (g : ℕ → ℕ) (x : ℕ) → FitsRow D g x f → EveryAll (Parted D D-pos s i c) f → PaysAll 60 i f → EveryAll Taken f
+        → pos (gainAll D s i c g x f) ≡ total c (replyRow D s i g x f) +ℤ pos (64 * rowUnits g x f)
+    gain-all-is nil g x e v h o = refl
+    gain-all-is (cons t f) g x e v h o = add-up (value c (replyTree D s i (g x) t)) (total c (replyRow D s i g (suc x) f)) (g x) (rowUnits g (suc x) f)
+        (gain D s i c (g x) t) (gainAll D s i c g (suc x) f) (gain-is t (g x) (e .0) (v .0) (h .0) (o .0)) (gain-all-is f g (suc x) (e .1) (v .1) (h .1) (o .1))
+
+    gain-pick-is : (f : Trees) (u j : ℕ) (k : Key) (x a : ℕ) → a < fan f → FitsAll (all D) u f → EveryAll (Parted D D-pos s i c) f → PaysAll 60 i f → EveryAll Taken f
+        → pos (gainPick D s i c (λ y. u) x f a) ≡ pick c (replyKids D s i true u j k x f) a +ℤ pos (64 * u)
+    gain-pick-is nil u j k x a l e v h o = absurd (NatL.not-suc-le-zero l)
+    gain-pick-is (cons t f) u j k x zero l e v h o = gain-is t u (e .0) (v .0) (h .0) (o .0)
+    gain-pick-is (cons t f) u j k x (suc a) l e v h o = gain-pick-is f u j k (suc x) a (NatL.le-of-suc-le-suc l) (e .1) (v .1) (h .1) (o .1)
+
+pub gain-value : GainValue
+gain-value C m D i s t c d g v h o = gain-is D d s i c t (C * D ^ m) (splits-fit D t C m g) v h o
