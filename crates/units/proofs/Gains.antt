@@ -13,8 +13,9 @@ use Rattle.game.specs.Sums.{sum, sumℕ, parts}
 use Rattle.game.specs.Tree.{Key, Tree, end, chance, decide, Trees, nil, cons, fan, Strategy, all, Every, EveryAll, Pays, PaysAll, Valid}
 use Rattle.game.specs.Reply.{node, share, replyTree, replyKids, Choice, value, total, pick, Node, same, members, setSum}
 use Rattle.game.specs.Recall.{PerfectRecall}
-use Rattle.game.specs.Sets.{size}
-use Rattle.game.proofs.Tests.{Tested, is, isn't, tested, T-of, same→eq, eqb-is}
+use Rattle.game.specs.Sets.{size, isOf}
+use Rattle.game.proofs.Tests.{eqb-is}
+use Rattle.game.proofs.Sets.{isOf-seat, isOf-key}
 use Rattle.game.proofs.Units.{Fits, FitsAll, fits-scale, fits-scale-all, splits-fit, of-fan, part-of}
 use Rattle.game.proofs.Bounds.{members-units}
 use Rattle.units.specs.Lifted.{lift}
@@ -219,6 +220,47 @@ module _ (D : ℕ) (D-pos : 0 < D) (s : Strategy) (i : ℕ) (c : Choice) where
     gain-pick-is nil u j k x a l e v h o = absurd (NatL.not-suc-le-zero l)
     gain-pick-is (cons t f) u j k x zero l e v h o = gain-is t u (e .0) (v .0) (h .0) (o .0)
     gain-pick-is (cons t f) u j k x (suc a) l e v h o = gain-pick-is f u j k (suc x) a (NatL.le-of-suc-le-suc l) (e .1) (v .1) (h .1) (o .1)
+
+  -- so for each member of a set k, behind each of the actions that its members have
+  module _ (k : Key) (N : Key → ℕ) where
+    abbrev Counted : ℕ → Key → ℕ → Type 0
+    Counted j l n = j ≡ i → n ≡ N l
+
+    abbrev Valued : Member → Type 0
+    Valued x = (a : ℕ) → a < N k → pos (gainPick D s i c (λ y. x .1) 0 (x .2) a) ≡ pick c (replyKids D s i true (x .1) i k 0 (x .2)) a +ℤ pos (64 * x .1)
+
+    mutual
+      unfolding found FitsRow Every Pays EachMember isOf
+
+      found-valued : (t : Tree) (b u : ℕ) → Fits (all D) u t → Every (Parted D D-pos s i c) t → Pays 60 i t → Every Taken t → Every Counted t
+          → EachMember Valued (found D s i k b u t)
+      found-valued (end p) b u e v h o n = tt
+      found-valued (chance f) b u e v h o n = found-valued-all f (suc b) (λ x. u / fan f) 0 (chance-fits u f e) v h o n
+      found-valued (decide j l f) b u e v h o n = each-cond Valued (b, u, f) (foundAll D s i k (suc b) (given D s i u j l) 0 f) (cond (eqb j i) (same l k) false)
+          (λ w a q. gain-pick-is f u i k 0 a (omega (arith, n .0 (isOf-seat i k (j, l, 0) w) ∙ ap N (isOf-key i k (j, l, 0) w))) (own-fits u j l f e) (v .1) h (o .1))
+          (found-valued-all f (suc b) (given D s i u j l) 0 (given-fits u j l f e) (v .1) h (o .1) (n .1))
+
+      found-valued-all : (f : Trees) (b : ℕ) (g : ℕ → ℕ) (x : ℕ) → FitsRow D g x f → EveryAll (Parted D D-pos s i c) f → PaysAll 60 i f → EveryAll Taken f → EveryAll Counted f
+          → EachMember Valued (foundAll D s i k b g x f)
+      found-valued-all nil b g x e v h o n = tt
+      found-valued-all (cons t f) b g x e v h o n = each-append Valued (found D s i k b (g x) t) (foundAll D s i k (b + size t) g (suc x) f)
+          (found-valued t b (g x) (e .0) (v .0) (h .0) (o .0) (n .0)) (found-valued-all f (b + size t) g (suc x) (e .1) (v .1) (h .1) (o .1) (n .1))
+
+    sum-valued : (a : ℕ) → a < N k → (xs : List Member) → EachMember Valued xs
+        → pos (sumℕ (λ (x : Member). gainPick D s i c (λ y. x .1) 0 (x .2) a) xs)
+        ≡ sum (λ (x : Node). pick c (x .2) a) (map (λ (x : Member). (x .1, k, replyKids D s i true (x .1) i k 0 (x .2))) xs) +ℤ pos (64 * sumℕ (λ (x : Member). x .1) xs)
+    unfolding EachMember sum sumℕ
+    sum-valued a l [] h = refl
+    sum-valued a l (x ∷ xs) h = add-up (pick c (replyKids D s i true (x .1) i k 0 (x .2)) a)
+        (sum (λ (x : Node). pick c (x .2) a) (map (λ (x : Member). (x .1, k, replyKids D s i true (x .1) i k 0 (x .2))) xs))
+        (x .1) (sumℕ (λ (x : Member). x .1) xs) (gainPick D s i c (λ y. x .1) 0 (x .2) a) (sumℕ (λ (x : Member). gainPick D s i c (λ y. x .1) 0 (x .2) a) xs)
+        (h .0 a l) (sum-valued a l xs (h .1))
+
+    pub set-gain-is : (t : Tree) (u : ℕ) → Fits (all D) u t → Valid (all D) s t → Pays 60 i t → Every (λ j l n. j ≡ i → c l < n) t → Every (λ j l n. j ≡ i → n ≡ N l) t
+        → (a : ℕ) → a < N k → pos (setGain D s i c t u k a) ≡ setSum c (replyTree D s i u t) k a +ℤ pos (64 * sumℕ (λ (x : Member). x .1) (found D s i k 0 u t))
+    unfolding setGain
+    set-gain-is t u e v h o n a l = sum-valued a l (found D s i k 0 u t) (found-valued t 0 u e v h o n)
+        ∙ ap (λ xs. sum (λ (x : Node). pick c (x .2) a) xs +ℤ pos (64 * sumℕ (λ (x : Member). x .1) (found D s i k 0 u t))) (sym (members-found D i s k t 0 u))
 
 pub gain-value : GainValue
 gain-value C m D i s t c d g v h o = gain-is D d s i c t (C * D ^ m) (splits-fit D t C m g) v h o

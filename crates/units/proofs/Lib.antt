@@ -3,3 +3,4 @@ pub mod Adding
 pub mod Lifting
 pub mod Found
 pub mod Gains
+pub mod Choices

@@ -33,3 +33,14 @@ SetGainBound = (D i u a : ℕ) (s : Strategy) (t : Tree) (k : Key) (c : Choice) 
 abbrev pub GainValue : Type 0
 GainValue = (C m D i : ℕ) (s : Strategy) (t : Tree) (c : Choice) → 0 < D → Splits C m t → Valid (all D) s t → Pays 60 i t → Every (λ j k n. j ≡ i → c k < n) t
     → pos (gain D s i c (U C D m) t) ≡ value c (replyTree D s i (U C D m) t) +ℤ pos (64 * U C D m)
+
+-- 5. In each of its sets the best choice takes an action that is there: the lowest with the greatest gains.
+abbrev pub BestGains : Type 0
+BestGains = (C m D i : ℕ) (s : Strategy) (t : Tree) → 0 < D → Splits C m t → PerfectRecall i t → Valid (all D) s t → Pays 60 i t → Every (λ j k n. 1 ≤ n) t
+    → Every (λ j k n. j ≡ i → (best (replyTree D s i (U C D m) t) k < n)
+    × (best (replyTree D s i (U C D m) t) k ≡ topmost (setGain D s i (best (replyTree D s i (U C D m) t)) t (U C D m) k) (pred n))) t
+
+-- What the tree gains under it is the best value and 64 for each unit.
+abbrev pub GainBest : Type 0
+GainBest = (C m D i : ℕ) (s : Strategy) (t : Tree) → 0 < D → Splits C m t → PerfectRecall i t → Valid (all D) s t → Pays 60 i t → Every (λ j k n. 1 ≤ n) t
+    → pos (gain D s i (best (replyTree D s i (U C D m) t)) (U C D m) t) ≡ bestValue (replyTree D s i (U C D m) t) +ℤ pos (64 * U C D m)
