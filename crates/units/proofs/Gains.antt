@@ -7,7 +7,7 @@ use native.Mathlib.Nat as NatL
 use native.Mathlib.Omega.{arith}
 use lib.Dec.{eqb}
 use lib.IntN.{ℤ, pos, negsuc, _+ℤ_, natAbs}
-use lib.ListN.{length, take}
+use lib.ListN.{length}
 use lib.Seq.{take-length}
 use Rattle.game.specs.Sums.{sum, sumℕ, parts}
 use Rattle.game.specs.Tree.{Key, Tree, end, chance, decide, Trees, nil, cons, fan, Strategy, all, Every, EveryAll, Pays, PaysAll, Valid}
@@ -22,7 +22,7 @@ use Rattle.units.specs.Lifted.{lift}
 use Rattle.units.specs.Gain.{Member, given, gain, gainAll, gainPick, found, foundAll, setGain}
 use Rattle.units.specs.Gains.{GainBound, SetGainBound, GainValue}
 use Rattle.units.proofs.Lifting.{lift-times, add-up}
-use Rattle.units.proofs.Found.{replyRow, chance-row, decision-row, members-found}
+use Rattle.units.proofs.Found.{replyRow, chance-row, decision-row, seen, members-found}
 
 -- ---- the units of a row, by the child's number
 unfoldable rowUnits : (ℕ → ℕ) → ℕ → Trees → ℕ
@@ -59,6 +59,10 @@ module _ (D : ℕ) (D-pos : 0 < D) (p : ℕ → ℕ) where
   shares-units : (f : Trees) (u q : ℕ) → parts (fan f) p ≡ D → u ≡ D * q → rowUnits (λ y. u * p y / D) 0 f ≡ u
   shares-units f u q e w = parts-units f u q 0 p (λ b. ap p (sym (NatL.zero-add b))) w ∙ ap (λ n. n * q) e ∙ sym w
 
+-- the parts of a set add up to D
+abbrev Parted : ℕ → Strategy → ℕ → Key → ℕ → Type 0
+Parted D s j k n = parts n (s j k) ≡ D
+
 -- ---- a property of each member
 unfoldable pub EachMember : (Member → Type 0) → List Member → Type 0
 EachMember P [] = Unit {0}
@@ -80,13 +84,10 @@ lift-most (pos a) h = omega arith
 lift-most (negsuc a) h = omega arith
 
 module _ (D : ℕ) (D-pos : 0 < D) (s : Strategy) (i : ℕ) (c : Choice) where
-  abbrev Parted : ℕ → Key → ℕ → Type 0
-  Parted j k n = parts n (s j k) ≡ D
-
   mutual
     unfolding gain rowUnits Every Pays fan share
 
-    gain-most : (t : Tree) (u : ℕ) → Every Parted t → Pays 60 i t → gain D s i c u t ≤ u * 124
+    gain-most : (t : Tree) (u : ℕ) → Every (Parted D s) t → Pays 60 i t → gain D s i c u t ≤ u * 124
     gain-most (end p) u v h = NatL.mul-le-mul-left u (lift-most (p i) h)
     gain-most (chance f) u v h = NatL.le-trans (gain-all-most f (λ y. u / fan f) 0 v h)
         (NatL.mul-le-mul-right 124 (NatL.le-trans (NatL.le-of-eq (same-units f (u / fan f) 0)) (NatL.mul-div-le u (fan f))))
@@ -97,11 +98,11 @@ module _ (D : ℕ) (D-pos : 0 < D) (s : Strategy) (i : ℕ) (c : Choice) where
         at true x y = x
         at false x y = NatL.le-trans y (NatL.mul-le-mul-right 124 (shares-most D D-pos (s j k) f u (v .0)))
 
-    gain-all-most : (f : Trees) (g : ℕ → ℕ) (x : ℕ) → EveryAll Parted f → PaysAll 60 i f → gainAll D s i c g x f ≤ rowUnits g x f * 124
+    gain-all-most : (f : Trees) (g : ℕ → ℕ) (x : ℕ) → EveryAll (Parted D s) f → PaysAll 60 i f → gainAll D s i c g x f ≤ rowUnits g x f * 124
     gain-all-most nil g x v h = zero-le
     gain-all-most (cons t f) g x v h = omega (arith, gain-most t (g x) (v .0) (h .0), gain-all-most f g (suc x) (v .1) (h .1))
 
-    gain-pick-most : (f : Trees) (u x a : ℕ) → EveryAll Parted f → PaysAll 60 i f → gainPick D s i c (λ y. u) x f a ≤ u * 124
+    gain-pick-most : (f : Trees) (u x a : ℕ) → EveryAll (Parted D s) f → PaysAll 60 i f → gainPick D s i c (λ y. u) x f a ≤ u * 124
     gain-pick-most nil u x a v h = zero-le
     gain-pick-most (cons t f) u x zero v h = gain-most t u (v .0) (h .0)
     gain-pick-most (cons t f) u x (suc a) v h = gain-pick-most f u (suc x) a (v .1) (h .1)
@@ -114,13 +115,13 @@ module _ (D : ℕ) (D-pos : 0 < D) (s : Strategy) (i : ℕ) (c : Choice) where
     mutual
       unfolding found Every Pays EachMember
 
-      found-small : (t : Tree) (b u : ℕ) → Every Parted t → Pays 60 i t → EachMember Small (found D s i k b u t)
+      found-small : (t : Tree) (b u : ℕ) → Every (Parted D s) t → Pays 60 i t → EachMember Small (found D s i k b u t)
       found-small (end p) b u v h = tt
       found-small (chance f) b u v h = found-small-all f (suc b) (λ x. u / fan f) 0 v h
       found-small (decide j l f) b u v h = each-cond Small (b, u, f) (foundAll D s i k (suc b) (given D s i u j l) 0 f) (cond (eqb j i) (same l k) false)
           (λ e. gain-pick-most f u 0 a (v .1) h) (found-small-all f (suc b) (given D s i u j l) 0 (v .1) h)
 
-      found-small-all : (f : Trees) (b : ℕ) (g : ℕ → ℕ) (x : ℕ) → EveryAll Parted f → PaysAll 60 i f → EachMember Small (foundAll D s i k b g x f)
+      found-small-all : (f : Trees) (b : ℕ) (g : ℕ → ℕ) (x : ℕ) → EveryAll (Parted D s) f → PaysAll 60 i f → EachMember Small (foundAll D s i k b g x f)
       found-small-all nil b g x v h = tt
       found-small-all (cons t f) b g x v h = each-append Small (found D s i k b (g x) t) (foundAll D s i k (b + size t) g (suc x) f)
           (found-small t b (g x) (v .0) (h .0)) (found-small-all f (b + size t) g (suc x) (v .1) (h .1))
@@ -130,7 +131,7 @@ module _ (D : ℕ) (D-pos : 0 < D) (s : Strategy) (i : ℕ) (c : Choice) where
     sum-small [] h = zero-le
     sum-small (x ∷ xs) h = omega (arith, h .0, sum-small xs (h .1))
 
-  sumℕ-seen : (k : Key) (xs : List Member) → sumℕ (λ (x : Node). x .0) (map (λ (x : Member). (x .1, k, replyKids D s i true (x .1) i k 0 (x .2))) xs) ≡ sumℕ (λ (x : Member). x .1) xs
+  sumℕ-seen : (k : Key) (xs : List Member) → sumℕ (λ (x : Node). x .0) (map (seen D s i k) xs) ≡ sumℕ (λ (x : Member). x .1) xs
   unfolding sumℕ
   sumℕ-seen k [] = refl
   sumℕ-seen k (x ∷ xs) = ap (λ n. x .1 + n) (sumℕ-seen k xs)
@@ -193,7 +194,7 @@ module _ (D : ℕ) (D-pos : 0 < D) (s : Strategy) (i : ℕ) (c : Choice) where
   mutual
     unfolding gain replyTree replyRow value rowUnits FitsRow Fits Every Pays fan share node
 
-    gain-is : (t : Tree) (u : ℕ) → Fits (all D) u t → Every (Parted D D-pos s i c) t → Pays 60 i t → Every Taken t
+    gain-is : (t : Tree) (u : ℕ) → Fits (all D) u t → Every (Parted D s) t → Pays 60 i t → Every Taken t
         → pos (gain D s i c u t) ≡ value c (replyTree D s i u t) +ℤ pos (64 * u)
     gain-is (end p) u e v h o = lift-times u (p i) h
     gain-is (chance f) u e v h o = gain-all-is f (λ y. u / fan f) 0 (chance-fits u f e) v h o
@@ -209,13 +210,13 @@ module _ (D : ℕ) (D-pos : 0 < D) (s : Strategy) (i : ℕ) (c : Choice) where
         at true x y = x refl
         at false x y = y
 
-    gain-all-is : (f : Trees) (g : ℕ → ℕ) (x : ℕ) → FitsRow D g x f → EveryAll (Parted D D-pos s i c) f → PaysAll 60 i f → EveryAll Taken f
+    gain-all-is : (f : Trees) (g : ℕ → ℕ) (x : ℕ) → FitsRow D g x f → EveryAll (Parted D s) f → PaysAll 60 i f → EveryAll Taken f
         → pos (gainAll D s i c g x f) ≡ total c (replyRow D s i g x f) +ℤ pos (64 * rowUnits g x f)
     gain-all-is nil g x e v h o = refl
     gain-all-is (cons t f) g x e v h o = add-up (value c (replyTree D s i (g x) t)) (total c (replyRow D s i g (suc x) f)) (g x) (rowUnits g (suc x) f)
         (gain D s i c (g x) t) (gainAll D s i c g (suc x) f) (gain-is t (g x) (e .0) (v .0) (h .0) (o .0)) (gain-all-is f g (suc x) (e .1) (v .1) (h .1) (o .1))
 
-    gain-pick-is : (f : Trees) (u j : ℕ) (k : Key) (x a : ℕ) → a < fan f → FitsAll (all D) u f → EveryAll (Parted D D-pos s i c) f → PaysAll 60 i f → EveryAll Taken f
+    gain-pick-is : (f : Trees) (u j : ℕ) (k : Key) (x a : ℕ) → a < fan f → FitsAll (all D) u f → EveryAll (Parted D s) f → PaysAll 60 i f → EveryAll Taken f
         → pos (gainPick D s i c (λ y. u) x f a) ≡ pick c (replyKids D s i true u j k x f) a +ℤ pos (64 * u)
     gain-pick-is nil u j k x a l e v h o = absurd (NatL.not-suc-le-zero l)
     gain-pick-is (cons t f) u j k x zero l e v h o = gain-is t u (e .0) (v .0) (h .0) (o .0)
@@ -232,7 +233,7 @@ module _ (D : ℕ) (D-pos : 0 < D) (s : Strategy) (i : ℕ) (c : Choice) where
     mutual
       unfolding found FitsRow Every Pays EachMember isOf
 
-      found-valued : (t : Tree) (b u : ℕ) → Fits (all D) u t → Every (Parted D D-pos s i c) t → Pays 60 i t → Every Taken t → Every Counted t
+      found-valued : (t : Tree) (b u : ℕ) → Fits (all D) u t → Every (Parted D s) t → Pays 60 i t → Every Taken t → Every Counted t
           → EachMember Valued (found D s i k b u t)
       found-valued (end p) b u e v h o n = tt
       found-valued (chance f) b u e v h o n = found-valued-all f (suc b) (λ x. u / fan f) 0 (chance-fits u f e) v h o n
@@ -240,7 +241,7 @@ module _ (D : ℕ) (D-pos : 0 < D) (s : Strategy) (i : ℕ) (c : Choice) where
           (λ w a q. gain-pick-is f u i k 0 a (omega (arith, n .0 (isOf-seat i k (j, l, 0) w) ∙ ap N (isOf-key i k (j, l, 0) w))) (own-fits u j l f e) (v .1) h (o .1))
           (found-valued-all f (suc b) (given D s i u j l) 0 (given-fits u j l f e) (v .1) h (o .1) (n .1))
 
-      found-valued-all : (f : Trees) (b : ℕ) (g : ℕ → ℕ) (x : ℕ) → FitsRow D g x f → EveryAll (Parted D D-pos s i c) f → PaysAll 60 i f → EveryAll Taken f → EveryAll Counted f
+      found-valued-all : (f : Trees) (b : ℕ) (g : ℕ → ℕ) (x : ℕ) → FitsRow D g x f → EveryAll (Parted D s) f → PaysAll 60 i f → EveryAll Taken f → EveryAll Counted f
           → EachMember Valued (foundAll D s i k b g x f)
       found-valued-all nil b g x e v h o n = tt
       found-valued-all (cons t f) b g x e v h o n = each-append Valued (found D s i k b (g x) t) (foundAll D s i k (b + size t) g (suc x) f)
@@ -248,11 +249,11 @@ module _ (D : ℕ) (D-pos : 0 < D) (s : Strategy) (i : ℕ) (c : Choice) where
 
     sum-valued : (a : ℕ) → a < N k → (xs : List Member) → EachMember Valued xs
         → pos (sumℕ (λ (x : Member). gainPick D s i c (λ y. x .1) 0 (x .2) a) xs)
-        ≡ sum (λ (x : Node). pick c (x .2) a) (map (λ (x : Member). (x .1, k, replyKids D s i true (x .1) i k 0 (x .2))) xs) +ℤ pos (64 * sumℕ (λ (x : Member). x .1) xs)
+        ≡ sum (λ (x : Node). pick c (x .2) a) (map (seen D s i k) xs) +ℤ pos (64 * sumℕ (λ (x : Member). x .1) xs)
     unfolding EachMember sum sumℕ
     sum-valued a l [] h = refl
     sum-valued a l (x ∷ xs) h = add-up (pick c (replyKids D s i true (x .1) i k 0 (x .2)) a)
-        (sum (λ (x : Node). pick c (x .2) a) (map (λ (x : Member). (x .1, k, replyKids D s i true (x .1) i k 0 (x .2))) xs))
+        (sum (λ (x : Node). pick c (x .2) a) (map (seen D s i k) xs))
         (x .1) (sumℕ (λ (x : Member). x .1) xs) (gainPick D s i c (λ y. x .1) 0 (x .2) a) (sumℕ (λ (x : Member). gainPick D s i c (λ y. x .1) 0 (x .2) a) xs)
         (h .0 a l) (sum-valued a l xs (h .1))
 
