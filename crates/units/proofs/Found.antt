@@ -2,7 +2,7 @@
 use mathlib.Core.Path.{_≡_, refl, sym, ap, ap₂, _∙_}
 use mathlib.Core.Bool.{Bool, true, false, cond}
 use mathlib.Core.List.{List, [], _∷_, _++_, map}
-use Prim.Native.Nat.{ℕ, zero, suc, _+_, _*_, _/_}
+use Prim.Native.Nat.{ℕ, suc, _+_, _/_}
 use native.Mathlib.Nat as NatL
 use native.Mathlib.Omega.{arith}
 use lib.Dec.{eqb}
@@ -76,14 +76,10 @@ module _ (D : ℕ) (s : Strategy) (i : ℕ) where
   decision-row nil b u j k x = refl
   decision-row (cons t f) b u j k x = ap (more (replyTree D s i (share D b u (s j k x)) t)) (decision-row f b u j k (suc x))
 
-  -- own moves pass all units on
-  pub own-row : (f : Trees) (u j : ℕ) (k : Key) (x : ℕ) → replyKids D s i true u j k x f ≡ replyRow (λ y. u) x f
-  unfolding share
-  own-row f u j k x = decision-row f true u j k x
-
 -- ---- the members
 module _ (D : ℕ) (s : Strategy) (i : ℕ) (k : Key) where
-  abbrev seen : Member → Node
+  -- a member, as a node of the reply tree
+  abbrev pub seen : Member → Node
   seen x = (x .1, k, replyKids D s i true (x .1) i k 0 (x .2))
 
   at-decision : (u j : ℕ) (l : Key) (f : Trees) (a : ℕ) (r : List Member) (b : Bool) → (b ≡ true → j ≡ i)

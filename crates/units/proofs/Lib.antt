@@ -2,3 +2,5 @@ pub mod Six
 pub mod Adding
 pub mod Lifting
 pub mod Found
+pub mod Gains
+pub mod Choices

@@ -14,12 +14,12 @@ lift-is : (z : ℤ) → natAbs z ≤ 60 → pos (lift z) ≡ z +ℤ pos 64
 lift-is (pos a) h = refl
 lift-is (negsuc a) h = sym (rw (le-ltb 64 (suc a) (omega arith)) refl)
 
-lift-times : (u : ℕ) (z : ℤ) → natAbs z ≤ 60 → pos (u * lift z) ≡ u · z +ℤ pos (64 * u)
+pub lift-times : (u : ℕ) (z : ℤ) → natAbs z ≤ 60 → pos (u * lift z) ≡ u · z +ℤ pos (64 * u)
 unfolding _·_
 lift-times u z h = ap (λ y. u · y) (lift-is z h) ∙ ·-sum u z (pos 64) ∙ ap (λ x. u · z +ℤ pos x) (NatL.mul-comm u 64)
 
 -- two sums, each with its units
-add-up : (a b : ℤ) (x y l m : ℕ) → pos l ≡ a +ℤ pos (64 * x) → pos m ≡ b +ℤ pos (64 * y) → pos (l + m) ≡ (a +ℤ b) +ℤ pos (64 * (x + y))
+pub add-up : (a b : ℤ) (x y l m : ℕ) → pos l ≡ a +ℤ pos (64 * x) → pos m ≡ b +ℤ pos (64 * y) → pos (l + m) ≡ (a +ℤ b) +ℤ pos (64 * (x + y))
 add-up a b x y l m p q = ap₂ _+ℤ_ p q ∙ +ℤ-assoc a (pos (64 * x)) (b +ℤ pos (64 * y)) ∙ ap (λ z. a +ℤ z) (+ℤ-left-comm (pos (64 * x)) b (pos (64 * y)))
     ∙ sym (+ℤ-assoc a b (pos (64 * x) +ℤ pos (64 * y))) ∙ ap (λ z. a +ℤ b +ℤ pos z) (omega arith)
 

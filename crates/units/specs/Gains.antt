@@ -19,3 +19,28 @@ PlacesFound = (D i : ℕ) (s : Strategy) (k : Key) (t : Tree) (a u : ℕ) → ma
 abbrev pub MembersFound : Type 0
 MembersFound = (D i : ℕ) (s : Strategy) (k : Key) (t : Tree) (a u : ℕ)
     → members (replyTree D s i u t) k ≡ map (λ (x : Member). (x .1, k, replyKids D s i true (x .1) i k 0 (x .2))) (found D s i k a u t)
+
+-- 3. A gain is at most 124 for each unit, under any choice, and from any number of units.
+abbrev pub GainBound : Type 0
+GainBound = (D i u : ℕ) (s : Strategy) (t : Tree) (c : Choice) → 0 < D → Valid (all D) s t → Pays 60 i t → gain D s i c u t ≤ u * 124
+
+-- So are the gains behind an action of a set, added over all its members.
+abbrev pub SetGainBound : Type 0
+SetGainBound = (D i u a : ℕ) (s : Strategy) (t : Tree) (k : Key) (c : Choice) → 0 < D → PerfectRecall i t → Valid (all D) s t → Pays 60 i t
+    → setGain D s i c t u k a ≤ u * 124
+
+-- 4. Where the choice takes actions that are there, a gain is the value of the reply tree and 64 for each unit.
+abbrev pub GainValue : Type 0
+GainValue = (C m D i : ℕ) (s : Strategy) (t : Tree) (c : Choice) → 0 < D → Splits C m t → Valid (all D) s t → Pays 60 i t → Every (λ j k n. j ≡ i → c k < n) t
+    → pos (gain D s i c (U C D m) t) ≡ value c (replyTree D s i (U C D m) t) +ℤ pos (64 * U C D m)
+
+-- 5. In each of its sets the best choice takes an action that is there: the lowest with the greatest gains.
+abbrev pub BestGains : Type 0
+BestGains = (C m D i : ℕ) (s : Strategy) (t : Tree) → 0 < D → Splits C m t → PerfectRecall i t → Valid (all D) s t → Pays 60 i t → Every (λ j k n. 1 ≤ n) t
+    → Every (λ j k n. j ≡ i → (best (replyTree D s i (U C D m) t) k < n)
+    × (best (replyTree D s i (U C D m) t) k ≡ topmost (setGain D s i (best (replyTree D s i (U C D m) t)) t (U C D m) k) (pred n))) t
+
+-- What the tree gains under it is the best value and 64 for each unit.
+abbrev pub GainBest : Type 0
+GainBest = (C m D i : ℕ) (s : Strategy) (t : Tree) → 0 < D → Splits C m t → PerfectRecall i t → Valid (all D) s t → Pays 60 i t → Every (λ j k n. 1 ≤ n) t
+    → pos (gain D s i (best (replyTree D s i (U C D m) t)) (U C D m) t) ≡ bestValue (replyTree D s i (U C D m) t) +ℤ pos (64 * U C D m)
