@@ -2,3 +2,4 @@
 pub mod Scenes
 pub mod Valuing
 pub mod Choosing
+pub mod Picking

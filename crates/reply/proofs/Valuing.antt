@@ -1,7 +1,7 @@
 -- The value of a node from those of its children. Assumes nothing.
 use mathlib.Core.Path.{_≡_, refl, sym, ap, _∙_, subst}
 use mathlib.Core.Bool.{Bool, true, false, cond}
-use mathlib.Core.List.{List}
+use mathlib.Core.List.{List, [], _∷_}
 use Prim.Native.Nat.{ℕ, zero, suc, pred, _+_, _-_, _*_, _/_, _%_, _^_, _≤_, _<_}
 use native.Mathlib.Nat as NatL
 use native.Mathlib.Omega.{arith}
@@ -205,3 +205,13 @@ unfolding Every Levels
 own-is i d h b k a x old mid new c at r p q v S m y u f e n g =
     let o : Noted S mid × (c ≡ S .choice y) = p S m y (subst (Known S i y) (sym n) (g .known .0)) e (sym (g .level .1)) in
     own-value i d h b k a x old mid new c at r q v S (o .0) y u f g (o .1)
+
+-- ---- numbers in range
+pub walk-at : (a i d h b k : ℕ) → Walkable a i d h b k → (c e : ℕ) → e ≤ d → c + e < 8388608 → Walkable c i e h b k
+walk-at a i d h b k w c e l m = record { place = m; seat = w .seat; shallow = omega (arith, w .shallow); heads = w .heads; units = w .units; kept = w .kept }
+
+pub two-few : (x y : ℕ) → topmost (λ a. getD (x ∷ y ∷ []) a 0) 1 ≤ 1
+two-few x y = topmost-few (λ a. getD (x ∷ y ∷ []) a 0) 1
+
+pub three-few : (x y z : ℕ) → topmost (λ a. getD (x ∷ y ∷ z ∷ []) a 0) 2 ≤ 2
+three-few x y z = topmost-few (λ a. getD (x ∷ y ∷ z ∷ []) a 0) 2

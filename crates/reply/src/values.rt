@@ -17,7 +17,7 @@ use arena::words::put;
 use arena::words::set;
 use arena::words::word;
 use std::num::wrapping_add_u64;
-ghost use Prim.Native.Nat.{_<_};
+ghost use Prim.Native.Nat.{_+_};
 ghost use Rattle.reply.specs.Valued.{Walkable, Valued, ValuedAll, ValuedOwn, Totalled, Chosen};
 
 // Units are below this number, 2^57.
@@ -92,7 +92,7 @@ fn own(
     units: usize,
     kept: usize,
 ) -> u64
-    requires { ⌜ Walkable a seat depth heads units kept ⌝ }
+    requires { ⌜ Walkable (a + 1) seat depth heads units kept ⌝ }
     ensures { λ r. ⌜ ValuedOwn seat depth heads units kept a x (now (w .entry)) (now (w .exit)) r ⌝ }
 {
     let choice = choose(w, set(x), actions(x), seat, depth, heads, units, kept);

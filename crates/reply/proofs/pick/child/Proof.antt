@@ -1,3 +1,5 @@
+use denote.Ref.{now}
+use Rattle.reply.proofs.Picking as picking
 use borrow.Author.Needs.{needs}
 use Rattle.reply.proofs.pick.child.Statement.{statement}
 use Rattle.reply.proofs.pick.child.Tie as tie
@@ -11,7 +13,7 @@ add-first c = search needs
 
 -- src/pick.rt:20:9
 returns : tie.Need-returns
-returns c = ?
+returns c = picking.first (now (c .before .before .args .w)) (c .before .before .args .a) (c .before .before .args .c) (c .if1 .taken)
 
 -- src/pick.rt:22:9
 behind-requires : tie.Need-behind-requires
@@ -19,7 +21,7 @@ behind-requires c κs = search needs
 
 -- src/pick.rt:24:9
 returns-2 : tie.Need-returns-2
-returns-2 c = ?
+returns-2 c = picking.second (now (c .before .before .before .before .args .w)) (c .before .before .before .before .args .a) (c .before .before .before .before .args .c) (c .before .behind .result) (c .before .behind .ensures) (c .if2 .taken)
 
 -- src/pick.rt:26:5
 behind-requires-2 : tie.Need-behind-requires-2
@@ -27,7 +29,7 @@ behind-requires-2 c κs = search needs
 
 -- src/pick.rt:14:1
 returns-3 : tie.Need-returns-3
-returns-3 c = ?
+returns-3 c = picking.third (now (c .before .before .before .before .before .args .w)) (c .before .before .before .before .before .args .a) (c .before .before .before .before .before .args .c) (c .before .before .behind .result) (c .behind2 .result) (c .before .before .before .if1 .left) (c .before .if2 .left) (c .before .before .behind .ensures) (c .behind2 .ensures)
 
 pub child-spec : {M : Type 1} → statement M
 child-spec =

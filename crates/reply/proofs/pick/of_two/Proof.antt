@@ -1,3 +1,4 @@
+use Rattle.reply.proofs.Picking as picking
 use Rattle.reply.proofs.pick.of_two.Statement.{statement}
 use Rattle.reply.proofs.pick.of_two.Tie as tie
 use Rattle.reply.proofs.pick.of_two.Reads as reads
@@ -5,11 +6,11 @@ use Rattle.reply.proofs.pick.of_two.Lts as lts
 
 -- src/pick.rt:30:1
 returns : tie.Need-returns
-returns c = ?
+returns c = picking.two-up _ _ (c .if1 .taken)
 
 -- src/pick.rt:30:1
 returns-2 : tie.Need-returns-2
-returns-2 c = ?
+returns-2 c = picking.two-stays _ _ (c .if1 .left)
 
 pub of-two-spec : {M : Type 1} → statement M
 of-two-spec = tie.close (tie.spec returns returns-2)

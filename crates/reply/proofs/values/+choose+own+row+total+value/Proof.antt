@@ -1,3 +1,16 @@
+use lib.ListN.{length}
+use Rattle.reply.specs.Valued.{Chosen}
+use denote.Ref.{now}
+use mathlib.Core.Path.{_≡_, refl, sym, ap, _∙_, subst}
+use Prim.Native.Nat.{_%_}
+use Rattle.arena.specs.Words.{kindOf, actorOf, nextOf, laterOf, setOf, actionsOf}
+use Rattle.units.proofs.Six.{times-fits}
+use Rattle.reply.specs.Valued.{ValuedAll}
+use native.Mathlib.Omega.{arith}
+use Prim.Native.Nat.{_+_, _*_, _-_, _≤_}
+use borrow.Author.Needs.{needs}
+use Rattle.reply.proofs.Valuing as valuing
+use Rattle.reply.proofs.Choosing as choosing
 use Prim.Native.Nat.{ℕ, _<_}
 use borrow.Fn.Kinds.{In}
 use borrow.Fn.PlainCycle.{Measures, is, falls, and}
@@ -34,19 +47,19 @@ use Rattle.reply.proofs.values.+choose+own+row+total+value.{statement}
 use Rattle.reply.proofs.values.+choose+own+row+total+value.Tie.{close}
 
 abbrev μ-choose : Measures 1 choose-kinds.ps ℕ
-μ-choose κs a = ?
+μ-choose κs a = 4 * a .1 .1 .1 .1 .0 + 2
 
 abbrev μ-own : Measures 1 own-kinds.ps ℕ
-μ-own κs a = ?
+μ-own κs a = 4 * a .1 .1 .1 .1 .0 + 3
 
 abbrev μ-row : Measures 1 row-kinds.ps ℕ
-μ-row κs a = ?
+μ-row κs a = 4 * a .1 .1 .1 .1 .0 + 1
 
 abbrev μ-total : Measures 1 total-kinds.ps ℕ
-μ-total κs a = ?
+μ-total κs a = 4 * a .1 .1 .1 .1 .0 + 1
 
 abbrev μ-value : Measures 1 value-kinds.ps ℕ
-μ-value κs a = ?
+μ-value κs a = 4 * a .1 .1 .1 .0
 
 abbrev choose-at : ℕ → In 1 choose-kinds.ps
 choose-at t = and 1 choose-kinds.ps (is 1 choose-kinds.ps μ-choose t) choose.Pre
@@ -91,7 +104,7 @@ choose-add-word : (t : ℕ) → choose-lts.Need-add-word (
   of-three-reads.Asked,
   of-three-reads.Learnt,
 ) (choose-at t) choose.Post
-choose-add-word t c = ?
+choose-add-word t c = record { fits = omega (arith, c .before .before .pre .1 .kept, c .before .before .pre .1 .place) }
 
 -- src/values.rt:117:9
 choose-word-requires : (t : ℕ) → choose-lts.Need-word-requires (
@@ -106,7 +119,7 @@ choose-word-requires : (t : ℕ) → choose-lts.Need-word-requires (
   of-three-reads.Asked,
   of-three-reads.Learnt,
 ) (choose-at t) choose.Post
-choose-word-requires t c κs = ?
+choose-word-requires t c κs = search needs
 
 -- src/values.rt:119:16
 choose-sub-result : (t : ℕ) → choose-lts.Need-sub-result (
@@ -121,7 +134,7 @@ choose-sub-result : (t : ℕ) → choose-lts.Need-sub-result (
   of-three-reads.Asked,
   of-three-reads.Learnt,
 ) (choose-at t) choose.Post
-choose-sub-result t c = ?
+choose-sub-result t c = omega (arith, c .if1 .taken)
 
 -- src/values.rt:119:9
 choose-same-length : (t : ℕ) → choose-lts.Need-same-length (
@@ -136,7 +149,7 @@ choose-same-length : (t : ℕ) → choose-lts.Need-same-length (
   of-three-reads.Asked,
   of-three-reads.Learnt,
 ) (choose-at t) choose.Post
-choose-same-length t c = ?
+choose-same-length t c = search needs
 
 -- src/values.rt:119:9
 choose-returns : (t : ℕ) → choose-lts.Need-returns (
@@ -151,7 +164,7 @@ choose-returns : (t : ℕ) → choose-lts.Need-returns (
   of-three-reads.Asked,
   of-three-reads.Learnt,
 ) (choose-at t) choose.Post
-choose-returns t c = ?
+choose-returns t c = choosing.chosen-known (c .before .before .before .before .args .seat) (c .before .before .before .before .args .depth) (c .before .before .before .before .args .heads) (c .before .before .before .before .args .units) (c .before .before .before .before .args .kept) (c .before .before .before .before .args .first) (c .before .before .before .before .args .count) (now (c .before .before .before .before .args .w)) (c .before .word .result) _ (c .before .word .ensures) (c .if1 .taken) refl
 
 -- src/values.rt:121:9
 choose-total-requires : (t : ℕ) → choose-lts.Need-total-requires (
@@ -166,7 +179,7 @@ choose-total-requires : (t : ℕ) → choose-lts.Need-total-requires (
   of-three-reads.Asked,
   of-three-reads.Learnt,
 ) (choose-at t) choose.Post
-choose-total-requires t c κs = ?
+choose-total-requires t c κs = (omega (arith, c .before .before .before .before .before .pre .0), c .before .before .before .before .before .pre .1)
 
 -- src/values.rt:122:9
 choose-total-requires-2 : (t : ℕ) → choose-lts.Need-total-requires-2 (
@@ -181,7 +194,7 @@ choose-total-requires-2 : (t : ℕ) → choose-lts.Need-total-requires-2 (
   of-three-reads.Asked,
   of-three-reads.Learnt,
 ) (choose-at t) choose.Post
-choose-total-requires-2 t c κs = ?
+choose-total-requires-2 t c κs = (omega (arith, c .before .before .before .before .before .before .before .before .before .pre .0), c .before .before .before .before .before .before .before .before .before .pre .1)
 
 -- src/values.rt:124:13
 choose-of-two-requires : (t : ℕ) → choose-lts.Need-of-two-requires (
@@ -196,7 +209,7 @@ choose-of-two-requires : (t : ℕ) → choose-lts.Need-of-two-requires (
   of-three-reads.Asked,
   of-three-reads.Learnt,
 ) (choose-at t) choose.Post
-choose-of-two-requires t c κs = ?
+choose-of-two-requires t c κs = search needs
 
 -- src/values.rt:125:16
 choose-add-put : (t : ℕ) → choose-lts.Need-add-put (
@@ -211,7 +224,7 @@ choose-add-put : (t : ℕ) → choose-lts.Need-add-put (
   of-three-reads.Asked,
   of-three-reads.Learnt,
 ) (choose-at t) choose.Post
-choose-add-put t c = ?
+choose-add-put t c = record { fits = omega (arith, c .before .before .before .before .before .before .before .before .before .before .before .before .before .before .before .pre .1 .kept, c .before .before .before .before .before .before .before .before .before .before .before .before .before .before .before .pre .1 .place) }
 
 -- src/values.rt:125:30
 choose-add-put-2 : (t : ℕ) → choose-lts.Need-add-put-2 (
@@ -226,7 +239,7 @@ choose-add-put-2 : (t : ℕ) → choose-lts.Need-add-put-2 (
   of-three-reads.Asked,
   of-three-reads.Learnt,
 ) (choose-at t) choose.Post
-choose-add-put-2 t c = ?
+choose-add-put-2 t c = record { fits = omega (arith, valuing.two-few (c .before .before .before .before .before .before .before .before .before .total .result) (c .before .before .before .before .before .total2 .result), c .before .of-two .ensures) }
 
 -- src/values.rt:125:9
 choose-put-requires : (t : ℕ) → choose-lts.Need-put-requires (
@@ -241,7 +254,7 @@ choose-put-requires : (t : ℕ) → choose-lts.Need-put-requires (
   of-three-reads.Asked,
   of-three-reads.Learnt,
 ) (choose-at t) choose.Post
-choose-put-requires t c κs = ?
+choose-put-requires t c κs = search needs
 
 -- src/values.rt:126:9
 choose-same-length-2 : (t : ℕ) → choose-lts.Need-same-length-2 (
@@ -256,7 +269,7 @@ choose-same-length-2 : (t : ℕ) → choose-lts.Need-same-length-2 (
   of-three-reads.Asked,
   of-three-reads.Learnt,
 ) (choose-at t) choose.Post
-choose-same-length-2 t c = ?
+choose-same-length-2 t c = search needs
 
 -- src/values.rt:126:9
 choose-returns-2 : (t : ℕ) → choose-lts.Need-returns-2 (
@@ -271,7 +284,7 @@ choose-returns-2 : (t : ℕ) → choose-lts.Need-returns-2 (
   of-three-reads.Asked,
   of-three-reads.Learnt,
 ) (choose-at t) choose.Post
-choose-returns-2 t c = ?
+choose-returns-2 t c = choosing.chosen-two (c .before .before .before .before .before .before .before .before .before .before .before .before .before .before .before .before .before .before .args .seat) (c .before .before .before .before .before .before .before .before .before .before .before .before .before .before .before .before .before .before .args .depth) (c .before .before .before .before .before .before .before .before .before .before .before .before .before .before .before .before .before .before .args .heads) (c .before .before .before .before .before .before .before .before .before .before .before .before .before .before .before .before .before .before .args .units) (c .before .before .before .before .before .before .before .before .before .before .before .before .before .before .before .before .before .before .args .kept) (c .before .before .before .before .before .before .before .before .before .before .before .before .before .before .before .before .before .before .args .first) (c .before .before .before .before .before .before .before .before .before .before .before .before .before .before .before .before .before .before .args .count) (now (c .before .before .before .before .before .before .before .before .before .before .before .before .before .before .before .before .before .before .args .w)) (c .before .before .before .before .before .before .before .before .before .before .before .before .total .last .0) (c .before .before .before .before .before .before .before .before .total2 .last .0) (c .before .before .put .last .0) (c .before .before .before .before .before .before .before .before .before .before .before .before .total .result) (c .before .before .before .before .before .before .before .before .total2 .result) (c .before .before .before .before .of-two .result) (c .before .before .before .before .before .before .before .before .before .before .before .before .total .ensures) (c .before .before .before .before .before .before .before .before .total2 .ensures) (c .before .before .before .before .before .if2 .taken) (c .before .before .before .before .of-two .ensures) (c .before .before .put .ensures)
 
 -- src/values.rt:128:9
 choose-total-requires-3 : (t : ℕ) → choose-lts.Need-total-requires-3 (
@@ -286,7 +299,7 @@ choose-total-requires-3 : (t : ℕ) → choose-lts.Need-total-requires-3 (
   of-three-reads.Asked,
   of-three-reads.Learnt,
 ) (choose-at t) choose.Post
-choose-total-requires-3 t c κs = ?
+choose-total-requires-3 t c κs = (omega (arith, c .before .before .before .before .before .before .before .before .before .before .before .before .before .before .pre .0), c .before .before .before .before .before .before .before .before .before .before .before .before .before .before .pre .1)
 
 -- src/values.rt:129:9
 choose-of-three-requires : (t : ℕ) → choose-lts.Need-of-three-requires (
@@ -301,7 +314,7 @@ choose-of-three-requires : (t : ℕ) → choose-lts.Need-of-three-requires (
   of-three-reads.Asked,
   of-three-reads.Learnt,
 ) (choose-at t) choose.Post
-choose-of-three-requires t c κs = ?
+choose-of-three-requires t c κs = search needs
 
 -- src/values.rt:130:12
 choose-add-put-3 : (t : ℕ) → choose-lts.Need-add-put-3 (
@@ -316,7 +329,7 @@ choose-add-put-3 : (t : ℕ) → choose-lts.Need-add-put-3 (
   of-three-reads.Asked,
   of-three-reads.Learnt,
 ) (choose-at t) choose.Post
-choose-add-put-3 t c = ?
+choose-add-put-3 t c = record { fits = omega (arith, c .before .before .before .before .before .before .before .before .before .before .before .before .before .before .before .before .before .before .before .pre .1 .kept, c .before .before .before .before .before .before .before .before .before .before .before .before .before .before .before .before .before .before .before .pre .1 .place) }
 
 -- src/values.rt:130:26
 choose-add-put-4 : (t : ℕ) → choose-lts.Need-add-put-4 (
@@ -331,7 +344,7 @@ choose-add-put-4 : (t : ℕ) → choose-lts.Need-add-put-4 (
   of-three-reads.Asked,
   of-three-reads.Learnt,
 ) (choose-at t) choose.Post
-choose-add-put-4 t c = ?
+choose-add-put-4 t c = record { fits = omega (arith, valuing.three-few (c .before .before .before .before .before .before .before .before .before .before .before .before .before .total .result) (c .before .before .before .before .before .before .before .before .before .total2 .result) (c .before .before .before .before .total3 .result), c .before .of-three .ensures) }
 
 -- src/values.rt:130:5
 choose-put-requires-2 : (t : ℕ) → choose-lts.Need-put-requires-2 (
@@ -346,7 +359,7 @@ choose-put-requires-2 : (t : ℕ) → choose-lts.Need-put-requires-2 (
   of-three-reads.Asked,
   of-three-reads.Learnt,
 ) (choose-at t) choose.Post
-choose-put-requires-2 t c κs = ?
+choose-put-requires-2 t c κs = search needs
 
 -- src/values.rt:104:1
 choose-same-length-3 : (t : ℕ) → choose-lts.Need-same-length-3 (
@@ -361,7 +374,7 @@ choose-same-length-3 : (t : ℕ) → choose-lts.Need-same-length-3 (
   of-three-reads.Asked,
   of-three-reads.Learnt,
 ) (choose-at t) choose.Post
-choose-same-length-3 t c = ?
+choose-same-length-3 t c = search needs
 
 -- src/values.rt:104:1
 choose-returns-3 : (t : ℕ) → choose-lts.Need-returns-3 (
@@ -376,7 +389,7 @@ choose-returns-3 : (t : ℕ) → choose-lts.Need-returns-3 (
   of-three-reads.Asked,
   of-three-reads.Learnt,
 ) (choose-at t) choose.Post
-choose-returns-3 t c = ?
+choose-returns-3 t c = choosing.chosen-three (c .before .before .before .before .before .before .before .before .before .before .before .before .before .before .before .before .before .before .before .before .before .before .args .seat) (c .before .before .before .before .before .before .before .before .before .before .before .before .before .before .before .before .before .before .before .before .before .before .args .depth) (c .before .before .before .before .before .before .before .before .before .before .before .before .before .before .before .before .before .before .before .before .before .before .args .heads) (c .before .before .before .before .before .before .before .before .before .before .before .before .before .before .before .before .before .before .before .before .before .before .args .units) (c .before .before .before .before .before .before .before .before .before .before .before .before .before .before .before .before .before .before .before .before .before .before .args .kept) (c .before .before .before .before .before .before .before .before .before .before .before .before .before .before .before .before .before .before .before .before .before .before .args .first) (c .before .before .before .before .before .before .before .before .before .before .before .before .before .before .before .before .before .before .before .before .before .before .args .count) (now (c .before .before .before .before .before .before .before .before .before .before .before .before .before .before .before .before .before .before .before .before .before .before .args .w)) (c .before .before .before .before .before .before .before .before .before .before .before .before .before .before .before .before .total .last .0) (c .before .before .before .before .before .before .before .before .before .before .before .before .total2 .last .0) (c .before .before .before .before .before .before .before .total3 .last .0) (c .before .before .put2 .last .0) (c .before .before .before .before .before .before .before .before .before .before .before .before .before .before .before .before .total .result) (c .before .before .before .before .before .before .before .before .before .before .before .before .total2 .result) (c .before .before .before .before .before .before .before .total3 .result) (c .before .before .before .before .of-three .result) (c .before .before .before .before .before .before .before .before .before .before .before .before .before .before .before .before .total .ensures) (c .before .before .before .before .before .before .before .before .before .before .before .before .total2 .ensures) (c .before .before .before .before .before .before .before .total3 .ensures) (c .before .before .before .before .before .before .before .before .before .if2 .left) (c .before .before .before .before .of-three .ensures) (c .before .before .put2 .ensures)
 
 -- src/values.rt:98:28
 own-set-requires : (t : ℕ) → own-lts.Need-set-requires (
@@ -391,7 +404,7 @@ own-set-requires : (t : ℕ) → own-lts.Need-set-requires (
   value-below t,
   value.Post,
 ) (own-at t) own.Post
-own-set-requires t c κs = ?
+own-set-requires t c κs = search needs
 
 -- src/values.rt:98:36
 own-actions-requires : (t : ℕ) → own-lts.Need-actions-requires (
@@ -406,7 +419,7 @@ own-actions-requires : (t : ℕ) → own-lts.Need-actions-requires (
   value-below t,
   value.Post,
 ) (own-at t) own.Post
-own-actions-requires t c κs = ?
+own-actions-requires t c κs = search needs
 
 -- src/values.rt:98:9
 own-choose-requires : (t : ℕ) → own-lts.Need-choose-requires (
@@ -421,7 +434,7 @@ own-choose-requires : (t : ℕ) → own-lts.Need-choose-requires (
   value-below t,
   value.Post,
 ) (own-at t) own.Post
-own-choose-requires t c κs = ?
+own-choose-requires t c κs = (omega (arith, c .before .before .before .before .pre .0), valuing.walk-at (c .before .before .before .before .args .a + 1) (c .before .before .before .before .args .seat) (c .before .before .before .before .args .depth) (c .before .before .before .before .args .heads) (c .before .before .before .before .args .units) (c .before .before .before .before .args .kept) (c .before .before .before .before .pre .1) (c .before .set .result) (c .before .before .before .before .args .depth) (omega arith) (omega (arith, c .before .set .ensures, c .before .before .before .before .pre .1 .shallow)))
 
 -- src/values.rt:99:9
 own-child-requires : (t : ℕ) → own-lts.Need-child-requires (
@@ -436,7 +449,7 @@ own-child-requires : (t : ℕ) → own-lts.Need-child-requires (
   value-below t,
   value.Post,
 ) (own-at t) own.Post
-own-child-requires t c κs = ?
+own-child-requires t c κs = omega (arith, c .before .before .before .before .before .before .before .before .pre .1 .place)
 
 -- src/values.rt:100:5
 own-value-requires : (t : ℕ) → own-lts.Need-value-requires (
@@ -451,7 +464,7 @@ own-value-requires : (t : ℕ) → own-lts.Need-value-requires (
   value-below t,
   value.Post,
 ) (own-at t) own.Post
-own-value-requires t c κs = ?
+own-value-requires t c κs = (omega (arith, c .before .before .before .before .before .before .before .before .before .before .pre .0), valuing.walk-at (c .before .before .before .before .before .before .before .before .before .before .args .a + 1) (c .before .before .before .before .before .before .before .before .before .before .args .seat) (c .before .before .before .before .before .before .before .before .before .before .args .depth) (c .before .before .before .before .before .before .before .before .before .before .args .heads) (c .before .before .before .before .before .before .before .before .before .before .args .units) (c .before .before .before .before .before .before .before .before .before .before .args .kept) (c .before .before .before .before .before .before .before .before .before .before .pre .1) (c .before .child .result) (c .before .before .before .before .before .before .before .before .before .before .args .depth) (omega arith) (omega (arith, c .before .child .ensures .near, c .before .before .before .before .before .before .before .before .before .before .pre .1 .shallow)))
 
 -- src/values.rt:85:1
 own-same-length : (t : ℕ) → own-lts.Need-same-length (
@@ -466,7 +479,7 @@ own-same-length : (t : ℕ) → own-lts.Need-same-length (
   value-below t,
   value.Post,
 ) (own-at t) own.Post
-own-same-length t c = ?
+own-same-length t c = search needs
 
 -- src/values.rt:85:1
 own-returns : (t : ℕ) → own-lts.Need-returns (
@@ -481,13 +494,13 @@ own-returns : (t : ℕ) → own-lts.Need-returns (
   value-below t,
   value.Post,
 ) (own-at t) own.Post
-own-returns t c = ?
+own-returns t c = valuing.own-is (c .before .before .before .before .before .before .before .before .before .before .before .before .before .args .seat) (c .before .before .before .before .before .before .before .before .before .before .before .before .before .args .depth) (c .before .before .before .before .before .before .before .before .before .before .before .before .before .args .heads) (c .before .before .before .before .before .before .before .before .before .before .before .before .before .args .units) (c .before .before .before .before .before .before .before .before .before .before .before .before .before .args .kept) (c .before .before .before .before .before .before .before .before .before .before .before .before .before .args .a) (c .before .before .before .before .before .before .before .before .before .before .before .before .before .args .x) (now (c .before .before .before .before .before .before .before .before .before .before .before .before .before .args .w)) (c .before .before .before .before .before .before .before .before .choose .last .0) (c .before .before .value .last .0) (c .before .before .before .before .before .before .before .before .choose .result) (c .before .before .before .before .child .result) (c .before .before .value .result) (subst (λ e. Chosen (c .before .before .before .before .before .before .before .before .before .before .before .before .before .args .seat) (c .before .before .before .before .before .before .before .before .before .before .before .before .before .args .depth) (c .before .before .before .before .before .before .before .before .before .before .before .before .before .args .heads) (c .before .before .before .before .before .before .before .before .before .before .before .before .before .args .units) (c .before .before .before .before .before .before .before .before .before .before .before .before .before .args .kept) e (actionsOf (c .before .before .before .before .before .before .before .before .before .before .before .before .before .args .x)) (now (c .before .before .before .before .before .before .before .before .before .before .before .before .before .args .w)) (c .before .before .before .before .before .before .before .before .choose .last .0) (c .before .before .before .before .before .before .before .before .choose .result)) (c .before .before .before .before .before .before .before .before .before .before .set .ensures) (subst (λ n. Chosen (c .before .before .before .before .before .before .before .before .before .before .before .before .before .args .seat) (c .before .before .before .before .before .before .before .before .before .before .before .before .before .args .depth) (c .before .before .before .before .before .before .before .before .before .before .before .before .before .args .heads) (c .before .before .before .before .before .before .before .before .before .before .before .before .before .args .units) (c .before .before .before .before .before .before .before .before .before .before .before .before .before .args .kept) (c .before .before .before .before .before .before .before .before .before .before .set .result) n (now (c .before .before .before .before .before .before .before .before .before .before .before .before .before .args .w)) (c .before .before .before .before .before .before .before .before .choose .last .0) (c .before .before .before .before .before .before .before .before .choose .result)) (c .before .before .before .before .before .before .before .before .before .actions .ensures) (c .before .before .before .before .before .before .before .before .choose .ensures))) (c .before .before .before .before .child .ensures) (c .before .before .value .ensures)
 
 abbrev row-Inv-loop : row-lts.InvT-loop
-row-Inv-loop w₀ a end seat depth heads units kept sum₀ at₀ w sum at = ?
+row-Inv-loop w₀ a end seat depth heads units kept sum₀ at₀ w sum at = valuing.Along seat depth heads units kept a end w₀ w at sum × (at + depth < 8388608) × (length w ≡ length w₀)
 
 abbrev row-μ-loop : row-lts.MeasureT-loop
-row-μ-loop w₀ a end seat depth heads units kept sum₀ at₀ w sum at = ?
+row-μ-loop w₀ a end seat depth heads units kept sum₀ at₀ w sum at = end - at
 
 -- src/values.rt:72:5
 row-loop-holds : (t : ℕ) → row-lts.Need-loop-holds (
@@ -498,7 +511,7 @@ row-loop-holds : (t : ℕ) → row-lts.Need-loop-holds (
   behind-reads.Asked,
   behind-reads.Learnt,
 ) (row-at t) row.Post row-Inv-loop row-μ-loop
-row-loop-holds t c = ?
+row-loop-holds t c = (valuing.along-start (c .before .args .seat) (c .before .args .depth) (c .before .args .heads) (c .before .args .units) (c .before .args .kept) (c .before .args .a) (c .before .args .end) (now (c .before .args .w)), c .before .pre .1 .place, refl)
 
 -- src/values.rt:73:13
 row-value-requires : (t : ℕ) → row-lts.Need-value-requires (
@@ -509,7 +522,7 @@ row-value-requires : (t : ℕ) → row-lts.Need-value-requires (
   behind-reads.Asked,
   behind-reads.Learnt,
 ) (row-at t) row.Post row-Inv-loop row-μ-loop
-row-value-requires t c κs = ?
+row-value-requires t c κs = (omega (arith, c .before .before .before .before .pre .0), valuing.walk-at (c .before .before .before .before .args .a) (c .before .before .before .before .args .seat) (c .before .before .before .before .args .depth) (c .before .before .before .before .args .heads) (c .before .before .before .before .args .units) (c .before .before .before .before .args .kept) (c .before .before .before .before .pre .1) (c .before .before .loop .at) (c .before .before .before .before .args .depth) (omega arith) (c .before .before .loop .inv .1))
 
 -- src/values.rt:74:9
 row-wrapping-add-u64-requires : (t : ℕ) → row-lts.Need-wrapping-add-u64-requires (
@@ -520,7 +533,7 @@ row-wrapping-add-u64-requires : (t : ℕ) → row-lts.Need-wrapping-add-u64-requ
   behind-reads.Asked,
   behind-reads.Learnt,
 ) (row-at t) row.Post row-Inv-loop row-μ-loop
-row-wrapping-add-u64-requires t c κs = ?
+row-wrapping-add-u64-requires t c κs = search needs
 
 -- src/values.rt:75:13
 row-behind-requires : (t : ℕ) → row-lts.Need-behind-requires (
@@ -531,7 +544,7 @@ row-behind-requires : (t : ℕ) → row-lts.Need-behind-requires (
   behind-reads.Asked,
   behind-reads.Learnt,
 ) (row-at t) row.Post row-Inv-loop row-μ-loop
-row-behind-requires t c κs = ?
+row-behind-requires t c κs = omega (arith, c .before .before .before .before .before .before .before .loop .inv .1)
 
 -- src/values.rt:77:13
 row-same-length : (t : ℕ) → row-lts.Need-same-length (
@@ -542,7 +555,7 @@ row-same-length : (t : ℕ) → row-lts.Need-same-length (
   behind-reads.Asked,
   behind-reads.Learnt,
 ) (row-at t) row.Post row-Inv-loop row-μ-loop
-row-same-length t c = ?
+row-same-length t c = search needs
 
 -- src/values.rt:77:13
 row-returns : (t : ℕ) → row-lts.Need-returns (
@@ -553,7 +566,7 @@ row-returns : (t : ℕ) → row-lts.Need-returns (
   behind-reads.Asked,
   behind-reads.Learnt,
 ) (row-at t) row.Post row-Inv-loop row-μ-loop
-row-returns t c = ?
+row-returns t c = valuing.along-stuck (c .before .before .before .before .before .before .before .before .before .before .before .args .seat) (c .before .before .before .before .before .before .before .before .before .before .before .args .depth) (c .before .before .before .before .before .before .before .before .before .before .before .args .heads) (c .before .before .before .before .before .before .before .before .before .before .before .args .units) (c .before .before .before .before .before .before .before .before .before .before .before .args .kept) (c .before .before .before .before .before .before .before .before .before .before .before .args .a) (c .before .before .before .before .before .before .before .before .before .before .before .args .end) (now (c .before .before .before .before .before .before .before .before .before .before .before .args .w)) (c .before .before .before .before .before .before .before .before .before .loop .w) (c .before .before .before .before .before .before .value .last .0) (c .before .before .before .before .before .before .before .before .before .loop .at) (c .before .before .before .before .before .before .before .before .before .loop .sum) (c .before .before .before .before .before .before .value .result) (c .before .before .before .wrapping-add-u64 .result) (c .before .behind .result) (c .before .before .before .before .before .before .before .before .before .loop .inv .0) (c .before .before .before .before .before .before .before .before .loop-test .taken) (c .before .before .before .before .before .before .value .ensures) (c .before .behind .ensures) (c .if1 .taken)
 
 -- src/values.rt:72:5
 row-loop-less : (t : ℕ) → row-lts.Need-loop-less (
@@ -564,7 +577,7 @@ row-loop-less : (t : ℕ) → row-lts.Need-loop-less (
   behind-reads.Asked,
   behind-reads.Learnt,
 ) (row-at t) row.Post row-Inv-loop row-μ-loop
-row-loop-less t c = ?
+row-loop-less t c = omega (arith, c .before .before .before .before .before .before .before .before .loop-test .taken, c .if1 .left)
 
 -- src/values.rt:72:5
 row-loop-again : (t : ℕ) → row-lts.Need-loop-again (
@@ -575,7 +588,7 @@ row-loop-again : (t : ℕ) → row-lts.Need-loop-again (
   behind-reads.Asked,
   behind-reads.Learnt,
 ) (row-at t) row.Post row-Inv-loop row-μ-loop
-row-loop-again t c = ?
+row-loop-again t c = (valuing.along-more (c .before .before .before .before .before .before .before .before .before .before .before .args .seat) (c .before .before .before .before .before .before .before .before .before .before .before .args .depth) (c .before .before .before .before .before .before .before .before .before .before .before .args .heads) (c .before .before .before .before .before .before .before .before .before .before .before .args .units) (c .before .before .before .before .before .before .before .before .before .before .before .args .kept) (c .before .before .before .before .before .before .before .before .before .before .before .args .a) (c .before .before .before .before .before .before .before .before .before .before .before .args .end) (now (c .before .before .before .before .before .before .before .before .before .before .before .args .w)) (c .before .before .before .before .before .before .before .before .before .loop .w) (c .before .before .before .before .before .before .value .last .0) (c .before .before .before .before .before .before .before .before .before .loop .at) (c .before .before .before .before .before .before .before .before .before .loop .sum) (c .before .before .before .before .before .before .value .result) (c .before .before .before .wrapping-add-u64 .result) (c .before .behind .result) (c .before .before .before .before .before .before .before .before .before .loop .inv .0) (c .before .before .before .before .before .before .before .before .loop-test .taken) (c .before .before .before .before .before .before .value .ensures) (c .before .before .before .wrapping-add-u64 .ensures) (c .before .behind .ensures), omega (arith, c .before .behind .ensures .near, c .before .before .before .before .before .before .before .before .before .before .before .pre .1 .shallow), omega (arith, c .before .before .before .before .before .before .value .kept .0, c .before .before .before .before .before .before .before .before .before .loop .inv .2))
 
 -- src/values.rt:57:1
 row-same-length-2 : (t : ℕ) → row-lts.Need-same-length-2 (
@@ -586,7 +599,7 @@ row-same-length-2 : (t : ℕ) → row-lts.Need-same-length-2 (
   behind-reads.Asked,
   behind-reads.Learnt,
 ) (row-at t) row.Post row-Inv-loop row-μ-loop
-row-same-length-2 t c = ?
+row-same-length-2 t c = search needs
 
 -- src/values.rt:57:1
 row-returns-2 : (t : ℕ) → row-lts.Need-returns-2 (
@@ -597,13 +610,13 @@ row-returns-2 : (t : ℕ) → row-lts.Need-returns-2 (
   behind-reads.Asked,
   behind-reads.Learnt,
 ) (row-at t) row.Post row-Inv-loop row-μ-loop
-row-returns-2 t c = ?
+row-returns-2 t c = valuing.along-end (c .before .before .before .args .seat) (c .before .before .before .args .depth) (c .before .before .before .args .heads) (c .before .before .before .args .units) (c .before .before .before .args .kept) (c .before .before .before .args .a) (c .before .before .before .args .end) (now (c .before .before .before .args .w)) (c .before .loop .w) (c .before .loop .at) (c .before .loop .sum) (c .before .loop .inv .0) (omega (arith, c .loop-test .left))
 
 abbrev total-Inv-loop : total-lts.InvT-loop
-total-Inv-loop w₀ first action seat depth heads units kept sum₀ at₀ w sum at = ?
+total-Inv-loop w₀ first action seat depth heads units kept sum₀ at₀ w sum at = choosing.Summed seat depth heads units kept first action w₀ w at sum × (at < 2097152) × (length w ≡ length w₀)
 
 abbrev total-μ-loop : total-lts.MeasureT-loop
-total-μ-loop w₀ first action seat depth heads units kept sum₀ at₀ w sum at = ?
+total-μ-loop w₀ first action seat depth heads units kept sum₀ at₀ w sum at = 2097152 - at
 
 -- src/values.rt:149:27
 total-add-word : (t : ℕ) → total-lts.Need-add-word (
@@ -618,7 +631,7 @@ total-add-word : (t : ℕ) → total-lts.Need-add-word (
   later-reads.Asked,
   later-reads.Learnt,
 ) (total-at t) total.Post total-Inv-loop total-μ-loop
-total-add-word t c = ?
+total-add-word t c = record { fits = omega (arith, c .before .before .pre .1 .heads, c .before .before .pre .1 .place) }
 
 -- src/values.rt:149:19
 total-word-requires : (t : ℕ) → total-lts.Need-word-requires (
@@ -633,7 +646,7 @@ total-word-requires : (t : ℕ) → total-lts.Need-word-requires (
   later-reads.Asked,
   later-reads.Learnt,
 ) (total-at t) total.Post total-Inv-loop total-μ-loop
-total-word-requires t c κs = ?
+total-word-requires t c κs = search needs
 
 -- src/values.rt:150:5
 total-loop-holds : (t : ℕ) → total-lts.Need-loop-holds (
@@ -648,7 +661,7 @@ total-loop-holds : (t : ℕ) → total-lts.Need-loop-holds (
   later-reads.Asked,
   later-reads.Learnt,
 ) (total-at t) total.Post total-Inv-loop total-μ-loop
-total-loop-holds t c = ?
+total-loop-holds t c = (choosing.summed-start (c .before .before .before .args .seat) (c .before .before .before .args .depth) (c .before .before .before .args .heads) (c .before .before .before .args .units) (c .before .before .before .args .kept) (c .before .before .before .args .first) (c .before .before .before .args .action) (now (c .before .before .before .args .w)) _ (ap (λ j. j % 2097152) (c .word .ensures)), omega arith, refl)
 
 -- src/values.rt:151:13
 total-child-requires : (t : ℕ) → total-lts.Need-child-requires (
@@ -663,7 +676,7 @@ total-child-requires : (t : ℕ) → total-lts.Need-child-requires (
   later-reads.Asked,
   later-reads.Learnt,
 ) (total-at t) total.Post total-Inv-loop total-μ-loop
-total-child-requires t c κs = ?
+total-child-requires t c κs = omega (arith, c .before .before .loop .inv .1)
 
 -- src/values.rt:152:13
 total-value-requires : (t : ℕ) → total-lts.Need-value-requires (
@@ -678,7 +691,7 @@ total-value-requires : (t : ℕ) → total-lts.Need-value-requires (
   later-reads.Asked,
   later-reads.Learnt,
 ) (total-at t) total.Post total-Inv-loop total-μ-loop
-total-value-requires t c κs = ?
+total-value-requires t c κs = (omega (arith, c .before .before .before .before .before .before .before .before .pre .0), valuing.walk-at (c .before .before .before .before .before .before .before .before .args .first) (c .before .before .before .before .before .before .before .before .args .seat) (c .before .before .before .before .before .before .before .before .args .depth) (c .before .before .before .before .before .before .before .before .args .heads) (c .before .before .before .before .before .before .before .before .args .units) (c .before .before .before .before .before .before .before .before .args .kept) (c .before .before .before .before .before .before .before .before .pre .1) (c .before .child .result) (c .before .before .before .before .before .before .before .before .args .depth) (omega arith) (omega (arith, c .before .child .ensures .near, c .before .before .before .before .before .before .before .before .pre .1 .shallow)))
 
 -- src/values.rt:153:9
 total-wrapping-add-u64-requires : (t : ℕ) → total-lts.Need-wrapping-add-u64-requires (
@@ -693,7 +706,7 @@ total-wrapping-add-u64-requires : (t : ℕ) → total-lts.Need-wrapping-add-u64-
   later-reads.Asked,
   later-reads.Learnt,
 ) (total-at t) total.Post total-Inv-loop total-μ-loop
-total-wrapping-add-u64-requires t c κs = ?
+total-wrapping-add-u64-requires t c κs = search needs
 
 -- src/values.rt:154:26
 total-word-requires-2 : (t : ℕ) → total-lts.Need-word-requires-2 (
@@ -708,7 +721,7 @@ total-word-requires-2 : (t : ℕ) → total-lts.Need-word-requires-2 (
   later-reads.Asked,
   later-reads.Learnt,
 ) (total-at t) total.Post total-Inv-loop total-μ-loop
-total-word-requires-2 t c κs = ?
+total-word-requires-2 t c κs = search needs
 
 -- src/values.rt:154:13
 total-later-requires : (t : ℕ) → total-lts.Need-later-requires (
@@ -723,7 +736,7 @@ total-later-requires : (t : ℕ) → total-lts.Need-later-requires (
   later-reads.Asked,
   later-reads.Learnt,
 ) (total-at t) total.Post total-Inv-loop total-μ-loop
-total-later-requires t c κs = ?
+total-later-requires t c κs = search needs
 
 -- src/values.rt:156:13
 total-same-length : (t : ℕ) → total-lts.Need-same-length (
@@ -738,7 +751,7 @@ total-same-length : (t : ℕ) → total-lts.Need-same-length (
   later-reads.Asked,
   later-reads.Learnt,
 ) (total-at t) total.Post total-Inv-loop total-μ-loop
-total-same-length t c = ?
+total-same-length t c = search needs
 
 -- src/values.rt:156:13
 total-returns : (t : ℕ) → total-lts.Need-returns (
@@ -753,7 +766,7 @@ total-returns : (t : ℕ) → total-lts.Need-returns (
   later-reads.Asked,
   later-reads.Learnt,
 ) (total-at t) total.Post total-Inv-loop total-μ-loop
-total-returns t c = ?
+total-returns t c = choosing.summed-stuck (c .before .before .before .before .before .before .before .before .before .before .before .before .before .before .before .before .args .seat) (c .before .before .before .before .before .before .before .before .before .before .before .before .before .before .before .before .args .depth) (c .before .before .before .before .before .before .before .before .before .before .before .before .before .before .before .before .args .heads) (c .before .before .before .before .before .before .before .before .before .before .before .before .before .before .before .before .args .units) (c .before .before .before .before .before .before .before .before .before .before .before .before .before .before .before .before .args .kept) (c .before .before .before .before .before .before .before .before .before .before .before .before .before .before .before .before .args .first) (c .before .before .before .before .before .before .before .before .before .before .before .before .before .before .before .before .args .action) (now (c .before .before .before .before .before .before .before .before .before .before .before .before .before .before .before .before .args .w)) (c .before .before .before .before .before .before .before .before .before .before .before .before .loop .w) (c .before .before .before .before .before .before .before .value .last .0) (c .before .before .before .before .before .before .before .before .before .before .before .before .loop .at) (c .before .before .before .before .before .before .before .before .before .before .before .before .loop .sum) (c .before .before .before .before .before .before .before .before .before .child .result) (c .before .before .before .before .before .before .before .value .result) (c .before .before .before .before .wrapping-add-u64 .result) (c .before .later .result) (c .before .before .before .before .before .before .before .before .before .before .before .before .loop .inv .0) (c .before .before .before .before .before .before .before .before .before .before .before .loop-test .taken) (c .before .before .before .before .before .before .before .before .before .child .ensures) (c .before .before .before .before .before .before .before .value .ensures) (c .before .before .before .before .wrapping-add-u64 .ensures) (c .before .later .ensures ∙ ap laterOf (c .before .before .word2 .ensures)) (c .if1 .taken)
 
 -- src/values.rt:150:5
 total-loop-less : (t : ℕ) → total-lts.Need-loop-less (
@@ -768,7 +781,7 @@ total-loop-less : (t : ℕ) → total-lts.Need-loop-less (
   later-reads.Asked,
   later-reads.Learnt,
 ) (total-at t) total.Post total-Inv-loop total-μ-loop
-total-loop-less t c = ?
+total-loop-less t c = omega (arith, c .if1 .left, c .before .before .before .before .before .before .before .before .before .before .before .before .loop .inv .1)
 
 -- src/values.rt:150:5
 total-loop-again : (t : ℕ) → total-lts.Need-loop-again (
@@ -783,7 +796,7 @@ total-loop-again : (t : ℕ) → total-lts.Need-loop-again (
   later-reads.Asked,
   later-reads.Learnt,
 ) (total-at t) total.Post total-Inv-loop total-μ-loop
-total-loop-again t c = ?
+total-loop-again t c = (choosing.summed-more (c .before .before .before .before .before .before .before .before .before .before .before .before .before .before .before .before .args .seat) (c .before .before .before .before .before .before .before .before .before .before .before .before .before .before .before .before .args .depth) (c .before .before .before .before .before .before .before .before .before .before .before .before .before .before .before .before .args .heads) (c .before .before .before .before .before .before .before .before .before .before .before .before .before .before .before .before .args .units) (c .before .before .before .before .before .before .before .before .before .before .before .before .before .before .before .before .args .kept) (c .before .before .before .before .before .before .before .before .before .before .before .before .before .before .before .before .args .first) (c .before .before .before .before .before .before .before .before .before .before .before .before .before .before .before .before .args .action) (now (c .before .before .before .before .before .before .before .before .before .before .before .before .before .before .before .before .args .w)) (c .before .before .before .before .before .before .before .before .before .before .before .before .loop .w) (c .before .before .before .before .before .before .before .value .last .0) (c .before .before .before .before .before .before .before .before .before .before .before .before .loop .at) (c .before .before .before .before .before .before .before .before .before .before .before .before .loop .sum) (c .before .before .before .before .before .before .before .before .before .child .result) (c .before .before .before .before .before .before .before .value .result) (c .before .before .before .before .wrapping-add-u64 .result) (c .before .later .result) (c .before .before .before .before .before .before .before .before .before .before .before .before .loop .inv .0) (c .before .before .before .before .before .before .before .before .before .before .before .loop-test .taken) (c .before .before .before .before .before .before .before .before .before .child .ensures) (c .before .before .before .before .before .before .before .value .ensures) (c .before .before .before .before .wrapping-add-u64 .ensures) (c .before .later .ensures ∙ ap laterOf (c .before .before .word2 .ensures)), omega (arith, c .before .later .ensures), omega (arith, c .before .before .before .before .before .before .before .value .kept .0, c .before .before .before .before .before .before .before .before .before .before .before .before .loop .inv .2))
 
 -- src/values.rt:135:1
 total-same-length-2 : (t : ℕ) → total-lts.Need-same-length-2 (
@@ -798,7 +811,7 @@ total-same-length-2 : (t : ℕ) → total-lts.Need-same-length-2 (
   later-reads.Asked,
   later-reads.Learnt,
 ) (total-at t) total.Post total-Inv-loop total-μ-loop
-total-same-length-2 t c = ?
+total-same-length-2 t c = search needs
 
 -- src/values.rt:135:1
 total-returns-2 : (t : ℕ) → total-lts.Need-returns-2 (
@@ -813,7 +826,7 @@ total-returns-2 : (t : ℕ) → total-lts.Need-returns-2 (
   later-reads.Asked,
   later-reads.Learnt,
 ) (total-at t) total.Post total-Inv-loop total-μ-loop
-total-returns-2 t c = ?
+total-returns-2 t c = choosing.summed-end (c .before .before .before .before .before .args .seat) (c .before .before .before .before .before .args .depth) (c .before .before .before .before .before .args .heads) (c .before .before .before .before .before .args .units) (c .before .before .before .before .before .args .kept) (c .before .before .before .before .before .args .first) (c .before .before .before .before .before .args .action) (now (c .before .before .before .before .before .args .w)) (c .before .loop .w) (c .before .loop .at) (c .before .loop .sum) (c .before .loop .inv .0) (λ l. omega (arith, l, c .loop-test .left))
 
 -- src/values.rt:40:9
 value-returns : (t : ℕ) → value-lts.Need-returns (
@@ -832,7 +845,7 @@ value-returns : (t : ℕ) → value-lts.Need-returns (
   own-below t,
   own.Post,
 ) (value-at t) value.Post
-value-returns t c = ?
+value-returns t c = valuing.value-none (c .before .before .args .seat) (c .before .before .args .depth) (c .before .before .args .heads) (c .before .before .args .units) (c .before .before .args .kept) (c .before .before .args .a) (now (c .before .before .args .w)) 0 (c .if1 .taken)
 
 -- src/values.rt:42:9
 value-word-requires : (t : ℕ) → value-lts.Need-word-requires (
@@ -851,7 +864,7 @@ value-word-requires : (t : ℕ) → value-lts.Need-word-requires (
   own-below t,
   own.Post,
 ) (value-at t) value.Post
-value-word-requires t c κs = ?
+value-word-requires t c κs = search needs
 
 -- src/values.rt:43:9
 value-kind-requires : (t : ℕ) → value-lts.Need-kind-requires (
@@ -870,7 +883,7 @@ value-kind-requires : (t : ℕ) → value-lts.Need-kind-requires (
   own-below t,
   own.Post,
 ) (value-at t) value.Post
-value-kind-requires t c κs = ?
+value-kind-requires t c κs = search needs
 
 -- src/values.rt:45:24
 value-add-word : (t : ℕ) → value-lts.Need-add-word (
@@ -889,7 +902,7 @@ value-add-word : (t : ℕ) → value-lts.Need-add-word (
   own-below t,
   own.Post,
 ) (value-at t) value.Post
-value-add-word t c = ?
+value-add-word t c = record { fits = omega (arith, c .before .before .before .before .before .before .before .pre .1 .units, c .before .before .before .before .before .before .before .pre .1 .place) }
 
 -- src/values.rt:45:16
 value-word-requires-2 : (t : ℕ) → value-lts.Need-word-requires-2 (
@@ -908,7 +921,7 @@ value-word-requires-2 : (t : ℕ) → value-lts.Need-word-requires-2 (
   own-below t,
   own.Post,
 ) (value-at t) value.Post
-value-word-requires-2 t c κs = ?
+value-word-requires-2 t c κs = search needs
 
 -- src/values.rt:45:45
 value-lifted-requires : (t : ℕ) → value-lts.Need-lifted-requires (
@@ -927,7 +940,7 @@ value-lifted-requires : (t : ℕ) → value-lts.Need-lifted-requires (
   own-below t,
   own.Post,
 ) (value-at t) value.Post
-value-lifted-requires t c κs = ?
+value-lifted-requires t c κs = c .before .before .before .before .before .before .before .before .pre .1 .seat
 
 -- src/values.rt:45:16
 value-mul-result : (t : ℕ) → value-lts.Need-mul-result (
@@ -946,7 +959,7 @@ value-mul-result : (t : ℕ) → value-lts.Need-mul-result (
   own-below t,
   own.Post,
 ) (value-at t) value.Post
-value-mul-result t c = ?
+value-mul-result t c = times-fits _ _ (omega arith) (c .lifted .ensures .1)
 
 -- src/values.rt:45:9
 value-same-length : (t : ℕ) → value-lts.Need-same-length (
@@ -965,7 +978,7 @@ value-same-length : (t : ℕ) → value-lts.Need-same-length (
   own-below t,
   own.Post,
 ) (value-at t) value.Post
-value-same-length t c = ?
+value-same-length t c = search needs
 
 -- src/values.rt:45:9
 value-returns-2 : (t : ℕ) → value-lts.Need-returns-2 (
@@ -984,7 +997,7 @@ value-returns-2 : (t : ℕ) → value-lts.Need-returns-2 (
   own-below t,
   own.Post,
 ) (value-at t) value.Post
-value-returns-2 t c = ?
+value-returns-2 t c = valuing.value-end (c .before .before .before .before .before .before .before .before .before .args .seat) (c .before .before .before .before .before .before .before .before .before .args .depth) (c .before .before .before .before .before .before .before .before .before .args .heads) (c .before .before .before .before .before .before .before .before .before .args .units) (c .before .before .before .before .before .before .before .before .before .args .kept) (c .before .before .before .before .before .before .before .before .before .args .a) (now (c .before .before .before .before .before .before .before .before .before .args .w)) (c .before .before .before .before .before .word .result) (c .before .before .before .before .before .word .ensures) (c .before .word2 .result) (c .lifted .result) _ (sym (c .before .before .before .before .kind .ensures) ∙ c .before .before .before .if2 .taken) (c .before .word2 .ensures) (c .lifted .ensures) refl
 
 -- src/values.rt:48:23
 value-add-row : (t : ℕ) → value-lts.Need-add-row (
@@ -1003,7 +1016,7 @@ value-add-row : (t : ℕ) → value-lts.Need-add-row (
   own-below t,
   own.Post,
 ) (value-at t) value.Post
-value-add-row t c = ?
+value-add-row t c = record { fits = omega (arith, c .before .before .before .before .before .before .before .before .pre .1 .place) }
 
 -- src/values.rt:48:30
 value-next-requires : (t : ℕ) → value-lts.Need-next-requires (
@@ -1022,7 +1035,7 @@ value-next-requires : (t : ℕ) → value-lts.Need-next-requires (
   own-below t,
   own.Post,
 ) (value-at t) value.Post
-value-next-requires t c κs = ?
+value-next-requires t c κs = search needs
 
 -- src/values.rt:48:45
 value-sub-row : (t : ℕ) → value-lts.Need-sub-row (
@@ -1041,7 +1054,7 @@ value-sub-row : (t : ℕ) → value-lts.Need-sub-row (
   own-below t,
   own.Post,
 ) (value-at t) value.Post
-value-sub-row t c = ?
+value-sub-row t c = omega (arith, c .before .before .before .before .before .before .before .if1 .left)
 
 -- src/values.rt:48:9
 value-row-requires : (t : ℕ) → value-lts.Need-row-requires (
@@ -1060,7 +1073,7 @@ value-row-requires : (t : ℕ) → value-lts.Need-row-requires (
   own-below t,
   own.Post,
 ) (value-at t) value.Post
-value-row-requires t c κs = ?
+value-row-requires t c κs = (omega (arith, c .before .before .before .before .before .before .before .before .before .pre .0, c .before .before .before .before .before .before .before .if1 .left), valuing.walk-at (c .before .before .before .before .before .before .before .before .before .args .a) (c .before .before .before .before .before .before .before .before .before .args .seat) (c .before .before .before .before .before .before .before .before .before .args .depth) (c .before .before .before .before .before .before .before .before .before .args .heads) (c .before .before .before .before .before .before .before .before .before .args .units) (c .before .before .before .before .before .before .before .before .before .args .kept) (c .before .before .before .before .before .before .before .before .before .pre .1) (c .before .before .before .before .before .before .before .before .before .args .a + 1) (c .before .before .before .before .before .before .before .before .before .args .depth - 1) (omega arith) (omega (arith, c .before .before .before .before .before .before .before .before .before .pre .1 .place, c .before .before .before .before .before .before .before .if1 .left)))
 
 -- src/values.rt:48:9
 value-same-length-2 : (t : ℕ) → value-lts.Need-same-length-2 (
@@ -1079,7 +1092,7 @@ value-same-length-2 : (t : ℕ) → value-lts.Need-same-length-2 (
   own-below t,
   own.Post,
 ) (value-at t) value.Post
-value-same-length-2 t c = ?
+value-same-length-2 t c = search needs
 
 -- src/values.rt:48:9
 value-returns-3 : (t : ℕ) → value-lts.Need-returns-3 (
@@ -1098,7 +1111,7 @@ value-returns-3 : (t : ℕ) → value-lts.Need-returns-3 (
   own-below t,
   own.Post,
 ) (value-at t) value.Post
-value-returns-3 t c = ?
+value-returns-3 t c = valuing.value-chance (c .before .before .before .before .before .before .before .before .before .before .before .before .args .seat) (c .before .before .before .before .before .before .before .before .before .before .before .before .args .depth) (c .before .before .before .before .before .before .before .before .before .before .before .before .args .heads) (c .before .before .before .before .before .before .before .before .before .before .before .before .args .units) (c .before .before .before .before .before .before .before .before .before .before .before .before .args .kept) (c .before .before .before .before .before .before .before .before .before .before .before .before .args .a) (now (c .before .before .before .before .before .before .before .before .before .before .before .before .args .w)) (c .before .before .before .before .before .before .before .before .word .result) (c .before .before .before .before .before .before .before .before .word .ensures) (c .before .before .row .last .0) (c .before .before .row .result) (λ q. c .before .before .before .before .before .before .if2 .left (c .before .before .before .before .before .before .before .kind .ensures ∙ q)) (λ q. c .before .before .before .before .before .if3 .taken (c .before .before .before .before .before .before .before .kind .ensures ∙ q)) (subst (λ z. ValuedAll (c .before .before .before .before .before .before .before .before .before .before .before .before .args .seat) (c .before .before .before .before .before .before .before .before .before .before .before .before .args .depth - 1) (c .before .before .before .before .before .before .before .before .before .before .before .before .args .heads) (c .before .before .before .before .before .before .before .before .before .before .before .before .args .units) (c .before .before .before .before .before .before .before .before .before .before .before .before .args .kept) (c .before .before .before .before .before .before .before .before .before .before .before .before .args .a + 1) z (now (c .before .before .before .before .before .before .before .before .before .before .before .before .args .w)) (c .before .before .row .last .0) (c .before .before .row .result)) (c .before .before .before .next .ensures) (c .before .before .row .ensures))
 
 -- src/values.rt:50:8
 value-actor-requires : (t : ℕ) → value-lts.Need-actor-requires (
@@ -1117,7 +1130,7 @@ value-actor-requires : (t : ℕ) → value-lts.Need-actor-requires (
   own-below t,
   own.Post,
 ) (value-at t) value.Post
-value-actor-requires t c κs = ?
+value-actor-requires t c κs = search needs
 
 -- src/values.rt:51:23
 value-add-row-2 : (t : ℕ) → value-lts.Need-add-row-2 (
@@ -1136,7 +1149,7 @@ value-add-row-2 : (t : ℕ) → value-lts.Need-add-row-2 (
   own-below t,
   own.Post,
 ) (value-at t) value.Post
-value-add-row-2 t c = ?
+value-add-row-2 t c = record { fits = omega (arith, c .before .before .before .before .before .before .before .before .before .before .pre .1 .place) }
 
 -- src/values.rt:51:30
 value-next-requires-2 : (t : ℕ) → value-lts.Need-next-requires-2 (
@@ -1155,7 +1168,7 @@ value-next-requires-2 : (t : ℕ) → value-lts.Need-next-requires-2 (
   own-below t,
   own.Post,
 ) (value-at t) value.Post
-value-next-requires-2 t c κs = ?
+value-next-requires-2 t c κs = search needs
 
 -- src/values.rt:51:45
 value-sub-row-2 : (t : ℕ) → value-lts.Need-sub-row-2 (
@@ -1174,7 +1187,7 @@ value-sub-row-2 : (t : ℕ) → value-lts.Need-sub-row-2 (
   own-below t,
   own.Post,
 ) (value-at t) value.Post
-value-sub-row-2 t c = ?
+value-sub-row-2 t c = omega (arith, c .before .before .before .before .before .before .before .before .before .if1 .left)
 
 -- src/values.rt:51:9
 value-row-requires-2 : (t : ℕ) → value-lts.Need-row-requires-2 (
@@ -1193,7 +1206,7 @@ value-row-requires-2 : (t : ℕ) → value-lts.Need-row-requires-2 (
   own-below t,
   own.Post,
 ) (value-at t) value.Post
-value-row-requires-2 t c κs = ?
+value-row-requires-2 t c κs = (omega (arith, c .before .before .before .before .before .before .before .before .before .before .before .pre .0, c .before .before .before .before .before .before .before .before .before .if1 .left), valuing.walk-at (c .before .before .before .before .before .before .before .before .before .before .before .args .a) (c .before .before .before .before .before .before .before .before .before .before .before .args .seat) (c .before .before .before .before .before .before .before .before .before .before .before .args .depth) (c .before .before .before .before .before .before .before .before .before .before .before .args .heads) (c .before .before .before .before .before .before .before .before .before .before .before .args .units) (c .before .before .before .before .before .before .before .before .before .before .before .args .kept) (c .before .before .before .before .before .before .before .before .before .before .before .pre .1) (c .before .before .before .before .before .before .before .before .before .before .before .args .a + 1) (c .before .before .before .before .before .before .before .before .before .before .before .args .depth - 1) (omega arith) (omega (arith, c .before .before .before .before .before .before .before .before .before .before .before .pre .1 .place, c .before .before .before .before .before .before .before .before .before .if1 .left)))
 
 -- src/values.rt:51:9
 value-same-length-3 : (t : ℕ) → value-lts.Need-same-length-3 (
@@ -1212,7 +1225,7 @@ value-same-length-3 : (t : ℕ) → value-lts.Need-same-length-3 (
   own-below t,
   own.Post,
 ) (value-at t) value.Post
-value-same-length-3 t c = ?
+value-same-length-3 t c = search needs
 
 -- src/values.rt:51:9
 value-returns-4 : (t : ℕ) → value-lts.Need-returns-4 (
@@ -1231,7 +1244,7 @@ value-returns-4 : (t : ℕ) → value-lts.Need-returns-4 (
   own-below t,
   own.Post,
 ) (value-at t) value.Post
-value-returns-4 t c = ?
+value-returns-4 t c = valuing.value-other (c .before .before .before .before .before .before .before .before .before .before .before .before .before .before .args .seat) (c .before .before .before .before .before .before .before .before .before .before .before .before .before .before .args .depth) (c .before .before .before .before .before .before .before .before .before .before .before .before .before .before .args .heads) (c .before .before .before .before .before .before .before .before .before .before .before .before .before .before .args .units) (c .before .before .before .before .before .before .before .before .before .before .before .before .before .before .args .kept) (c .before .before .before .before .before .before .before .before .before .before .before .before .before .before .args .a) (now (c .before .before .before .before .before .before .before .before .before .before .before .before .before .before .args .w)) (c .before .before .before .before .before .before .before .before .before .before .word .result) (c .before .before .before .before .before .before .before .before .before .before .word .ensures) (c .before .before .row2 .last .0) (c .before .before .row2 .result) (sym (c .before .before .before .before .before .before .before .before .before .kind .ensures) ∙ c .before .before .before .before .before .before .before .if3 .left) (λ q. c .before .before .before .before .before .if4 .taken (c .before .before .before .before .before .before .actor .ensures ∙ q)) (subst (λ z. ValuedAll (c .before .before .before .before .before .before .before .before .before .before .before .before .before .before .args .seat) (c .before .before .before .before .before .before .before .before .before .before .before .before .before .before .args .depth - 1) (c .before .before .before .before .before .before .before .before .before .before .before .before .before .before .args .heads) (c .before .before .before .before .before .before .before .before .before .before .before .before .before .before .args .units) (c .before .before .before .before .before .before .before .before .before .before .before .before .before .before .args .kept) (c .before .before .before .before .before .before .before .before .before .before .before .before .before .before .args .a + 1) z (now (c .before .before .before .before .before .before .before .before .before .before .before .before .before .before .args .w)) (c .before .before .row2 .last .0) (c .before .before .row2 .result)) (c .before .before .before .next2 .ensures) (c .before .before .row2 .ensures))
 
 -- src/values.rt:53:24
 value-sub-own : (t : ℕ) → value-lts.Need-sub-own (
@@ -1250,7 +1263,7 @@ value-sub-own : (t : ℕ) → value-lts.Need-sub-own (
   own-below t,
   own.Post,
 ) (value-at t) value.Post
-value-sub-own t c = ?
+value-sub-own t c = omega (arith, c .before .before .before .before .before .before .before .before .if1 .left)
 
 -- src/values.rt:53:5
 value-own-requires : (t : ℕ) → value-lts.Need-own-requires (
@@ -1269,7 +1282,7 @@ value-own-requires : (t : ℕ) → value-lts.Need-own-requires (
   own-below t,
   own.Post,
 ) (value-at t) value.Post
-value-own-requires t c κs = ?
+value-own-requires t c κs = (omega (arith, c .before .before .before .before .before .before .before .before .before .before .pre .0, c .before .before .before .before .before .before .before .before .if1 .left), valuing.walk-at (c .before .before .before .before .before .before .before .before .before .before .args .a) (c .before .before .before .before .before .before .before .before .before .before .args .seat) (c .before .before .before .before .before .before .before .before .before .before .args .depth) (c .before .before .before .before .before .before .before .before .before .before .args .heads) (c .before .before .before .before .before .before .before .before .before .before .args .units) (c .before .before .before .before .before .before .before .before .before .before .args .kept) (c .before .before .before .before .before .before .before .before .before .before .pre .1) (c .before .before .before .before .before .before .before .before .before .before .args .a + 1) (c .before .before .before .before .before .before .before .before .before .before .args .depth - 1) (omega arith) (omega (arith, c .before .before .before .before .before .before .before .before .before .before .pre .1 .place, c .before .before .before .before .before .before .before .before .if1 .left)))
 
 -- src/values.rt:27:1
 value-same-length-4 : (t : ℕ) → value-lts.Need-same-length-4 (
@@ -1288,7 +1301,7 @@ value-same-length-4 : (t : ℕ) → value-lts.Need-same-length-4 (
   own-below t,
   own.Post,
 ) (value-at t) value.Post
-value-same-length-4 t c = ?
+value-same-length-4 t c = search needs
 
 -- src/values.rt:27:1
 value-returns-5 : (t : ℕ) → value-lts.Need-returns-5 (
@@ -1307,7 +1320,7 @@ value-returns-5 : (t : ℕ) → value-lts.Need-returns-5 (
   own-below t,
   own.Post,
 ) (value-at t) value.Post
-value-returns-5 t c = ?
+value-returns-5 t c = valuing.value-own (c .before .before .before .before .before .before .before .before .before .before .before .before .before .args .seat) (c .before .before .before .before .before .before .before .before .before .before .before .before .before .args .depth) (c .before .before .before .before .before .before .before .before .before .before .before .before .before .args .heads) (c .before .before .before .before .before .before .before .before .before .before .before .before .before .args .units) (c .before .before .before .before .before .before .before .before .before .before .before .before .before .args .kept) (c .before .before .before .before .before .before .before .before .before .before .before .before .before .args .a) (now (c .before .before .before .before .before .before .before .before .before .before .before .before .before .args .w)) (c .before .before .before .before .before .before .before .before .before .word .result) (c .before .before .before .before .before .before .before .before .before .word .ensures) (c .before .before .own .last .0) (c .before .before .own .result) (sym (c .before .before .before .before .before .before .before .before .kind .ensures) ∙ c .before .before .before .before .before .before .if3 .left) (sym (c .before .before .before .before .before .actor .ensures) ∙ c .before .before .before .before .if4 .left) (omega (arith, c .before .before .before .before .before .before .before .before .before .before .before .if1 .left)) (c .before .before .own .ensures)
 
 pub +choose+own+row+total+value-spec : {M : Type 1} → statement M
 +choose+own+row+total+value-spec =
