@@ -178,7 +178,7 @@ module _ {i h b k : ℕ} (S : Scene i h b k) (y : Key) (a : ℕ) where
       near (x ∷ ms) q = omega (arith, q .0 .room, S .room)
 
   -- one after the other
-  module _ (n : ℕ) (g : Known S i y n) (l : a < n) (cur new : List ℕ) (c q v s next sum : ℕ) (m : Noted S cur) (o : Child cur c a q) (w : Valued i (S .levels i y) h b k q cur new v)
+  module _ (n : ℕ) (g : Known S i y n) (l : a < n) (cur new : List ℕ) (c q v s next sum : ℕ) (m : Noted S cur) (o : Child cur c a q) (d : ℕ) (deep : S .levels i y ≤ d) (w : Valued i d h b k q cur new v)
       (e : s ≡ (sum + v) % 2 ^ 64) (z : next ≡ laterOf (getD new c 0)) where
     rest-more : (x : Member) (ms : List Member) → Rest c sum (x ∷ ms) → Noted S new × Rest next s ms
     unfolding EachFound Linked Rising firstOf sumℕ Every share size
@@ -209,7 +209,7 @@ module _ {i h b k : ℕ} (S : Scene i h b k) (y : Key) (a : ℕ) where
 
         up : (t : Tree) × (j : ℕ) × Here S (S .levels i y) (placeOf (suc p) f a) j t × (gainPick (S .parts) (S .strategy) i (S .choice) (λ z. u) 0 f a ≡ gained S j t)
             → Noted S new × (v ≡ gainPick (S .parts) (S .strategy) i (S .choice) (λ z. u) 0 f a % 2 ^ 64)
-        up (t, j, x, k) = let one : Noted S new × (v ≡ gained S j t % 2 ^ 64) = w S m t j (subst (λ z. Here S (S .levels i y) z j t) (sym place) x) in (one .0, one .1 ∙ ap (λ z. z % 2 ^ 64) (sym k))
+        up (t, j, x, k) = let one : Noted S new × (v ≡ gained S j t % 2 ^ 64) = w S m t j (S .levels i y) deep (subst (λ z. Here S (S .levels i y) z j t) (sym place) x) in (one .0, one .1 ∙ ap (λ z. z % 2 ^ 64) (sym k))
 
         value : Noted S new × (v ≡ gainPick (S .parts) (S .strategy) i (S .choice) (λ z. u) 0 f a % 2 ^ 64)
         value = up (pick-child S (S .levels i y) (suc p) (λ z. u) 0 f a kids (omega (arith, same-actions, l)))
@@ -222,7 +222,7 @@ module _ {i h b k : ℕ} (S : Scene i h b k) (y : Key) (a : ℕ) where
 module _ (i d h b k e a : ℕ) (old : List ℕ) where
   -- with the words w: the member at place c is next
   abbrev pub Summed : List ℕ → ℕ → ℕ → Type 0
-  Summed w c sum = (S : Scene i h b k) → Noted S old → (y : Key) (n : ℕ) → Known S i y n → e ≡ firstEntry (S .tree) i y → d ≡ S .levels i y → a < n
+  Summed w c sum = (S : Scene i h b k) → Noted S old → (y : Key) (n : ℕ) → Known S i y n → e ≡ firstEntry (S .tree) i y → S .levels i y ≤ d → a < n
       → Noted S w × (ms : List Member) × Rest S y a c sum ms
 
   pub summed-start : (c : ℕ) → c ≡ getD old (h + e) 0 % 2097152 → Summed old c 0
@@ -234,7 +234,7 @@ module _ (i d h b k e a : ℕ) (old : List ℕ) where
     where
       at : Noted S w × (ms : List Member) × Rest S y a c sum ms → Noted S new × (ms : List Member) × Rest S y a next s ms
       at (A, [], B) = absurd (omega (arith, p, B .here))
-      at (A, m ∷ ms, B) = let X : Noted S new × Rest S y a next s ms = rest-more S y a n g t w new c q v s next sum A o (subst (λ d. Valued i d h b k q w new v) z r) j x m ms B in (X .0, ms, X .1)
+      at (A, m ∷ ms, B) = let X : Noted S new × Rest S y a next s ms = rest-more S y a n g t w new c q v s next sum A o d z r j x m ms B in (X .0, ms, X .1)
 
   pub summed-stuck : (w new : List ℕ) (c sum q v s next : ℕ) → Summed w c sum → 0 < c → Child w c a q → Valued i d h b k q w new v → s ≡ (sum + v) % 2 ^ 64 → next ≡ laterOf (getD new c 0) → next ≤ c → Totalled i d h b k e a old new s
   unfolding firstOf Rising In
@@ -242,8 +242,8 @@ module _ (i d h b k e a : ℕ) (old : List ℕ) where
     where
       at : Noted S w × (ms : List Member) × Rest S y a c sum ms → Noted S new × (s ≡ behindAction S y a)
       at (A, [], B) = absurd (omega (arith, p, B .here))
-      at (A, m ∷ [], B) = let X : Noted S new × Rest S y a next s [] = rest-more S y a n g t w new c q v s next sum A o (subst (λ d. Valued i d h b k q w new v) z r) j x m [] B in (X .0, rest-end S y a s next (X .1))
-      at (A, m ∷ (two ∷ ms), B) = let X : Noted S new × Rest S y a next s (two ∷ ms) = rest-more S y a n g t w new c q v s next sum A o (subst (λ d. Valued i d h b k q w new v) z r) j x m (two ∷ ms) B in
+      at (A, m ∷ [], B) = let X : Noted S new × Rest S y a next s [] = rest-more S y a n g t w new c q v s next sum A o d z r j x m [] B in (X .0, rest-end S y a s next (X .1))
+      at (A, m ∷ (two ∷ ms), B) = let X : Noted S new × Rest S y a next s (two ∷ ms) = rest-more S y a n g t w new c q v s next sum A o d z r j x m (two ∷ ms) B in
           absurd (omega (arith, B .rising .0 (two .0) (inl refl), B .here, X .1 .here, u))
 
   pub summed-end : (w : List ℕ) (c sum : ℕ) → Summed w c sum → (0 < c → ⊥) → Totalled i d h b k e a old w sum

@@ -27,70 +27,68 @@ use Rattle.reply.proofs.Scenes.{levels-some, kids-chance, kids-decide, 
 -- ---- a node by its word
 module _ (i d h b k a : ℕ) (old : List ℕ) where
   -- the words of the tree are those of the scene
-  near : (S : Scene i h b k) (t : Tree) (u : ℕ) → Here S d a u t → a < k
-  near S t u r = omega (arith, r .room, size-some t, S .nodes, S .before)
+  near : (S : Scene i h b k) (t : Tree) (u y : ℕ) → Here S y a u t → a < k
+  near S t u y r = omega (arith, r .room, size-some t, S .nodes, S .before)
 
-  seen : (S : Scene i h b k) → Noted S old → (t : Tree) (u : ℕ) → Here S d a u t → getD old a 0 ≡ getD (S .words) a 0
-  seen S m t u r = m .words a (near S t u r)
+  seen : (S : Scene i h b k) → Noted S old → (t : Tree) (u y : ℕ) → Here S y a u t → getD old a 0 ≡ getD (S .words) a 0
+  seen S m t u y r = m .words a (near S t u y r)
 
   pub value-none : (r : ℕ) → d ≡ 0 → Valued i d h b k a old old r
-  value-none r e S m t u g = absurd (omega (arith, levels-some (S .levels) d t (g .level)))
+  value-none r e S m t u y l g = absurd (omega (arith, l, levels-some (S .levels) y t (g .level)))
 
   module _ (x : ℕ) (e : x ≡ getD old a 0) where
-    says : (S : Scene i h b k) → Noted S old → (t : Tree) (u : ℕ) → Here S d a u t → x ≡ getD (S .words) a 0
-    says S m t u g = e ∙ seen S m t u g
+    says : (S : Scene i h b k) → Noted S old → (t : Tree) (u y : ℕ) → Here S y a u t → x ≡ getD (S .words) a 0
+    says S m t u y g = e ∙ seen S m t u y g
 
     pub value-end : (y l v : ℕ) → kindOf x ≡ END → y ≡ getD old (b + a) 0 → (l ≡ byteOf x i) × (l < 128) → v ≡ y % 144115188075855872 * l → Valued i d h b k a old old v
     unfolding Held Says Stocked gain
-    value-end y l v z q p o S m (end f) u g = (m, o ∙ ap (λ j. j * l) units ∙ product u l (byteOf x i) (g .small) p ∙ ap (λ j. u * j % 2 ^ 64) byte)
+    value-end y l v z q p o S m (end f) u lev le g = (m, o ∙ ap (λ j. j * l) units ∙ product u l (byteOf x i) (g .small) p ∙ ap (λ j. u * j % 2 ^ 64) byte)
       where
         units : y % 144115188075855872 ≡ u
         units = let s : y ≡ u = q ∙ m .words (b + a) (omega (arith, g .room, size-some (end f), S .below)) ∙ g .stocked in rw s (NatL.mod-eq-of-lt (g .small))
 
         byte : byteOf x i ≡ lift (f i)
-        byte = sym (lift-back (byteOf x i)) ∙ ap lift (ap (λ j. payoffOf j i) (says S m (end f) u g) ∙ g .held .1 i (S .seat))
-    value-end y l v z q p o S m (chance f) u g = absurd (omega (arith, g .held .0 .0, ap kindOf (says S m (chance f) u g)))
-    value-end y l v z q p o S m (decide j n f) u g = absurd (omega (arith, z, g .held .0 .0, ap kindOf (says S m (decide j n f) u g)))
+        byte = sym (lift-back (byteOf x i)) ∙ ap lift (ap (λ j. payoffOf j i) (says S m (end f) u lev g) ∙ g .held .1 i (S .seat))
+    value-end y l v z q p o S m (chance f) u lev le g = absurd (omega (arith, g .held .0 .0, ap kindOf (says S m (chance f) u lev g)))
+    value-end y l v z q p o S m (decide j n f) u lev le g = absurd (omega (arith, z, g .held .0 .0, ap kindOf (says S m (decide j n f) u lev g)))
 
     module _ (new : List ℕ) (r : ℕ) where
       -- a chance node
       pub value-chance : (kindOf x ≡ END → ⊥) → (kindOf x ≡ DECISION → ⊥) → ValuedAll i (d - 1) h b k (a + 1) (nextOf x) old new r → Valued i d h b k a old new r
       unfolding Held Says gain size
-      value-chance z y v S m (end f) u g = absurd (z (ap kindOf (says S m (end f) u g) ∙ g .held .0))
-      value-chance z y v S m (chance f) u g = v S m (λ j. u / fan f) f (kids-here S f u g) (ap nextOf (says S m (chance f) u g) ∙ g .held .0 .1 ∙ omega arith)
+      value-chance z y v S m (end f) u lev le g = absurd (z (ap kindOf (says S m (end f) u lev g) ∙ g .held .0))
+      value-chance z y v S m (chance f) u lev le g = v S m (λ j. u / fan f) f (pred lev) (omega arith) (subst (λ j. HereAll S (pred lev) j (λ j. u / fan f) 0 f) one (kids-chance S lev a u f g)) (ap nextOf (says S m (chance f) u lev g) ∙ g .held .0 .1 ∙ omega arith)
         where
-          kids-here : (S : Scene i h b k) (f : Trees) (u : ℕ) → Here S d a u (chance f) → HereAll S (d - 1) (a + 1) (λ j. u / fan f) 0 f
-          kids-here S f u g = let o : suc a ≡ a + 1 = omega arith in let q : pred d ≡ d - 1 = omega arith in
-              subst (λ j. HereAll S j (a + 1) (λ j. u / fan f) 0 f) q (subst (λ j. HereAll S (pred d) j (λ j. u / fan f) 0 f) o (kids-chance S d a u f g))
-      value-chance z y v S m (decide j n f) u g = absurd (y (ap kindOf (says S m (decide j n f) u g) ∙ g .held .0 .0))
+          one : suc a ≡ a + 1
+          one = omega arith
+      value-chance z y v S m (decide j n f) u lev le g = absurd (y (ap kindOf (says S m (decide j n f) u lev g) ∙ g .held .0 .0))
 
-      decided-here : (S : Scene i h b k) (j : ℕ) (n : Key) (f : Trees) (u : ℕ) → Here S d a u (decide j n f) → HereAll S (d - 1) (a + 1) (given (S .parts) (S .strategy) i u j n) 0 f
-      decided-here S j n f u g = let o : suc a ≡ a + 1 = omega arith in let q : pred d ≡ d - 1 = omega arith in
-          subst (λ y. HereAll S y (a + 1) (given (S .parts) (S .strategy) i u j n) 0 f) q (subst (λ y. HereAll S (pred d) y (given (S .parts) (S .strategy) i u j n) 0 f) o (kids-decide S d a u j n f g))
+      decided-here : (S : Scene i h b k) (j : ℕ) (n : Key) (f : Trees) (u y : ℕ) → Here S y a u (decide j n f) → HereAll S (pred y) (a + 1) (given (S .parts) (S .strategy) i u j n) 0 f
+      decided-here S j n f u y g = let o : suc a ≡ a + 1 = omega arith in subst (λ z. HereAll S (pred y) z (given (S .parts) (S .strategy) i u j n) 0 f) o (kids-decide S y a u j n f g)
 
       -- another seat's
       pub value-other : kindOf x ≡ DECISION → (actorOf x ≡ i → ⊥) → ValuedAll i (d - 1) h b k (a + 1) (nextOf x) old new r → Valued i d h b k a old new r
       unfolding Held Says gain size
-      value-other z y v S m (end f) u g = absurd (omega (arith, z, g .held .0, ap kindOf (says S m (end f) u g)))
-      value-other z y v S m (chance f) u g = absurd (omega (arith, z, g .held .0 .0, ap kindOf (says S m (chance f) u g)))
-      value-other z y v S m (decide j n f) u g =
-          let l : j ≡ i → ⊥ = λ q. y (ap actorOf (says S m (decide j n f) u g) ∙ g .held .0 .1 ∙ q) in
-          let o = v S m (given (S .parts) (S .strategy) i u j n) f (decided-here S j n f u g) (ap nextOf (says S m (decide j n f) u g) ∙ g .held .0 .4 ∙ omega arith) in
+      value-other z y v S m (end f) u lev le g = absurd (omega (arith, z, g .held .0, ap kindOf (says S m (end f) u lev g)))
+      value-other z y v S m (chance f) u lev le g = absurd (omega (arith, z, g .held .0 .0, ap kindOf (says S m (chance f) u lev g)))
+      value-other z y v S m (decide j n f) u lev le g =
+          let l : j ≡ i → ⊥ = λ q. y (ap actorOf (says S m (decide j n f) u lev g) ∙ g .held .0 .1 ∙ q) in
+          let o = v S m (given (S .parts) (S .strategy) i u j n) f (pred lev) (omega arith) (decided-here S j n f u lev g) (ap nextOf (says S m (decide j n f) u lev g) ∙ g .held .0 .4 ∙ omega arith) in
           (o .0, o .1 ∙ ap (λ t. cond t (gainPick (S .parts) (S .strategy) i (S .choice) (given (S .parts) (S .strategy) i u j n) 0 f (S .choice n)) (gainedAll S (given (S .parts) (S .strategy) i u j n) 0 f) % 2 ^ 64) (sym (ne-eqb j i l)))
 
       -- the seat's own
-      pub value-own : kindOf x ≡ DECISION → actorOf x ≡ i → 0 < d → ValuedOwn i (d - 1) h b k a x old new r → Valued i d h b k a old new r
+      pub value-own : kindOf x ≡ DECISION → actorOf x ≡ i → ValuedOwn i (d - 1) h b k a x old new r → Valued i d h b k a old new r
       unfolding Held Says
-      value-own z y few v S m (end f) u g = absurd (omega (arith, z, g .held .0, ap kindOf (says S m (end f) u g)))
-      value-own z y few v S m (chance f) u g = absurd (omega (arith, z, g .held .0 .0, ap kindOf (says S m (chance f) u g)))
-      value-own z y few v S m (decide j n f) u g = at j (sym (g .held .0 .1) ∙ sym (ap actorOf (says S m (decide j n f) u g)) ∙ y) g
+      value-own z y v S m (end f) u lev le g = absurd (omega (arith, z, g .held .0, ap kindOf (says S m (end f) u lev g)))
+      value-own z y v S m (chance f) u lev le g = absurd (omega (arith, z, g .held .0 .0, ap kindOf (says S m (chance f) u lev g)))
+      value-own z y v S m (decide j n f) u lev le g = at j (sym (g .held .0 .1) ∙ sym (ap actorOf (says S m (decide j n f) u lev g)) ∙ y) g
         where
-          at : (j : ℕ) → j ≡ i → Here S d a u (decide j n f) → Noted S new × (r ≡ gained S u (decide j n f) % 2 ^ 64)
+          at : (j : ℕ) → j ≡ i → Here S lev a u (decide j n f) → Noted S new × (r ≡ gained S u (decide j n f) % 2 ^ 64)
           at j q g =
-              let o : Here S d a u (decide i n f) = subst (λ y. Here S d a u (decide y n f)) q g in
-              let p : d ≡ suc (d - 1) = omega arith in
+              let o : Here S lev a u (decide i n f) = subst (λ y. Here S lev a u (decide y n f)) q g in
+              let p : lev ≡ suc (pred lev) = omega (arith, levels-some (S .levels) lev (decide i n f) (o .level)) in
               subst (λ y. Noted S new × (r ≡ gained S u (decide y n f) % 2 ^ 64)) (sym q)
-                  (v S m n u f (ap setOf (says S m (decide i n f) u o) ∙ o .held .0 .3) (ap actionsOf (says S m (decide i n f) u o) ∙ o .held .0 .2) (subst (λ y. Here S y a u (decide i n f)) p o))
+                  (v S m n u (pred lev) f (omega arith) (ap setOf (says S m (decide i n f) u lev o) ∙ o .held .0 .3) (ap actionsOf (says S m (decide i n f) u lev o) ∙ o .held .0 .2) (subst (λ y. Here S y a u (decide i n f)) p o))
 
 -- ---- a row, tree by tree
 -- what is held in the scene's words is held in those with choices
@@ -104,26 +102,26 @@ module _ {i h b k : ℕ} (S : Scene i h b k) (w : List ℕ) (m : Noted S w) wher
 module _ (i d h b k a z : ℕ) (old : List ℕ) where
   -- place c is reached with the words w: the sum so far, and a row to come
   abbrev pub Along : List ℕ → ℕ → ℕ → Type 0
-  Along w c sum = (S : Scene i h b k) → Noted S old → (g : ℕ → ℕ) (f : Trees) → HereAll S d a g 0 f → z ≡ a + sizes f
-      → Noted S w × (e : Trees) × (x : ℕ) × HereAll S d c g x e × (z ≡ c + sizes e) × (y : ℕ) × (sum ≡ y % 2 ^ 64) × (gainedAll S g 0 f ≡ y + gainedAll S g x e)
+  Along w c sum = (S : Scene i h b k) → Noted S old → (g : ℕ → ℕ) (f : Trees) (lev : ℕ) → lev ≤ d → HereAll S lev a g 0 f → z ≡ a + sizes f
+      → Noted S w × (e : Trees) × (x : ℕ) × HereAll S lev c g x e × (z ≡ c + sizes e) × (y : ℕ) × (sum ≡ y % 2 ^ 64) × (gainedAll S g 0 f ≡ y + gainedAll S g x e)
 
   pub along-start : Along old a 0
-  along-start S m g f r q = (m, f, 0, r, q, 0, refl, sym (NatL.zero-add (gainedAll S g 0 f)))
+  along-start S m g f lev le r q = (m, f, 0, r, q, 0, refl, sym (NatL.zero-add (gainedAll S g 0 f)))
 
   pub along-more : (w new : List ℕ) (c sum v s p : ℕ) → Along w c sum → c < z → Valued i d h b k c w new v → s ≡ (sum + v) % 2 ^ 64 → Behind new c p → Along new p s
   unfolding size gain
-  along-more w new c sum v s p h l o n q S m g f r e = at (h S m g f r e)
+  along-more w new c sum v s p h l o n q S m g f lev le r e = at (h S m g f lev le r e)
     where
-      at : Noted S w × (e : Trees) × (x : ℕ) × HereAll S d c g x e × (z ≡ c + sizes e) × (y : ℕ) × (sum ≡ y % 2 ^ 64) × (gainedAll S g 0 f ≡ y + gainedAll S g x e)
-          → Noted S new × (e : Trees) × (x : ℕ) × HereAll S d p g x e × (z ≡ p + sizes e) × (y : ℕ) × (s ≡ y % 2 ^ 64) × (gainedAll S g 0 f ≡ y + gainedAll S g x e)
+      at : Noted S w × (e : Trees) × (x : ℕ) × HereAll S lev c g x e × (z ≡ c + sizes e) × (y : ℕ) × (sum ≡ y % 2 ^ 64) × (gainedAll S g 0 f ≡ y + gainedAll S g x e)
+          → Noted S new × (e : Trees) × (x : ℕ) × HereAll S lev p g x e × (z ≡ p + sizes e) × (y : ℕ) × (s ≡ y % 2 ^ 64) × (gainedAll S g 0 f ≡ y + gainedAll S g x e)
       at (A, nil, x, B, C, y, E, F) = absurd (omega arith)
       at (A, cons t u, x, B, C, y, E, F) =
-          let G = o S A t (g x) (first S d c g x t u B) in
-          let P : p ≡ c + size t = q .place (S .seats) (firstEntry (S .tree)) (laterIn (S .tree)) t (held-in S new (G .0) d c (g x) t (first S d c g x t u B)) (omega (arith, first S d c g x t u B .room, S .room)) in (
+          let G = o S A t (g x) lev le (first S lev c g x t u B) in
+          let P : p ≡ c + size t = q .place (S .seats) (firstEntry (S .tree)) (laterIn (S .tree)) t (held-in S new (G .0) lev c (g x) t (first S lev c g x t u B)) (omega (arith, first S lev c g x t u B .room, S .room)) in (
             G .0,
             u,
             suc x,
-            subst (λ j. HereAll S d j g (suc x) u) (sym P) (rest S d c g x t u B),
+            subst (λ j. HereAll S lev j g (suc x) u) (sym P) (rest S lev c g x t u B),
             omega arith,
             y + gained S (g x) t,
             n ∙ sum-wraps sum v y (gained S (g x) t) E (G .1),
@@ -132,9 +130,9 @@ module _ (i d h b k a z : ℕ) (old : List ℕ) where
 
   pub along-end : (w : List ℕ) (c sum : ℕ) → Along w c sum → z ≤ c → ValuedAll i d h b k a z old w sum
   unfolding size gain
-  along-end w c sum h l S m g f r e = at (h S m g f r e)
+  along-end w c sum h l S m g f lev le r e = at (h S m g f lev le r e)
     where
-      at : Noted S w × (e : Trees) × (x : ℕ) × HereAll S d c g x e × (z ≡ c + sizes e) × (y : ℕ) × (sum ≡ y % 2 ^ 64) × (gainedAll S g 0 f ≡ y + gainedAll S g x e)
+      at : Noted S w × (e : Trees) × (x : ℕ) × HereAll S lev c g x e × (z ≡ c + sizes e) × (y : ℕ) × (sum ≡ y % 2 ^ 64) × (gainedAll S g 0 f ≡ y + gainedAll S g x e)
           → Noted S w × (sum ≡ gainedAll S g 0 f % 2 ^ 64)
       at (A, nil, x, B, C, y, E, F) = (A, E ∙ ap (λ j. j % 2 ^ 64) (sym (F ∙ NatL.add-zero y)))
       at (A, cons t u, x, B, C, y, E, F) = absurd (omega (arith, size-some t))
@@ -142,14 +140,14 @@ module _ (i d h b k a z : ℕ) (old : List ℕ) where
   -- no tree ends before it begins
   pub along-stuck : (w new : List ℕ) (c sum v s p : ℕ) → Along w c sum → c < z → Valued i d h b k c w new v → Behind new c p → p ≤ c → ValuedAll i d h b k a z old new s
   unfolding size
-  along-stuck w new c sum v s p h l o q y S m g f r e = at (h S m g f r e)
+  along-stuck w new c sum v s p h l o q y S m g f lev le r e = at (h S m g f lev le r e)
     where
-      at : Noted S w × (e : Trees) × (x : ℕ) × HereAll S d c g x e × (z ≡ c + sizes e) × (y : ℕ) × (sum ≡ y % 2 ^ 64) × (gainedAll S g 0 f ≡ y + gainedAll S g x e)
+      at : Noted S w × (e : Trees) × (x : ℕ) × HereAll S lev c g x e × (z ≡ c + sizes e) × (y : ℕ) × (sum ≡ y % 2 ^ 64) × (gainedAll S g 0 f ≡ y + gainedAll S g x e)
           → Noted S new × (s ≡ gainedAll S g 0 f % 2 ^ 64)
       at (A, nil, x, B, C, y, E, F) = absurd (omega arith)
       at (A, cons t u, x, B, C, j, E, F) =
-          let G = o S A t (g x) (first S d c g x t u B) in
-          let P : p ≡ c + size t = q .place (S .seats) (firstEntry (S .tree)) (laterIn (S .tree)) t (held-in S new (G .0) d c (g x) t (first S d c g x t u B)) (omega (arith, first S d c g x t u B .room, S .room)) in
+          let G = o S A t (g x) lev le (first S lev c g x t u B) in
+          let P : p ≡ c + size t = q .place (S .seats) (firstEntry (S .tree)) (laterIn (S .tree)) t (held-in S new (G .0) lev c (g x) t (first S lev c g x t u B)) (omega (arith, first S lev c g x t u B .room, S .room)) in
           absurd (omega (arith, P, y, size-some t))
 
 -- ---- the lowest of the greatest
@@ -170,27 +168,27 @@ choice-few {i} S y n g =
     let e : S .choice y ≡ topmost (behindAction S y) (pred n) = known-of S (λ j y n. j ≡ i → S .choice y ≡ topmost (behindAction S y) (pred n)) (S .decided) i y n g refl in
     (omega (arith, e, topmost-few (behindAction S y) (pred n), few .0), few .1)
 
-module _ (i d h b k a x : ℕ) (old mid new : List ℕ) (c at r : ℕ) (q : Child mid a c at) (v : Valued i d h b k at mid new r) (S : Scene i h b k) (m : Noted S mid) (y : Key) (u : ℕ) (f : Trees)
-    (g : Here S (suc d) a u (decide i y f)) (e : c ≡ S .choice y) where
+module _ (i d h b k a x : ℕ) (old mid new : List ℕ) (c at r : ℕ) (q : Child mid a c at) (v : Valued i d h b k at mid new r) (S : Scene i h b k) (m : Noted S mid) (y : Key) (u lev : ℕ) (le : lev ≤ d) (f : Trees)
+    (g : Here S (suc lev) a u (decide i y f)) (e : c ≡ S .choice y) where
   abbrev to : ℕ → ℕ
   to = given (S .parts) (S .strategy) i u i y
 
-  below : HereAll S d (suc a) to 0 f
-  below = kids-decide S (suc d) a u i y f g
+  below : HereAll S lev (suc a) to 0 f
+  below = kids-decide S (suc lev) a u i y f g
 
   inside : (c < fan f) × (c ≤ 2)
   unfolding Every
   inside = let l : (S .choice y < fan f) × (fan f ≤ 3) = choice-few S y (fan f) (g .known .0) in (omega (arith, l .0), omega (arith, l .0, l .1))
 
   child-value : Noted S new × (r ≡ gainPick (S .parts) (S .strategy) i (S .choice) to 0 f c % 2 ^ 64)
-  child-value = up (pick-child S d (suc a) to 0 f c below (inside .0))
+  child-value = up (pick-child S lev (suc a) to 0 f c below (inside .0))
     where
       place : at ≡ placeOf (suc a) f c
-      place = q .place (S .seats) (firstEntry (S .tree)) (laterIn (S .tree)) f (held-in-all S mid m d (suc a) to 0 f below) (omega (arith, below .room, S .room)) (inside .0) (inside .1)
+      place = q .place (S .seats) (firstEntry (S .tree)) (laterIn (S .tree)) f (held-in-all S mid m lev (suc a) to 0 f below) (omega (arith, below .room, S .room)) (inside .0) (inside .1)
 
-      up : (t : Tree) × (w : ℕ) × Here S d (placeOf (suc a) f c) w t × (gainPick (S .parts) (S .strategy) i (S .choice) to 0 f c ≡ gained S w t)
+      up : (t : Tree) × (w : ℕ) × Here S lev (placeOf (suc a) f c) w t × (gainPick (S .parts) (S .strategy) i (S .choice) to 0 f c ≡ gained S w t)
           → Noted S new × (r ≡ gainPick (S .parts) (S .strategy) i (S .choice) to 0 f c % 2 ^ 64)
-      up (t, w, o, z) = let one : Noted S new × (r ≡ gained S w t % 2 ^ 64) = v S m t w (subst (λ j. Here S d j w t) (sym place) o) in (one .0, one .1 ∙ ap (λ j. j % 2 ^ 64) (sym z))
+      up (t, w, o, z) = let one : Noted S new × (r ≡ gained S w t % 2 ^ 64) = v S m t w lev le (subst (λ j. Here S lev j w t) (sym place) o) in (one .0, one .1 ∙ ap (λ j. j % 2 ^ 64) (sym z))
 
   own-value : Noted S new × (r ≡ gained S u (decide i y f) % 2 ^ 64)
   unfolding gain
@@ -202,9 +200,9 @@ module _ (i d h b k a x : ℕ) (old mid new : List ℕ) (c at r : ℕ) (q : Chil
 
 pub own-is : (i d h b k a x : ℕ) (old mid new : List ℕ) (c at r : ℕ) → Chosen i d h b k (setOf x) (actionsOf x) old mid c → Child mid a c at → Valued i d h b k at mid new r → ValuedOwn i d h b k a x old new r
 unfolding Every Levels
-own-is i d h b k a x old mid new c at r p q v S m y u f e n g =
-    let o : Noted S mid × (c ≡ S .choice y) = p S m y (subst (Known S i y) (sym n) (g .known .0)) e (sym (g .level .1)) in
-    own-value i d h b k a x old mid new c at r q v S (o .0) y u f g (o .1)
+own-is i d h b k a x old mid new c at r p q v S m y u z f le e n g =
+    let o : Noted S mid × (c ≡ S .choice y) = p S m y (subst (Known S i y) (sym n) (g .known .0)) e (NatL.le-trans (NatL.le-of-eq (g .level .1)) le) in
+    own-value i d h b k a x old mid new c at r q v S (o .0) y u z le f g (o .1)
 
 -- ---- numbers in range
 pub walk-at : (a i d h b k : ℕ) → Walkable a i d h b k → (c e : ℕ) → e ≤ d → c + e < 8388608 → Walkable c i e h b k

@@ -103,24 +103,24 @@ module _ {i h b k : ℕ} (S : Scene i h b k) where
   abbrev pub behindAction : Key → ℕ → ℕ
   behindAction y a = setGain (S .parts) (S .strategy) i (S .choice) (S .tree) (S .root) y a
 
--- r is the value of the tree at place a
+-- r is the value of the tree at place a, if no path of it has more than d nodes
 abbrev pub Valued : (i d h b k a : ℕ) (old new : List ℕ) (r : ℕ) → Type 0
-Valued i d h b k a old new r = (S : Scene i h b k) → Noted S old → (t : Tree) (u : ℕ) → Here S d a u t → Noted S new × (r ≡ gained S u t % 2 ^ 64)
+Valued i d h b k a old new r = (S : Scene i h b k) → Noted S old → (t : Tree) (u x : ℕ) → x ≤ d → Here S x a u t → Noted S new × (r ≡ gained S u t % 2 ^ 64)
 
 -- of the row from place a to z
 abbrev pub ValuedAll : (i d h b k a z : ℕ) (old new : List ℕ) (r : ℕ) → Type 0
-ValuedAll i d h b k a z old new r = (S : Scene i h b k) → Noted S old → (g : ℕ → ℕ) (f : Trees) → HereAll S d a g 0 f → z ≡ a + sizes f → Noted S new × (r ≡ gainedAll S g 0 f % 2 ^ 64)
+ValuedAll i d h b k a z old new r = (S : Scene i h b k) → Noted S old → (g : ℕ → ℕ) (f : Trees) (x : ℕ) → x ≤ d → HereAll S x a g 0 f → z ≡ a + sizes f → Noted S new × (r ≡ gainedAll S g 0 f % 2 ^ 64)
 
 -- of the own node at place a with word x
 abbrev pub ValuedOwn : (i d h b k a x : ℕ) (old new : List ℕ) (r : ℕ) → Type 0
-ValuedOwn i d h b k a x old new r = (S : Scene i h b k) → Noted S old → (y : Key) (u : ℕ) (f : Trees) → setOf x ≡ firstEntry (S .tree) i y → actionsOf x ≡ fan f → Here S (suc d) a u (decide i y f)
+ValuedOwn i d h b k a x old new r = (S : Scene i h b k) → Noted S old → (y : Key) (u z : ℕ) (f : Trees) → z ≤ d → setOf x ≡ firstEntry (S .tree) i y → actionsOf x ≡ fan f → Here S (suc z) a u (decide i y f)
     → Noted S new × (r ≡ gained S u (decide i y f) % 2 ^ 64)
 
 -- r is the choice of the set with first entry e and n actions
 abbrev pub Chosen : (i d h b k e n : ℕ) (old new : List ℕ) (r : ℕ) → Type 0
-Chosen i d h b k e n old new r = (S : Scene i h b k) → Noted S old → (y : Key) → Known S i y n → e ≡ firstEntry (S .tree) i y → d ≡ S .levels i y → Noted S new × (r ≡ S .choice y)
+Chosen i d h b k e n old new r = (S : Scene i h b k) → Noted S old → (y : Key) → Known S i y n → e ≡ firstEntry (S .tree) i y → S .levels i y ≤ d → Noted S new × (r ≡ S .choice y)
 
 -- r is the sum behind an action of that set
 abbrev pub Totalled : (i d h b k e a : ℕ) (old new : List ℕ) (r : ℕ) → Type 0
-Totalled i d h b k e a old new r = (S : Scene i h b k) → Noted S old → (y : Key) (n : ℕ) → Known S i y n → e ≡ firstEntry (S .tree) i y → d ≡ S .levels i y → a < n
+Totalled i d h b k e a old new r = (S : Scene i h b k) → Noted S old → (y : Key) (n : ℕ) → Known S i y n → e ≡ firstEntry (S .tree) i y → S .levels i y ≤ d → a < n
     → Noted S new × (r ≡ behindAction S y a)
