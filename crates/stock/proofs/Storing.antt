@@ -1,26 +1,26 @@
 -- What a walk stores, node by node. Assumes nothing.
 use mathlib.Core.Path.{_≡_, refl, sym, ap, _∙_, subst}
-use mathlib.Core.Logic.{inl, inr}
+use mathlib.Core.Logic.{inl}
 use mathlib.Core.List.{List}
 use Prim.Native.Nat.{ℕ, suc, _+_, _-_, _*_, _/_, _≤_, _<_}
-use native.Mathlib.Nat as NatL
 use native.Mathlib.Omega.{arith}
 use lib.Dec.{eqb}
 use lib.ListN.{length, getD, set, length-set}
 use lib.Seq.{getD-set-same, getD-set-other}
 use borrow.Author.Tests.{eq-eqb, eqb-true}
 use Rattle.finite.proofs.Tests.{Tested, holds, fails, tested}
-use Rattle.game.specs.Tree.{Key, Tree, end, chance, decide, Trees, nil, cons, fan, Every, EveryAll, Strategy}
+use Rattle.game.specs.Tree.{Key, Tree, end, chance, decide, Trees, nil, cons, fan, Every, Strategy}
 use Rattle.game.specs.Sets.{size, sizes, firstEntry}
 use Rattle.game.specs.Table.{strategyOf}
 use Rattle.game.specs.Reply.{share}
-use Rattle.arena.specs.Words.{END, CHANCE, DECISION, kindOf, actorOf, actionsOf, setOf, nextOf}
+use Rattle.arena.specs.Words.{END, CHANCE, kindOf, actorOf, actionsOf, setOf, nextOf}
 use Rattle.arena.specs.Held.{Says, Held, HeldAll}
 use Rattle.arena.specs.Walk.{Behind, Fan}
 use Rattle.arena.specs.Index.{Kept}
 use Rattle.arena.proofs.Building.{size-some, held-same, held-same-all, kept-none, kept-join, kept-set}
-use Rattle.units.specs.Earned.{deep, deepAll, Entered, Readable, ReadableAll, Walkable}
+use Rattle.units.specs.Earned.{Readable, ReadableAll}
 use Rattle.units.specs.Gain.{given, Stocked, StockedAll}
+use Rattle.units.proofs.Reading.{deep-some, chance-row, decide-row, first, rest, near}
 use Rattle.units.proofs.Adding.{walk-down, walk-along, walk-here}
 use Rattle.stock.specs.Collected.{Storable, Alike, Collected, CollectedAll, Each, Dealt, Moved, Shared}
 
@@ -49,47 +49,22 @@ module _ (D : ℕ) (s : Strategy) (i b : ℕ) (v w : List ℕ) where
     stocked-same-all a g x nil e h = tt
     stocked-same-all a g x (cons t f) e h = (stocked-same a (g x) t (λ p l m. e p l (omega arith)) (h .0), stocked-same-all (a + size t) g (suc x) f (λ p l m. e p (omega arith) (omega arith)) (h .1))
 
--- ---- what is read of a tree, of its children and of a row
-module _ (n : ℕ) (T : Tree) (l : ℕ → ℕ → Key → ℕ) (w table : List ℕ) (D a d : ℕ) where
-  deep-some : (t : Tree) → 1 ≤ deep t
-  unfolding deep
-  deep-some (end p) = omega arith
-  deep-some (chance f) = omega arith
-  deep-some (decide j k f) = omega arith
+-- ---- what is read below place b is read where the words there are the same
+module _ (n : ℕ) (T : Tree) (l : ℕ → ℕ → Key → ℕ) (b a : ℕ) (v w : List ℕ) (e : Alike b v w) where
+  alike-held : (t : Tree) → a + size t ≤ b → Held n (firstEntry T) l v a t → Held n (firstEntry T) l w a t
+  alike-held t m h = held-same n (firstEntry T) l v w a t h (λ p x y. e p (omega arith))
 
-  dealt-row : (f : Trees) → Readable n T l w table D a d (chance f) → ReadableAll n T l w table D (a + 1) (d - 1) f
-  unfolding Held size Every deep
-  dealt-row f h = record {
-    held = subst (λ b. HeldAll n (firstEntry T) l w b f) (omega arith) (h .held .1);
-    room = omega (arith, h .room);
-    entered = h .entered;
-    few = h .few;
-    within = omega (arith, h .within);
-  }
+  alike-row : (f : Trees) → a + sizes f ≤ b → HeldAll n (firstEntry T) l v a f → HeldAll n (firstEntry T) l w a f
+  alike-row f m h = held-same-all n (firstEntry T) l v w a f h (λ p x y. e p (omega arith))
 
-  moved-row : (j : ℕ) (k : Key) (f : Trees) → Readable n T l w table D a d (decide j k f) → ReadableAll n T l w table D (a + 1) (d - 1) f
-  unfolding Held size Every deep
-  moved-row j k f h = record {
-    held = subst (λ b. HeldAll n (firstEntry T) l w b f) (omega arith) (h .held .1);
-    room = omega (arith, h .room);
-    entered = h .entered .1;
-    few = h .few;
-    within = omega (arith, h .within);
-  }
-
-  first : (t : Tree) (f : Trees) → ReadableAll n T l w table D a d (cons t f) → Readable n T l w table D a d t
-  unfolding Held size Every deep
-  first t f h = record { held = h .held .0; room = omega (arith, h .room); entered = h .entered .0; few = h .few; within = NatL.le-trans (NatL.le-max-left (deep t) (deepAll f)) (h .within) }
-
-  others : (t : Tree) (f : Trees) (q : ℕ) → q ≡ a + size t → ReadableAll n T l w table D a d (cons t f) → ReadableAll n T l w table D q d f
-  unfolding Held size Every deep
-  others t f q e h = rw e (record { held = h .held .1; room = omega (arith, h .room); entered = h .entered .1; few = h .few; within = NatL.le-trans (NatL.le-max-right (deep t) (deepAll f)) (h .within) })
+  pub alike-readable : (table : List ℕ) (D d : ℕ) (t : Tree) → a + size t ≤ b → Readable n T l v table D a d t → Readable n T l w table D a d t
+  alike-readable table D d t m h = record { held = alike-held t m (h .held); room = h .room; entered = h .entered; few = h .few; within = h .within }
 
 -- ---- a node: its units are put down first
 module _ (table : List ℕ) (D i b a u d : ℕ) (old : List ℕ) where
   -- no depth
   pub node-none : d ≡ 0 → Collected table D i b a u d old old
-  node-none e = record { same = λ p l. refl; long = refl; is = λ w n T t l h r m k. absurd (omega (arith, deep-some n T l w table D a d t, r .within)) }
+  node-none e = record { same = λ p l. refl; long = refl; is = λ w n T t l h r m k. absurd (omega (arith, deep-some t, r .within)) }
 
   module _ (mid : List ℕ) (x : ℕ) (e : mid ≡ set old (b + a) u) (y : x ≡ getD mid a 0) where
     put-alike : Alike b old mid
@@ -110,12 +85,11 @@ module _ (table : List ℕ) (D i b a u d : ℕ) (old : List ℕ) where
     -- a node whose children are stored
     above : (new : List ℕ) (f : Trees) → b + (a + suc (sizes f)) ≤ length old → Kept (b + (a + 1)) (b + (a + 1 + sizes f)) mid new
         → (getD new (b + a) 0 ≡ u) × Kept (b + a) (b + (a + suc (sizes f))) old new
-    above new f l k =
-        (
-          k .words (b + a) (inl (omega arith)) ∙ put-here (omega arith),
-          kept-join (b + a) (suc (b + a)) (b + (a + suc (sizes f))) old mid new (omega arith) (omega arith) put-kept
-              (kept-at (b + (a + 1)) (suc (b + a)) (b + (a + 1 + sizes f)) (b + (a + suc (sizes f))) mid new (omega arith) (omega arith) k),
-        )
+    above new f l k = (
+      k .words (b + a) (inl (omega arith)) ∙ put-here (omega arith),
+      kept-join (b + a) (suc (b + a)) (b + (a + suc (sizes f))) old mid new (omega arith) (omega arith) put-kept
+          (kept-at (b + (a + 1)) (suc (b + a)) (b + (a + 1 + sizes f)) (b + (a + suc (sizes f))) mid new (omega arith) (omega arith) k),
+    )
 
     module _ (w : List ℕ) (n : ℕ) (T : Tree) (l : ℕ → ℕ → Key → ℕ) (h : Alike b w old) where
       -- an end
@@ -133,7 +107,7 @@ module _ (table : List ℕ) (D i b a u d : ℕ) (old : List ℕ) where
       chance-is (end p) new s k o q r m z = absurd (omega (arith, r .held .0, ap kindOf (reads w h (omega arith))))
       chance-is (chance f) new s k o q r m z =
           let R : Dealt (a + 1) s u T f (λ x. u / fan f) = record { ends = o ∙ ap nextOf (reads w h (omega arith)) ∙ r .held .0 .1 ∙ omega arith; gives = λ x. refl } in
-          let K = q .is w n T f (λ x. u / fan f) l (alike-join b w old mid h put-alike) (dealt-row n T l w table D a d f r) R (omega arith) (omega (arith, put-long)) in
+          let K = q .is w n T f (λ x. u / fan f) l (alike-join b w old mid h put-alike) (chance-row n T l w table D a d f r) R (omega arith) (omega (arith, put-long)) in
           let A = above new f z (K .1) in
           ((A .0, subst (λ p. StockedAll D (strategyOf T table) i b new p (λ x. u / fan f) 0 f) (omega arith) (K .0)), A .1)
       chance-is (decide j y f) new s k o q r m z = absurd (omega (arith, r .held .0 .0, ap kindOf (reads w h (omega arith))))
@@ -156,7 +130,7 @@ module _ (table : List ℕ) (D i b a u d : ℕ) (old : List ℕ) where
             entered = r .entered .0;
             gives = λ x. refl;
           } in
-          let K = q .is w n T f (given D (strategyOf T table) i u j y) l (alike-join b w old mid h put-alike) (moved-row n T l w table D a d j y f r) R (omega arith) (omega (arith, put-long)) in
+          let K = q .is w n T f (given D (strategyOf T table) i u j y) l (alike-join b w old mid h put-alike) (decide-row n T l w table D a d j y f r) R (omega arith) (omega (arith, put-long)) in
           let A = above new f z (K .1) in
           ((A .0, subst (λ p. StockedAll D (strategyOf T table) i b new p (given D (strategyOf T table) i u j y) 0 f) (omega arith) (K .0)), A .1)
 
@@ -170,13 +144,6 @@ module _ (table : List ℕ) (D i b a u d : ℕ) (old : List ℕ) where
     node-decides new k o q = record { same = alike-join b old mid new put-alike (q .same); long = q .long ∙ put-long; is = λ w n T t l h. decides-is w n T l h t new k o q }
 
 -- ---- a row by its units
--- trees held below place b are held where its words are the same
-alike-held : (n : ℕ) (s : ℕ → Key → ℕ) (l : ℕ → ℕ → Key → ℕ) (b a : ℕ) (v w : List ℕ) (t : Tree) → Alike b v w → a + size t ≤ b → Held n s l v a t → Held n s l w a t
-alike-held n s l b a v w t e h g = held-same n s l v w a t g (λ p x y. e p (omega arith))
-
-alike-held-all : (n : ℕ) (s : ℕ → Key → ℕ) (l : ℕ → ℕ → Key → ℕ) (b a : ℕ) (v w : List ℕ) (f : Trees) → Alike b v w → a + sizes f ≤ b → HeldAll n s l v a f → HeldAll n s l w a f
-alike-held-all n s l b a v w f e h g = held-same-all n s l v w a f g (λ p x y. e p (omega arith))
-
 module _ (table : List ℕ) (D i b a u d : ℕ) (old : List ℕ) where
   none-stored : (T : Tree) (f : Trees) (g : ℕ → ℕ) → fan f ≡ 0 → StockedAll D (strategyOf T table) i b old a g 0 f × Kept (b + a) (b + (a + sizes f)) old old
   unfolding fan size Stocked
@@ -186,7 +153,7 @@ module _ (table : List ℕ) (D i b a u d : ℕ) (old : List ℕ) where
   -- the children of a chance node
   module _ (z c : ℕ) (F : Fan old a z c) where
     counted : (w : List ℕ) (n : ℕ) (T : Tree) (f : Trees) (g : ℕ → ℕ) (l : ℕ → ℕ → Key → ℕ) → Alike b w old → ReadableAll n T l w table D a d f → Dealt a z u T f g → a + sizes f ≤ b → c ≡ fan f
-    counted w n T f g l h r R m = F n (firstEntry T) l f (alike-held-all n (firstEntry T) l b a w old f h m (r .held)) (R .ends) (omega (arith, R .ends, r .room))
+    counted w n T f g l h r R m = F n (firstEntry T) l f (alike-row n T l b a w old h f m (r .held)) (R .ends) (omega (arith, R .ends, r .room))
 
     pub deal-none : c ≡ 0 → CollectedAll (Dealt a z u) table D i b a d old old
     deal-none e = record { same = λ p l. refl; long = refl; is = λ w n T f g l h r R m k. none-stored T f g (sym (counted w n T f g l h r R m) ∙ e) }
@@ -292,7 +259,7 @@ module _ (table : List ℕ) (D i b a d : ℕ) (old : List ℕ) where
     module _ (p c q u : ℕ) (v x : List ℕ) (h : Alike b w old) (o : Alike b old v) (y : length v ≡ length old) (m : a + sizes f ≤ b) (z : b + (a + sizes f) ≤ length old) (N : Collected table D i b p u d v x) (B : Behind x p q) where
       next-place : (t : Tree) (r : Trees) → a + sizes f ≡ p + sizes (cons t r) → ReadableAll n T l w table D p d (cons t r) → q ≡ p + size t
       unfolding size
-      next-place t r e A = B .place n (firstEntry T) l t (alike-held n (firstEntry T) l b p w x t (alike-join b w v x (alike-join b w old v h o) (N .same)) (omega arith) (first n T l w table D p d t r A .held)) (omega (arith, A .room))
+      next-place t r e A = B .place n (firstEntry T) l t (alike-held n T l b p w x (alike-join b w v x (alike-join b w old v h o) (N .same)) t (omega arith) (first n T l w table D p d t r A .held)) (near n T l w table D p d t r A)
 
       next-stored : (t : Tree) (r : Trees) → a + sizes f ≡ p + sizes (cons t r) → ReadableAll n T l w table D p d (cons t r) → Stocked D (strategyOf T table) i b x p u t × Kept (b + p) (b + (p + size t)) v x
       unfolding size
@@ -312,7 +279,7 @@ module _ (table : List ℕ) (D i b a d : ℕ) (old : List ℕ) where
               record {
                 rest = r;
                 on = omega arith;
-                readable = others n T l w table D p d t r q P A;
+                readable = rest n T l w table D p d t r A q P;
                 room = omega arith;
                 count = omega arith;
                 kept = kept-join (b + a) (b + p) (b + q) old v x (omega arith) (omega arith) (G .kept) (kept-at (b + p) (b + p) (b + (p + size t)) (b + q) v x refl (omega arith) (K .1));
@@ -341,8 +308,8 @@ module _ (table : List ℕ) (D i b a d : ℕ) (old : List ℕ) where
       same = alike-join b old v x (S .same) (N .same);
       long = N .long ∙ S .long;
       going = λ w n T f g l h r R o k.
-        let G = S .going w n T f g l h r R o k in
-        (G .0 + 1, tt, going-more w n T l f g p (G .0) q u v x h (S .same) (S .long) o k N B (G .2) (going-some w n T l f g p (G .0) v (G .2) (omega (arith, R .ends))) (R .gives (G .0)));
+          let G = S .going w n T f g l h r R o k in
+          (G .0 + 1, tt, going-more w n T l f g p (G .0) q u v x h (S .same) (S .long) o k N B (G .2) (going-some w n T l f g p (G .0) v (G .2) (omega (arith, R .ends))) (R .gives (G .0)));
     }
 
     pub each-end : (p : ℕ) (v : List ℕ) → SoFar (Each a z u) (λ c. Unit {0}) p v → z ≤ p → CollectedAll (Each a z u) table D i b a d old v
@@ -350,8 +317,8 @@ module _ (table : List ℕ) (D i b a d : ℕ) (old : List ℕ) where
       same = S .same;
       long = S .long;
       is = λ w n T f g l h r R o k.
-        let G = S .going w n T f g l h r R o k in
-        going-end w n T l f g p (G .0) v (G .2) (going-over w n T l f g p (G .0) v (G .2) (omega (arith, R .ends)));
+          let G = S .going w n T f g l h r R o k in
+          going-end w n T l f g p (G .0) v (G .2) (going-over w n T l f g p (G .0) v (G .2) (omega (arith, R .ends)));
     }
 
     pub each-stuck : (p q : ℕ) (v x : List ℕ) → SoFar (Each a z u) (λ c. Unit {0}) p v → p < z → Collected table D i b p u d v x → Behind x p q → q ≤ p → CollectedAll (Each a z u) table D i b a d old x
@@ -359,8 +326,8 @@ module _ (table : List ℕ) (D i b a d : ℕ) (old : List ℕ) where
       same = alike-join b old v x (S .same) (N .same);
       long = N .long ∙ S .long;
       is = λ w n T f g l h r R o k.
-        let G = S .going w n T f g l h r R o k in
-        absurd (going-stuck w n T l f g p (G .0) q u v x h (S .same) (S .long) o k N B (G .2) (going-some w n T l f g p (G .0) v (G .2) (omega (arith, R .ends))) s);
+          let G = S .going w n T f g l h r R o k in
+          absurd (going-stuck w n T l f g p (G .0) q u v x h (S .same) (S .long) o k N B (G .2) (going-some w n T l f g p (G .0) v (G .2) (omega (arith, R .ends))) s);
     }
 
   -- ---- as the table says
@@ -379,9 +346,9 @@ module _ (table : List ℕ) (D i b a d : ℕ) (old : List ℕ) where
       same = alike-join b old v x (S .same) (N .same);
       long = N .long ∙ S .long;
       going = λ w n T f g l h r R o k.
-        let G = S .going w n T f g l h r R o k in
-        let here : g (G .0) ≡ s = ap g (G .1) ∙ shared-gives c s y (r .few) T f g R in
-        (G .0 + 1, ap (λ y. y + 1) (G .1), going-more w n T l f g p (G .0) q s v x h (S .same) (S .long) o k N B (G .2) (omega (arith, G .1, R .actions)) here);
+          let G = S .going w n T f g l h r R o k in
+          let here : g (G .0) ≡ s = ap g (G .1) ∙ shared-gives c s y (r .few) T f g R in
+          (G .0 + 1, ap (λ y. y + 1) (G .1), going-more w n T l f g p (G .0) q s v x h (S .same) (S .long) o k N B (G .2) (omega (arith, G .1, R .actions)) here);
     }
 
     pub shared-end : (p c : ℕ) (v : List ℕ) → SoFar (Shared table D e z u) (λ y. y ≡ c) p v → z - e ≤ c → CollectedAll (Shared table D e z u) table D i b a d old v
@@ -389,8 +356,8 @@ module _ (table : List ℕ) (D i b a d : ℕ) (old : List ℕ) where
       same = S .same;
       long = S .long;
       is = λ w n T f g l h r R o k.
-        let G = S .going w n T f g l h r R o k in
-        going-end w n T l f g p (G .0) v (G .2) (omega (arith, G .1, R .actions));
+          let G = S .going w n T f g l h r R o k in
+          going-end w n T l f g p (G .0) v (G .2) (omega (arith, G .1, R .actions));
     }
 
 -- ---- one step down, and one along

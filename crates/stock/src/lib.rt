@@ -64,17 +64,7 @@ fn deal(
     if count == 0 {
         return;
     }
-    spread(
-        w,
-        table,
-        a,
-        end,
-        u / count as u64,
-        seat,
-        d,
-        units,
-        depth,
-    );
+    spread(w, table, a, end, u / count as u64, seat, d, units, depth);
 }
 
 // The same of the children of a decision with word x: own moves pass all units on.

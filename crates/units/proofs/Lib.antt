@@ -1,3 +1,4 @@
 pub mod Six
+pub mod Reading
 pub mod Adding
 pub mod Lifting

@@ -1,16 +1,12 @@
-use Prim.Native.Nat.{ℕ, _<_}
+use Prim.Native.Nat.{ℕ, _+_, _-_, _*_, _≤_, _<_}
 use borrow.Fn.Kinds.{In}
 use borrow.Fn.PlainCycle.{Measures, is, falls, and}
 use denote.Ref.{now}
-use mathlib.Core.Path.{_≡_, refl, sym, ap, _∙_, subst}
-use Prim.Native.Nat.{_+_, _-_, _*_, _/_, _≤_}
+use mathlib.Core.Path.{_≡_, sym, _∙_}
 use native.Mathlib.Omega.{arith}
 use borrow.Author.Needs.{needs}
-use lib.ListN.{length, getD}
-use Rattle.arena.specs.Words.{setOf, actionsOf, nextOf}
-use Rattle.arena.specs.Walk.{Fan}
 use Rattle.units.proofs.Adding as adding
-use Rattle.stock.specs.Collected.{Storable, CollectedAll, Each, Dealt, Moved, Shared}
+use Rattle.stock.specs.Collected.{Storable, Each, Shared}
 use Rattle.stock.proofs.Storing as storing
 use Rattle.stock.proofs.collect.Reads as collect
 use Rattle.stock.proofs.collect.Kinds as collect-kinds
@@ -85,7 +81,6 @@ spread-at t = and 2 spread-kinds.ps (is 2 spread-kinds.ps μ-spread t) spread.Pr
 abbrev spread-below : ℕ → In 2 spread-kinds.ps
 spread-below t = and 2 spread-kinds.ps (falls 2 spread-kinds.ps _<_ μ-spread t) spread.Pre
 
--- src/lib.rt:33:9
 collect-returns : (t : ℕ) → collect-lts.Need-returns (
   put-reads.Asked,
   put-reads.Learnt,
@@ -102,7 +97,6 @@ collect-returns : (t : ℕ) → collect-lts.Need-returns (
 ) (collect-at t) collect.Post
 collect-returns t c = storing.node-none _ _ _ _ _ _ _ _ (c .if1 .taken)
 
--- src/lib.rt:35:12
 collect-add-put : (t : ℕ) → collect-lts.Need-add-put (
   put-reads.Asked,
   put-reads.Learnt,
@@ -119,7 +113,6 @@ collect-add-put : (t : ℕ) → collect-lts.Need-add-put (
 ) (collect-at t) collect.Post
 collect-add-put t c = record { fits = omega (arith, c .before .before .before .before .pre .1 .base, c .before .before .before .before .pre .1 .walk .place) }
 
--- src/lib.rt:35:5
 collect-put-requires : (t : ℕ) → collect-lts.Need-put-requires (
   put-reads.Asked,
   put-reads.Learnt,
@@ -136,7 +129,6 @@ collect-put-requires : (t : ℕ) → collect-lts.Need-put-requires (
 ) (collect-at t) collect.Post
 collect-put-requires t c κs = search needs
 
--- src/lib.rt:36:9
 collect-word-requires : (t : ℕ) → collect-lts.Need-word-requires (
   put-reads.Asked,
   put-reads.Learnt,
@@ -153,7 +145,6 @@ collect-word-requires : (t : ℕ) → collect-lts.Need-word-requires (
 ) (collect-at t) collect.Post
 collect-word-requires t c κs = search needs
 
--- src/lib.rt:37:9
 collect-kind-requires : (t : ℕ) → collect-lts.Need-kind-requires (
   put-reads.Asked,
   put-reads.Learnt,
@@ -170,7 +161,6 @@ collect-kind-requires : (t : ℕ) → collect-lts.Need-kind-requires (
 ) (collect-at t) collect.Post
 collect-kind-requires t c κs = search needs
 
--- src/lib.rt:39:9
 collect-same-length : (t : ℕ) → collect-lts.Need-same-length (
   put-reads.Asked,
   put-reads.Learnt,
@@ -187,7 +177,6 @@ collect-same-length : (t : ℕ) → collect-lts.Need-same-length (
 ) (collect-at t) collect.Post
 collect-same-length t c = search needs
 
--- src/lib.rt:39:9
 collect-returns-2 : (t : ℕ) → collect-lts.Need-returns-2 (
   put-reads.Asked,
   put-reads.Learnt,
@@ -204,7 +193,6 @@ collect-returns-2 : (t : ℕ) → collect-lts.Need-returns-2 (
 ) (collect-at t) collect.Post
 collect-returns-2 t c = storing.node-end _ _ _ _ _ _ _ _ _ _ (c .before .before .before .before .before .before .put .ensures) (c .before .before .word .ensures) (sym (c .before .kind .ensures) ∙ c .if2 .taken)
 
--- src/lib.rt:42:24
 collect-add-deal : (t : ℕ) → collect-lts.Need-add-deal (
   put-reads.Asked,
   put-reads.Learnt,
@@ -221,7 +209,6 @@ collect-add-deal : (t : ℕ) → collect-lts.Need-add-deal (
 ) (collect-at t) collect.Post
 collect-add-deal t c = record { fits = omega (arith, c .before .before .before .before .before .before .before .before .before .before .before .before .before .pre .1 .walk .place) }
 
--- src/lib.rt:42:31
 collect-next-requires : (t : ℕ) → collect-lts.Need-next-requires (
   put-reads.Asked,
   put-reads.Learnt,
@@ -238,7 +225,6 @@ collect-next-requires : (t : ℕ) → collect-lts.Need-next-requires (
 ) (collect-at t) collect.Post
 collect-next-requires t c κs = search needs
 
--- src/lib.rt:42:59
 collect-sub-deal : (t : ℕ) → collect-lts.Need-sub-deal (
   put-reads.Asked,
   put-reads.Learnt,
@@ -255,7 +241,6 @@ collect-sub-deal : (t : ℕ) → collect-lts.Need-sub-deal (
 ) (collect-at t) collect.Post
 collect-sub-deal t c = let z = c .before .before .before .before .before .before .before .before .before .before .before .if1 .left in omega (arith, z)
 
--- src/lib.rt:42:9
 collect-deal-requires : (t : ℕ) → collect-lts.Need-deal-requires (
   put-reads.Asked,
   put-reads.Learnt,
@@ -274,7 +259,6 @@ collect-deal-requires t c κs =
     let z = c .before .before .before .before .before .before .before .before .before .before .before .if1 .left in
     (omega (arith, c .before .before .before .before .before .before .before .before .before .before .before .before .before .before .pre .0, z), storing.store-down _ _ _ _ _ (c .before .before .before .before .before .before .before .before .before .before .before .before .before .before .pre .1) z)
 
--- src/lib.rt:43:9
 collect-same-length-2 : (t : ℕ) → collect-lts.Need-same-length-2 (
   put-reads.Asked,
   put-reads.Learnt,
@@ -291,7 +275,6 @@ collect-same-length-2 : (t : ℕ) → collect-lts.Need-same-length-2 (
 ) (collect-at t) collect.Post
 collect-same-length-2 t c = search needs
 
--- src/lib.rt:43:9
 collect-returns-3 : (t : ℕ) → collect-lts.Need-returns-3 (
   put-reads.Asked,
   put-reads.Learnt,
@@ -308,7 +291,6 @@ collect-returns-3 : (t : ℕ) → collect-lts.Need-returns-3 (
 ) (collect-at t) collect.Post
 collect-returns-3 t c = storing.node-chance _ _ _ _ _ _ _ _ _ _ (c .before .before .before .before .before .before .before .before .before .before .before .before .put .ensures) (c .before .before .before .before .before .before .before .before .word .ensures) _ _ (sym (c .before .before .before .before .before .before .before .kind .ensures) ∙ c .before .before .before .before .before .if3 .taken) (c .before .before .before .next .ensures) (c .before .before .deal .ensures)
 
--- src/lib.rt:45:22
 collect-add-decide : (t : ℕ) → collect-lts.Need-add-decide (
   put-reads.Asked,
   put-reads.Learnt,
@@ -325,7 +307,6 @@ collect-add-decide : (t : ℕ) → collect-lts.Need-add-decide (
 ) (collect-at t) collect.Post
 collect-add-decide t c = record { fits = omega (arith, c .before .before .before .before .before .before .before .before .before .before .before .before .before .pre .1 .walk .place) }
 
--- src/lib.rt:45:51
 collect-sub-decide : (t : ℕ) → collect-lts.Need-sub-decide (
   put-reads.Asked,
   put-reads.Learnt,
@@ -342,7 +323,6 @@ collect-sub-decide : (t : ℕ) → collect-lts.Need-sub-decide (
 ) (collect-at t) collect.Post
 collect-sub-decide t c = let z = c .before .before .before .before .before .before .before .before .before .before .if1 .left in omega (arith, z)
 
--- src/lib.rt:45:5
 collect-decide-requires : (t : ℕ) → collect-lts.Need-decide-requires (
   put-reads.Asked,
   put-reads.Learnt,
@@ -361,7 +341,6 @@ collect-decide-requires t c κs =
     let z = c .before .before .before .before .before .before .before .before .before .before .if1 .left in
     (omega (arith, c .before .before .before .before .before .before .before .before .before .before .before .before .before .pre .0, z), storing.store-down _ _ _ _ _ (c .before .before .before .before .before .before .before .before .before .before .before .before .before .pre .1) z)
 
--- src/lib.rt:19:1
 collect-same-length-3 : (t : ℕ) → collect-lts.Need-same-length-3 (
   put-reads.Asked,
   put-reads.Learnt,
@@ -378,7 +357,6 @@ collect-same-length-3 : (t : ℕ) → collect-lts.Need-same-length-3 (
 ) (collect-at t) collect.Post
 collect-same-length-3 t c = search needs
 
--- src/lib.rt:19:1
 collect-returns-4 : (t : ℕ) → collect-lts.Need-returns-4 (
   put-reads.Asked,
   put-reads.Learnt,
@@ -395,7 +373,6 @@ collect-returns-4 : (t : ℕ) → collect-lts.Need-returns-4 (
 ) (collect-at t) collect.Post
 collect-returns-4 t c = storing.node-decides _ _ _ _ _ _ _ _ _ _ (c .before .before .before .before .before .before .before .before .before .before .before .put .ensures) (c .before .before .before .before .before .before .before .word .ensures) _ (λ q. c .before .before .before .before .before .if2 .left (c .before .before .before .before .before .before .kind .ensures ∙ q)) (λ q. c .before .before .before .before .if3 .left (c .before .before .before .before .before .before .kind .ensures ∙ q)) (c .before .before .decide .ensures)
 
--- src/lib.rt:63:9
 deal-fan-requires : (t : ℕ) → deal-lts.Need-fan-requires (
   fan-reads.Asked,
   fan-reads.Learnt,
@@ -404,7 +381,6 @@ deal-fan-requires : (t : ℕ) → deal-lts.Need-fan-requires (
 ) (deal-at t) deal.Post
 deal-fan-requires t c κs = omega (arith, c .before .before .before .pre .1 .walk .place)
 
--- src/lib.rt:65:9
 deal-same-length : (t : ℕ) → deal-lts.Need-same-length (
   fan-reads.Asked,
   fan-reads.Learnt,
@@ -413,7 +389,6 @@ deal-same-length : (t : ℕ) → deal-lts.Need-same-length (
 ) (deal-at t) deal.Post
 deal-same-length t c = search needs
 
--- src/lib.rt:65:9
 deal-returns : (t : ℕ) → deal-lts.Need-returns (
   fan-reads.Asked,
   fan-reads.Learnt,
@@ -422,7 +397,6 @@ deal-returns : (t : ℕ) → deal-lts.Need-returns (
 ) (deal-at t) deal.Post
 deal-returns t c = storing.deal-none _ _ _ _ _ _ _ _ _ _ (c .before .fan .ensures) (c .if1 .taken)
 
--- src/lib.rt:72:9
 deal-div-spread : (t : ℕ) → deal-lts.Need-div-spread (
   fan-reads.Asked,
   fan-reads.Learnt,
@@ -431,7 +405,6 @@ deal-div-spread : (t : ℕ) → deal-lts.Need-div-spread (
 ) (deal-at t) deal.Post
 deal-div-spread t c = omega (arith, c .before .if1 .left)
 
--- src/lib.rt:67:5
 deal-spread-requires : (t : ℕ) → deal-lts.Need-spread-requires (
   fan-reads.Asked,
   fan-reads.Learnt,
@@ -440,7 +413,6 @@ deal-spread-requires : (t : ℕ) → deal-lts.Need-spread-requires (
 ) (deal-at t) deal.Post
 deal-spread-requires t c κs = (omega (arith, c .before .before .before .before .before .before .pre .0), storing.store-here _ _ _ _ _ _ (c .before .before .before .before .before .before .pre .1) (adding.quotient-few _ _ (c .before .before .before .before .before .before .pre .1 .walk .units)))
 
--- src/lib.rt:49:1
 deal-same-length-2 : (t : ℕ) → deal-lts.Need-same-length-2 (
   fan-reads.Asked,
   fan-reads.Learnt,
@@ -449,7 +421,6 @@ deal-same-length-2 : (t : ℕ) → deal-lts.Need-same-length-2 (
 ) (deal-at t) deal.Post
 deal-same-length-2 t c = search needs
 
--- src/lib.rt:49:1
 deal-returns-2 : (t : ℕ) → deal-lts.Need-returns-2 (
   fan-reads.Asked,
   fan-reads.Learnt,
@@ -458,7 +429,6 @@ deal-returns-2 : (t : ℕ) → deal-lts.Need-returns-2 (
 ) (deal-at t) deal.Post
 deal-returns-2 t c = storing.deal-some _ _ _ _ _ _ _ _ _ _ (c .before .before .before .before .before .fan .ensures) _ (c .before .before .spread .ensures)
 
--- src/lib.rt:95:8
 decide-actor-requires : (t : ℕ) → decide-lts.Need-actor-requires (
   actor-reads.Asked,
   actor-reads.Learnt,
@@ -475,7 +445,6 @@ decide-actor-requires : (t : ℕ) → decide-lts.Need-actor-requires (
 ) (decide-at t) decide.Post
 decide-actor-requires t c κs = search needs
 
--- src/lib.rt:96:29
 decide-next-requires : (t : ℕ) → decide-lts.Need-next-requires (
   actor-reads.Asked,
   actor-reads.Learnt,
@@ -492,7 +461,6 @@ decide-next-requires : (t : ℕ) → decide-lts.Need-next-requires (
 ) (decide-at t) decide.Post
 decide-next-requires t c κs = search needs
 
--- src/lib.rt:96:9
 decide-spread-requires : (t : ℕ) → decide-lts.Need-spread-requires (
   actor-reads.Asked,
   actor-reads.Learnt,
@@ -509,7 +477,6 @@ decide-spread-requires : (t : ℕ) → decide-lts.Need-spread-requires (
 ) (decide-at t) decide.Post
 decide-spread-requires t c κs = (omega (arith, c .before .before .before .before .before .before .pre .0), c .before .before .before .before .before .before .pre .1)
 
--- src/lib.rt:97:9
 decide-same-length : (t : ℕ) → decide-lts.Need-same-length (
   actor-reads.Asked,
   actor-reads.Learnt,
@@ -526,7 +493,6 @@ decide-same-length : (t : ℕ) → decide-lts.Need-same-length (
 ) (decide-at t) decide.Post
 decide-same-length t c = search needs
 
--- src/lib.rt:97:9
 decide-returns : (t : ℕ) → decide-lts.Need-returns (
   actor-reads.Asked,
   actor-reads.Learnt,
@@ -543,7 +509,6 @@ decide-returns : (t : ℕ) → decide-lts.Need-returns (
 ) (decide-at t) decide.Post
 decide-returns t c = storing.decide-own _ _ _ _ _ _ _ _ _ _ _ (sym (c .before .before .before .before .before .before .actor .ensures) ∙ c .before .before .before .before .before .if1 .taken) (c .before .before .before .next .ensures) (c .before .before .spread .ensures)
 
--- src/lib.rt:99:9
 decide-set-requires : (t : ℕ) → decide-lts.Need-set-requires (
   actor-reads.Asked,
   actor-reads.Learnt,
@@ -560,7 +525,6 @@ decide-set-requires : (t : ℕ) → decide-lts.Need-set-requires (
 ) (decide-at t) decide.Post
 decide-set-requires t c κs = search needs
 
--- src/lib.rt:100:23
 decide-actions-requires : (t : ℕ) → decide-lts.Need-actions-requires (
   actor-reads.Asked,
   actor-reads.Learnt,
@@ -577,7 +541,6 @@ decide-actions-requires : (t : ℕ) → decide-lts.Need-actions-requires (
 ) (decide-at t) decide.Post
 decide-actions-requires t c κs = search needs
 
--- src/lib.rt:100:15
 decide-add-end : (t : ℕ) → decide-lts.Need-add-end (
   actor-reads.Asked,
   actor-reads.Learnt,
@@ -594,7 +557,6 @@ decide-add-end : (t : ℕ) → decide-lts.Need-add-end (
 ) (decide-at t) decide.Post
 decide-add-end t c = record { fits = omega (arith, c .before .set .ensures, c .actions .ensures) }
 
--- src/lib.rt:102:9
 decide-returns-2 : (t : ℕ) → decide-lts.Need-returns-2 (
   actor-reads.Asked,
   actor-reads.Learnt,
@@ -611,7 +573,6 @@ decide-returns-2 : (t : ℕ) → decide-lts.Need-returns-2 (
 ) (decide-at t) decide.Post
 decide-returns-2 t c = storing.decide-none _ _ _ _ _ _ _ _ _ (omega (arith, c .before .before .set .ensures, c .before .actions .ensures, c .if2 .taken))
 
--- src/lib.rt:104:5
 decide-divide-requires : (t : ℕ) → decide-lts.Need-divide-requires (
   actor-reads.Asked,
   actor-reads.Learnt,
@@ -628,7 +589,6 @@ decide-divide-requires : (t : ℕ) → decide-lts.Need-divide-requires (
 ) (decide-at t) decide.Post
 decide-divide-requires t c κs = (omega (arith, c .before .before .before .before .before .before .before .before .pre .0), (c .before .before .before .before .before .before .before .before .pre .1, omega arith, omega (arith, c .before .if2 .left)))
 
--- src/lib.rt:81:1
 decide-same-length-2 : (t : ℕ) → decide-lts.Need-same-length-2 (
   actor-reads.Asked,
   actor-reads.Learnt,
@@ -645,7 +605,6 @@ decide-same-length-2 : (t : ℕ) → decide-lts.Need-same-length-2 (
 ) (decide-at t) decide.Post
 decide-same-length-2 t c = search needs
 
--- src/lib.rt:81:1
 decide-returns-3 : (t : ℕ) → decide-lts.Need-returns-3 (
   actor-reads.Asked,
   actor-reads.Learnt,
@@ -668,7 +627,6 @@ divide-Inv-loop w₀ table a first end u seat d units depth at₀ action₀ w at
 abbrev divide-μ-loop : divide-lts.MeasureT-loop
 divide-μ-loop w₀ table a first end u seat d units depth at₀ action₀ w at action = end - first - action
 
--- src/lib.rt:151:5
 divide-loop-holds : (t : ℕ) → divide-lts.Need-loop-holds (
   share-reads.Asked,
   share-reads.Learnt,
@@ -679,7 +637,6 @@ divide-loop-holds : (t : ℕ) → divide-lts.Need-loop-holds (
 ) (divide-at t) divide.Post divide-Inv-loop divide-μ-loop
 divide-loop-holds t c = (storing.shared-start _ _ _ _ _ _ _ _ _ _, c .before .before .pre .1 .0, omega arith)
 
--- src/lib.rt:151:20
 divide-sub-loop : (t : ℕ) → divide-lts.Need-sub-loop (
   share-reads.Asked,
   share-reads.Learnt,
@@ -690,7 +647,6 @@ divide-sub-loop : (t : ℕ) → divide-lts.Need-sub-loop (
 ) (divide-at t) divide.Post divide-Inv-loop divide-μ-loop
 divide-sub-loop t c = c .before .before .before .pre .1 .1
 
--- src/lib.rt:152:26
 divide-sub-share : (t : ℕ) → divide-lts.Need-sub-share (
   share-reads.Asked,
   share-reads.Learnt,
@@ -701,7 +657,6 @@ divide-sub-share : (t : ℕ) → divide-lts.Need-sub-share (
 ) (divide-at t) divide.Post divide-Inv-loop divide-μ-loop
 divide-sub-share t c = c .before .before .before .before .pre .1 .1
 
--- src/lib.rt:152:26
 divide-part-share-start : (t : ℕ) → divide-lts.Need-part-share-start (
   share-reads.Asked,
   share-reads.Learnt,
@@ -712,7 +667,6 @@ divide-part-share-start : (t : ℕ) → divide-lts.Need-part-share-start (
 ) (divide-at t) divide.Post divide-Inv-loop divide-μ-loop
 divide-part-share-start t c = search needs
 
--- src/lib.rt:152:26
 divide-part-share-end : (t : ℕ) → divide-lts.Need-part-share-end (
   share-reads.Asked,
   share-reads.Learnt,
@@ -723,7 +677,6 @@ divide-part-share-end : (t : ℕ) → divide-lts.Need-part-share-end (
 ) (divide-at t) divide.Post divide-Inv-loop divide-μ-loop
 divide-part-share-end t c = search needs
 
--- src/lib.rt:152:13
 divide-share-requires : (t : ℕ) → divide-lts.Need-share-requires (
   share-reads.Asked,
   share-reads.Learnt,
@@ -734,7 +687,6 @@ divide-share-requires : (t : ℕ) → divide-lts.Need-share-requires (
 ) (divide-at t) divide.Post divide-Inv-loop divide-μ-loop
 divide-share-requires t c κs = (rw (adding.part-length (now (c .before .before .before .before .before .args .table)) (c .before .before .before .before .before .args .first) (c .before .before .before .before .before .args .end) (c .before .before .before .before .before .pre .1 .1) (c .before .before .before .before .before .pre .1 .2)) (c .before .loop-test .taken), c .before .before .before .before .before .pre .1 .0 .walk .units, c .before .before .before .before .before .pre .1 .0 .walk .least, c .before .before .before .before .before .pre .1 .0 .walk .most)
 
--- src/lib.rt:153:9
 divide-collect-requires : (t : ℕ) → divide-lts.Need-collect-requires (
   share-reads.Asked,
   share-reads.Learnt,
@@ -745,7 +697,6 @@ divide-collect-requires : (t : ℕ) → divide-lts.Need-collect-requires (
 ) (divide-at t) divide.Post divide-Inv-loop divide-μ-loop
 divide-collect-requires t c κs = (omega (arith, c .before .before .before .before .before .before .before .pre .0), storing.store-here _ _ _ _ _ _ (c .before .before .before .before .loop .inv .1) (c .before .share .ensures .0))
 
--- src/lib.rt:154:9
 divide-behind-requires : (t : ℕ) → divide-lts.Need-behind-requires (
   share-reads.Asked,
   share-reads.Learnt,
@@ -756,7 +707,6 @@ divide-behind-requires : (t : ℕ) → divide-lts.Need-behind-requires (
 ) (divide-at t) divide.Post divide-Inv-loop divide-μ-loop
 divide-behind-requires t c κs = omega (arith, c .before .before .before .before .before .before .before .before .loop .inv .1 .walk .place)
 
--- src/lib.rt:155:9
 divide-add-action : (t : ℕ) → divide-lts.Need-add-action (
   share-reads.Asked,
   share-reads.Learnt,
@@ -767,7 +717,6 @@ divide-add-action : (t : ℕ) → divide-lts.Need-add-action (
 ) (divide-at t) divide.Post divide-Inv-loop divide-μ-loop
 divide-add-action t c = record { fits = omega (arith, c .before .before .before .before .before .before .before .before .loop-test .taken) }
 
--- src/lib.rt:151:5
 divide-loop-less : (t : ℕ) → divide-lts.Need-loop-less (
   share-reads.Asked,
   share-reads.Learnt,
@@ -778,7 +727,6 @@ divide-loop-less : (t : ℕ) → divide-lts.Need-loop-less (
 ) (divide-at t) divide.Post divide-Inv-loop divide-μ-loop
 divide-loop-less t c = omega (arith, c .before .before .before .before .before .before .before .before .loop-test .taken)
 
--- src/lib.rt:151:5
 divide-loop-again : (t : ℕ) → divide-lts.Need-loop-again (
   share-reads.Asked,
   share-reads.Learnt,
@@ -792,7 +740,6 @@ divide-loop-again t c =
     let b = c .behind .ensures in
     (storing.shared-more _ _ _ _ _ _ _ _ _ _ _ _ _ _ _ _ (c .before .before .before .before .before .before .before .before .before .loop .inv .0) l (adding.part-shares (now (c .before .before .before .before .before .before .before .before .before .before .before .before .args .table)) (c .before .before .before .before .before .before .before .before .before .before .before .before .args .first) (c .before .before .before .before .before .before .before .before .before .before .before .before .args .end) (c .before .before .before .before .before .before .before .before .before .before .before .before .pre .1 .1) (c .before .before .before .before .before .before .before .before .before .before .before .before .pre .1 .2) (c .before .before .before .before .before .before .before .before .before .loop .action) (c .before .before .before .before .before .before .before .before .before .before .before .before .args .u) (c .before .before .before .before .before .before .share .result) (c .before .before .before .before .before .before .before .before .before .before .before .before .args .d) l (c .before .before .before .before .before .before .share .ensures .1)) (c .before .before .before .before .collect .ensures) b, storing.store-along _ _ _ _ _ _ _ (c .before .before .before .before .before .before .before .before .before .before .before .before .pre .1 .0) (b .near) (c .before .before .before .before .before .before .before .before .before .before .before .before .pre .1 .0 .walk .units), omega (arith, l))
 
--- src/lib.rt:134:1
 divide-same-length : (t : ℕ) → divide-lts.Need-same-length (
   share-reads.Asked,
   share-reads.Learnt,
@@ -803,7 +750,6 @@ divide-same-length : (t : ℕ) → divide-lts.Need-same-length (
 ) (divide-at t) divide.Post divide-Inv-loop divide-μ-loop
 divide-same-length t c = c .before .loop .inv .0 .long
 
--- src/lib.rt:134:1
 divide-returns : (t : ℕ) → divide-lts.Need-returns (
   share-reads.Asked,
   share-reads.Learnt,
@@ -820,7 +766,6 @@ spread-Inv-loop w₀ table a end u seat d units depth at₀ w at = storing.SoFar
 abbrev spread-μ-loop : spread-lts.MeasureT-loop
 spread-μ-loop w₀ table a end u seat d units depth at₀ w at = end - at
 
--- src/lib.rt:123:5
 spread-loop-holds : (t : ℕ) → spread-lts.Need-loop-holds (
   collect-below t,
   collect.Post,
@@ -829,7 +774,6 @@ spread-loop-holds : (t : ℕ) → spread-lts.Need-loop-holds (
 ) (spread-at t) spread.Post spread-Inv-loop spread-μ-loop
 spread-loop-holds t c = (storing.each-start _ _ _ _ _ _ _ _ _, c .before .before .pre .1)
 
--- src/lib.rt:124:9
 spread-collect-requires : (t : ℕ) → spread-lts.Need-collect-requires (
   collect-below t,
   collect.Post,
@@ -838,7 +782,6 @@ spread-collect-requires : (t : ℕ) → spread-lts.Need-collect-requires (
 ) (spread-at t) spread.Post spread-Inv-loop spread-μ-loop
 spread-collect-requires t c κs = (omega (arith, c .before .before .before .before .before .pre .0), c .before .before .loop .inv .1)
 
--- src/lib.rt:125:13
 spread-behind-requires : (t : ℕ) → spread-lts.Need-behind-requires (
   collect-below t,
   collect.Post,
@@ -847,7 +790,6 @@ spread-behind-requires : (t : ℕ) → spread-lts.Need-behind-requires (
 ) (spread-at t) spread.Post spread-Inv-loop spread-μ-loop
 spread-behind-requires t c κs = omega (arith, c .before .before .before .before .before .before .loop .inv .1 .walk .place)
 
--- src/lib.rt:127:13
 spread-same-length : (t : ℕ) → spread-lts.Need-same-length (
   collect-below t,
   collect.Post,
@@ -856,7 +798,6 @@ spread-same-length : (t : ℕ) → spread-lts.Need-same-length (
 ) (spread-at t) spread.Post spread-Inv-loop spread-μ-loop
 spread-same-length t c = c .before .before .before .before .before .collect .ensures .long ∙ c .before .before .before .before .before .before .before .before .loop .inv .0 .long
 
--- src/lib.rt:127:13
 spread-returns : (t : ℕ) → spread-lts.Need-returns (
   collect-below t,
   collect.Post,
@@ -865,7 +806,6 @@ spread-returns : (t : ℕ) → spread-lts.Need-returns (
 ) (spread-at t) spread.Post spread-Inv-loop spread-μ-loop
 spread-returns t c = storing.each-stuck _ _ _ _ _ _ _ _ _ _ _ _ _ (c .before .before .before .before .before .before .before .before .loop .inv .0) (c .before .before .before .before .before .before .before .loop-test .taken) (c .before .before .before .before .before .collect .ensures) (c .before .behind .ensures) (c .if1 .taken)
 
--- src/lib.rt:123:5
 spread-loop-less : (t : ℕ) → spread-lts.Need-loop-less (
   collect-below t,
   collect.Post,
@@ -874,7 +814,6 @@ spread-loop-less : (t : ℕ) → spread-lts.Need-loop-less (
 ) (spread-at t) spread.Post spread-Inv-loop spread-μ-loop
 spread-loop-less t c = omega (arith, c .if1 .left, c .before .before .before .before .before .before .before .loop-test .taken)
 
--- src/lib.rt:123:5
 spread-loop-again : (t : ℕ) → spread-lts.Need-loop-again (
   collect-below t,
   collect.Post,
@@ -883,7 +822,6 @@ spread-loop-again : (t : ℕ) → spread-lts.Need-loop-again (
 ) (spread-at t) spread.Post spread-Inv-loop spread-μ-loop
 spread-loop-again t c = (storing.each-more _ _ _ _ _ _ _ _ _ _ _ _ _ (c .before .before .before .before .before .before .before .before .loop .inv .0) (c .before .before .before .before .before .before .before .loop-test .taken) (c .before .before .before .before .before .collect .ensures) (c .before .behind .ensures), storing.store-along _ _ _ _ _ _ _ (c .before .before .before .before .before .before .before .before .before .before .before .pre .1) (c .before .behind .ensures .near) (c .before .before .before .before .before .before .before .before .before .before .before .pre .1 .walk .units))
 
--- src/lib.rt:108:1
 spread-same-length-2 : (t : ℕ) → spread-lts.Need-same-length-2 (
   collect-below t,
   collect.Post,
@@ -892,7 +830,6 @@ spread-same-length-2 : (t : ℕ) → spread-lts.Need-same-length-2 (
 ) (spread-at t) spread.Post spread-Inv-loop spread-μ-loop
 spread-same-length-2 t c = c .before .loop .inv .0 .long
 
--- src/lib.rt:108:1
 spread-returns-2 : (t : ℕ) → spread-lts.Need-returns-2 (
   collect-below t,
   collect.Post,
