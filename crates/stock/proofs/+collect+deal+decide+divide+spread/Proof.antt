@@ -507,7 +507,7 @@ decide-returns : (t : ℕ) → decide-lts.Need-returns (
   divide-below t,
   divide.Post,
 ) (decide-at t) decide.Post
-decide-returns t c = storing.decide-own _ _ _ _ _ _ _ _ _ _ _ (sym (c .before .before .before .before .before .before .actor .ensures) ∙ c .before .before .before .before .before .if1 .taken) (c .before .before .before .next .ensures) (c .before .before .spread .ensures)
+decide-returns t c = storing.decide-own _ _ (c .before .before .before .before .before .before .before .before .before .args .seat) _ _ _ _ _ _ _ _ (sym (c .before .before .before .before .before .before .actor .ensures) ∙ c .before .before .before .before .before .if1 .taken) (c .before .before .before .next .ensures) (c .before .before .spread .ensures)
 
 decide-set-requires : (t : ℕ) → decide-lts.Need-set-requires (
   actor-reads.Asked,
@@ -619,7 +619,7 @@ decide-returns-3 : (t : ℕ) → decide-lts.Need-returns-3 (
   divide-below t,
   divide.Post,
 ) (decide-at t) decide.Post
-decide-returns-3 t c = storing.decide-other _ _ _ _ _ _ _ _ _ _ _ _ (λ q. c .before .before .before .before .before .before .before .if1 .left (c .before .before .before .before .before .before .before .before .actor .ensures ∙ q)) (c .before .before .before .before .before .before .set .ensures) (c .before .before .before .before .before .actions .ensures) (c .before .before .divide .ensures)
+decide-returns-3 t c = storing.decide-other _ _ (c .before .before .before .before .before .before .before .before .before .before .before .args .seat) _ _ _ _ _ _ _ _ _ (λ q. c .before .before .before .before .before .before .before .if1 .left (c .before .before .before .before .before .before .before .before .actor .ensures ∙ q)) (c .before .before .before .before .before .before .set .ensures) (c .before .before .before .before .before .actions .ensures) (c .before .before .divide .ensures)
 
 abbrev divide-Inv-loop : divide-lts.InvT-loop
 divide-Inv-loop w₀ table a first end u seat d units depth at₀ action₀ w at action = storing.SoFar table d seat units a depth w₀ (Shared table d first end u) (λ y. y ≡ action) at w × Storable at u d units depth × (action ≤ end - first)
