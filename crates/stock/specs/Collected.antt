@@ -44,7 +44,7 @@ pub record Dealt (a z u : ℕ) (T : Tree) (f : Trees) (g : ℕ → ℕ) : Type 0
   pub ends : z ≡ a + sizes f
   pub gives : (x : ℕ) → g x ≡ u / fan f
 
--- the children of a decision with word y, of seat j and key k
+-- the children of a decision with word y, for a reply of seat i
 pub record Moved (table : List ℕ) (D i a y u : ℕ) (T : Tree) (f : Trees) (g : ℕ → ℕ) : Type 0 where
   pub seat : ℕ
   pub key : Key
