@@ -1,5 +1,5 @@
 -- What a walk adds up, node by node. Assumes nothing.
-use mathlib.Core.Path.{_≡_, refl, sym, ap, ap₂, _∙_, subst}
+use mathlib.Core.Path.{_≡_, refl, sym, ap, ap₂, _∙_}
 use mathlib.Core.List.{List}
 use Prim.Native.Nat.{ℕ, zero, suc, _+_, _-_, _*_, _/_, _%_, _^_, _≤_, _<_}
 use native.Mathlib.Nat as NatL
@@ -14,11 +14,12 @@ use Rattle.game.specs.Tree.{Key, Tree, end, chance, decide, Trees, nil, cons, f
 use Rattle.game.specs.Sets.{size, sizes, firstEntry}
 use Rattle.game.specs.Table.{strategyOf}
 use Rattle.arena.specs.Words.{END, CHANCE, DECISION, kindOf, actionsOf, setOf, nextOf, byteOf, payoffOf}
-use Rattle.arena.specs.Held.{Says, Held, HeldAll}
+use Rattle.arena.specs.Held.{Says, Held}
 use Rattle.arena.specs.Walk.{Behind, Fan}
 use Rattle.arena.proofs.Building.{size-some}
 use Rattle.units.specs.Lifted.{lift, lifted, liftedAll, liftedKids}
-use Rattle.units.specs.Earned.{deep, deepAll, Entered, Readable, ReadableAll, Walkable, wrapped, Earned, EarnedAll, EarnedKids, EarnedShares}
+use Rattle.units.specs.Earned.{deep, Entered, Readable, ReadableAll, Walkable, wrapped, Earned, EarnedAll, EarnedKids, EarnedShares}
+use Rattle.units.proofs.Reading.{deep-some, chance-row, decide-row, first, rest, near}
 use Rattle.units.proofs.Six.{wrapped-at, sum-wraps}
 
 -- ---- numbers
@@ -46,12 +47,6 @@ pub product-few : (u p d : ℕ) → u < 144115188075855872 → p ≤ d → d ≤
 product-few u p d h g m = let e : u * p ≤ u * 64 = NatL.mul-le-mul-left {m = p} {n = 64} u (omega arith) in omega arith
 
 -- ---- a tree by its word
-deep-some : (t : Tree) → 1 ≤ deep t
-unfolding deep
-deep-some (end p) = omega arith
-deep-some (chance f) = omega arith
-deep-some (decide j k f) = omega arith
-
 module _ (w table : List ℕ) (D a u d : ℕ) (r : List ℕ) where
   -- no depth
   pub node-none : d ≡ 0 → Earned w table D a u d r
@@ -70,22 +65,12 @@ module _ (w table : List ℕ) (D a u d : ℕ) (r : List ℕ) where
 
   -- a chance node
   module _ (x : ℕ) (e : x ≡ getD w a 0) (k : kindOf x ≡ CHANCE) (few : 0 < d) where
-    kids : (n : ℕ) (T : Tree) (l : ℕ → ℕ → Key → ℕ) (f : Trees) → Readable n T l w table D a d (chance f) → ReadableAll n T l w table D (a + 1) (d - 1) f
-    unfolding Held size Every deep
-    kids n T l f h = record {
-      held = subst (λ b. HeldAll n (firstEntry T) l w b f) (omega arith) (h .held .1);
-      room = omega (arith, h .room);
-      entered = h .entered;
-      few = h .few;
-      within = omega (arith, h .within);
-    }
-
     ends-at : (n : ℕ) (T : Tree) (l : ℕ → ℕ → Key → ℕ) (f : Trees) → Readable n T l w table D a d (chance f) → nextOf x ≡ a + 1 + sizes f
     unfolding Held Says size
     ends-at n T l f h = ap nextOf e ∙ h .held .0 .1 ∙ omega arith
 
     counted : (c : ℕ) → Fan w (a + 1) (nextOf x) c → (n : ℕ) (T : Tree) (l : ℕ → ℕ → Key → ℕ) (f : Trees) → Readable n T l w table D a d (chance f) → c ≡ fan f
-    counted c g n T l f h = g n (firstEntry T) l f (kids n T l f h .held) (ends-at n T l f h) (omega (arith, kids n T l f h .room, ends-at n T l f h))
+    counted c g n T l f h = g n (firstEntry T) l f (chance-row n T l w table D a d f h .held) (ends-at n T l f h) (omega (arith, chance-row n T l w table D a d f h .room, ends-at n T l f h))
 
     chance-only : (n : ℕ) (T : Tree) (l : ℕ → ℕ → Key → ℕ) (t : Tree) → Readable n T l w table D a d t → (P : Tree → Type 0) → ((f : Trees) → Readable n T l w table D a d (chance f) → P (chance f)) → P t
     unfolding Held Says
@@ -109,23 +94,14 @@ module _ (w table : List ℕ) (D a u d : ℕ) (r : List ℕ) where
     node-chance c g q n T t l h i b m p = chance-only n T l t h (λ t. Pays 60 i t → getD r i 0 ≡ lifted D (strategyOf T table) i u t % 2 ^ 64) at p
       where
         at : (f : Trees) → Readable n T l w table D a d (chance f) → Pays 60 i (chance f) → getD r i 0 ≡ lifted D (strategyOf T table) i u (chance f) % 2 ^ 64
-        at f y v = q n T f l (kids n T l f y) (ends-at n T l f y) i b m v ∙ ap (λ z. liftedAll D (strategyOf T table) i (u / z) f % 2 ^ 64) (counted c g n T l f y)
+        at f y v = q n T f l (chance-row n T l w table D a d f y) (ends-at n T l f y) i b m v ∙ ap (λ z. liftedAll D (strategyOf T table) i (u / z) f % 2 ^ 64) (counted c g n T l f y)
 
   -- a decision
   pub node-decides : (x : ℕ) → x ≡ getD w a 0 → (kindOf x ≡ END → ⊥) → (kindOf x ≡ CHANCE → ⊥) → 0 < d → EarnedKids w table D (a + 1) x u (d - 1) r → Earned w table D a u d r
   unfolding Held Says lifted Pays Every deep size
   node-decides x e k m few q n T (end y) l h i b c p = absurd (k (ap kindOf e ∙ h .held .0))
   node-decides x e k m few q n T (chance f) l h i b c p = absurd (m (ap kindOf e ∙ h .held .0 .0))
-  node-decides x e k m few q n T (decide j y f) l h i b c p = q n T j y f l below (ap setOf e ∙ h .held .0 .3) (ap actionsOf e ∙ h .held .0 .2) (h .entered .0) i b c p
-    where
-      below : ReadableAll n T l w table D (a + 1) (d - 1) f
-      below = record {
-        held = subst (λ b. HeldAll n (firstEntry T) l w b f) (omega arith) (h .held .1);
-        room = omega (arith, h .room);
-        entered = h .entered .1;
-        few = h .few;
-        within = omega (arith, h .within);
-      }
+  node-decides x e k m few q n T (decide j y f) l h i b c p = q n T j y f l (decide-row n T l w table D a d j y f h) (ap setOf e ∙ h .held .0 .3) (ap actionsOf e ∙ h .held .0 .2) (h .entered .0) i b c p
 
 -- ---- a row, tree by tree
 module _ (w table : List ℕ) (D a z u d : ℕ) where
@@ -138,20 +114,6 @@ module _ (w table : List ℕ) (D a z u d : ℕ) where
   pub along-start : (r : List ℕ) → r ≡ replicate 6 0 → Along a r
   along-start r e n T f l h q i b c p = (f, h, q, p, 0, ap (λ y. getD y i 0) e ∙ no-sum i b, sym (NatL.zero-add (liftedAll D (strategyOf T table) i u f)))
 
-  -- the first tree of a row, and the rest
-  module _ (n : ℕ) (T : Tree) (l : ℕ → ℕ → Key → ℕ) (b : ℕ) (t : Tree) (g : Trees) (h : ReadableAll n T l w table D b d (cons t g)) where
-    first : Readable n T l w table D b d t
-    unfolding Held size Every deep
-    first = record { held = h .held .0; room = omega (arith, h .room); entered = h .entered .0; few = h .few; within = NatL.le-trans (NatL.le-max-left (deep t) (deepAll g)) (h .within) }
-
-    rest : (q : ℕ) → q ≡ b + size t → ReadableAll n T l w table D q d g
-    unfolding Held size Every deep
-    rest q e = rw e (record { held = h .held .1; room = omega (arith, h .room); entered = h .entered .1; few = h .few; within = NatL.le-trans (NatL.le-max-right (deep t) (deepAll g)) (h .within) })
-
-    near : b + size t < 4194304
-    unfolding size
-    near = omega (arith, h .room)
-
   pub along-more : (b q : ℕ) (r v s : List ℕ) → Along b r → b < z → Earned w table D b u d v → Behind w b q → s ≡ wrapped (λ i. getD r i 0 + getD v i 0) → Along q s
   unfolding size Pays lifted
   along-more b q r v s h m e k y n T f l i o j c p x = at (h n T f l i o j c p x)
@@ -160,13 +122,13 @@ module _ (w table : List ℕ) (D a z u d : ℕ) where
           → (g : Trees) × ReadableAll n T l w table D q d g × (z ≡ q + sizes g) × PaysAll 60 j g × (x : ℕ) × (getD s j 0 ≡ x % 2 ^ 64) × (liftedAll D (strategyOf T table) j u f ≡ x + liftedAll D (strategyOf T table) j u g)
       at (nil, A, B, C, E, F, G) = absurd (omega arith)
       at (cons t g, A, B, C, E, F, G) =
-          let P : q ≡ b + size t = k .place n (firstEntry T) l t (first n T l b t g A .held) (near n T l b t g A) in (
+          let P : q ≡ b + size t = k .place n (firstEntry T) l t (first n T l w table D b d t g A .held) (near n T l w table D b d t g A) in (
             g,
-            rest n T l b t g A q P,
+            rest n T l w table D b d t g A q P,
             omega arith,
             C .1,
             E + lifted D (strategyOf T table) j u t,
-            ap (λ y. getD y j 0) y ∙ wrapped-at (λ i. getD r i 0 + getD v i 0) j c ∙ sum-wraps (getD r j 0) (getD v j 0) E (lifted D (strategyOf T table) j u t) F (e n T t l (first n T l b t g A) j c p (C .0)),
+            ap (λ y. getD y j 0) y ∙ wrapped-at (λ i. getD r i 0 + getD v i 0) j c ∙ sum-wraps (getD r j 0) (getD v j 0) E (lifted D (strategyOf T table) j u t) F (e n T t l (first n T l w table D b d t g A) j c p (C .0)),
             G ∙ sym (NatL.add-assoc E (lifted D (strategyOf T table) j u t) (liftedAll D (strategyOf T table) j u g)),
           )
 
@@ -187,7 +149,7 @@ module _ (w table : List ℕ) (D a z u d : ℕ) where
       at : (g : Trees) × ReadableAll n T l w table D b d g × (z ≡ b + sizes g) × PaysAll 60 j g × (x : ℕ) × (getD r j 0 ≡ x % 2 ^ 64) × (liftedAll D (strategyOf T table) j u f ≡ x + liftedAll D (strategyOf T table) j u g)
           → getD s j 0 ≡ liftedAll D (strategyOf T table) j u f % 2 ^ 64
       at (nil, A, B, C, E, F, G) = absurd (omega arith)
-      at (cons t g, A, B, C, E, F, G) = absurd (omega (arith, k .place n (firstEntry T) l t (first n T l b t g A .held) (near n T l b t g A), size-some t))
+      at (cons t g, A, B, C, E, F, G) = absurd (omega (arith, k .place n (firstEntry T) l t (first n T l w table D b d t g A .held) (near n T l w table D b d t g A), size-some t))
 
 -- ---- the children of a decision, action by action
 module _ (w table : List ℕ) (D a e z u d : ℕ) where
@@ -209,16 +171,16 @@ module _ (w table : List ℕ) (D a e z u d : ℕ) where
           → (g : Trees) × ReadableAll n T l w table D q d g × (fan f ≡ c + 1 + fan g) × PaysAll 60 i g × (x : ℕ) × (getD s i 0 ≡ x % 2 ^ 64) × (liftedKids D (strategyOf T table) i u j K 0 f ≡ x + liftedKids D (strategyOf T table) i u j K (c + 1) g)
       at (nil, A, F, G, E, P, Q) = absurd (omega arith)
       at (cons g gs, A, F, G, E, P, Q) =
-          let N : q ≡ b + size g = k .place n (firstEntry T) l g (first w table D a z u d n T l b g gs A .held) (near w table D a z u d n T l b g gs A) in
+          let N : q ≡ b + size g = k .place n (firstEntry T) l g (first n T l w table D b d g gs A .held) (near n T l w table D b d g gs A) in
           let vs : v ≡ u * strategyOf T table j K c / D = y (A .few (e + c)) ∙ ap (λ x. u * getD table (x + c) 0 / D) O in
           let W : lifted D (strategyOf T table) i v g ≡ lifted D (strategyOf T table) i (u * strategyOf T table j K c / D) g = ap (λ x. lifted D (strategyOf T table) i x g) vs in
           let one : c + 1 ≡ suc c = omega arith in (
             gs,
-            rest w table D a z u d n T l b g gs A q N,
+            rest n T l w table D b d g gs A q N,
             omega arith,
             G .1,
             E + lifted D (strategyOf T table) i v g,
-            ap (λ y. getD y i 0) x ∙ wrapped-at (λ i. getD r i 0 + getD t i 0) i B ∙ sum-wraps (getD r i 0) (getD t i 0) E (lifted D (strategyOf T table) i v g) P (o n T g l (first w table D a z u d n T l b g gs A) i B C (G .0)),
+            ap (λ y. getD y i 0) x ∙ wrapped-at (λ i. getD r i 0 + getD t i 0) i B ∙ sum-wraps (getD r i 0) (getD t i 0) E (lifted D (strategyOf T table) i v g) P (o n T g l (first n T l w table D b d g gs A) i B C (G .0)),
             Q ∙ sym (NatL.add-assoc E (lifted D (strategyOf T table) i (u * strategyOf T table j K c / D) g) (liftedKids D (strategyOf T table) i u j K (suc c) gs))
                 ∙ ap₂ (λ x y. E + x + liftedKids D (strategyOf T table) i u j K y gs) (sym W) (sym one),
           )

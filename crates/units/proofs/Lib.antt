@@ -1,4 +1,5 @@
 pub mod Six
+pub mod Reading
 pub mod Adding
 pub mod Lifting
 pub mod Found

@@ -34,7 +34,7 @@ use Rattle.arena.proofs.words.word.Reads as word-reads
 use Rattle.units.proofs.sums.add.Reads as add-reads
 use Rattle.units.proofs.sums.earned.Reads as earned-reads
 use Rattle.units.proofs.sums.none.Reads as none-reads
-use Rattle.units.proofs.worths.share.Reads as share-reads
+use Rattle.units.proofs.shares.share.Reads as share-reads
 use Rattle.units.proofs.worths.+decision+node+row+shared.{statement}
 use Rattle.units.proofs.worths.+decision+node+row+shared.Tie.{close}
 

@@ -3,32 +3,27 @@ use mathlib.Core.Path.{ap, _∙_}
 use Prim.Native.Nat.{_*_, _/_}
 use native.Mathlib.Omega.{arith}
 use Rattle.units.proofs.Adding.{share-few, product-few}
-use Rattle.units.proofs.worths.share.Statement.{statement}
-use Rattle.units.proofs.worths.share.Tie as tie
-use Rattle.units.proofs.worths.share.Reads as reads
-use Rattle.units.proofs.worths.share.Lts as lts
+use Rattle.units.proofs.shares.share.Statement.{statement}
+use Rattle.units.proofs.shares.share.Tie as tie
+use Rattle.units.proofs.shares.share.Reads as reads
+use Rattle.units.proofs.shares.share.Lts as lts
 use Rattle.game.proofs.decision_share.Reads as decision-share-reads
-use Rattle.units.proofs.worths.wide.Reads as wide-reads
+use Rattle.units.proofs.shares.wide.Reads as wide-reads
 
--- src/worths.rt:33:22
 shared-slice-read-wide : tie.Need-shared-slice-read-wide
 shared-slice-read-wide c = search needs
 
--- src/worths.rt:33:9
 wide-requires : tie.Need-wide-requires
 wide-requires c κs = search needs
 
--- src/worths.rt:36:9
 returns : tie.Need-returns
 returns c = search needs
 
--- src/worths.rt:38:5
 decision-share-requires : tie.Need-decision-share-requires
 decision-share-requires c κs = (omega (arith, c .before .before .before .before .pre .2), product-few (c .before .before .before .before .args .u) (c .before .wide .result) (c .before .before .before .before .args .d) (c .before .before .before .before .pre .1) (omega (arith, c .if1 .left)) (c .before .before .before .before .pre .3))
 
--- src/worths.rt:29:1
 returns-2 : tie.Need-returns-2
-returns-2 c = 
+returns-2 c =
     let e = c .decision-share .ensures in
     let l = share-few (c .before .before .before .before .before .args .u) (c .before .before .wide .result) (c .before .before .before .before .before .args .d) (omega (arith, c .before .if1 .left)) in
     (omega (arith, e, l, c .before .before .before .before .before .pre .1), λ q. e ∙ ap (λ x. c .before .before .before .before .before .args .u * x / c .before .before .before .before .before .args .d) (c .before .before .wide .ensures))

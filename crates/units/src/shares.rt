@@ -1,0 +1,25 @@
+// What goes on to an action of the units at a decision.
+use game::decision_share;
+ghost use mathlib.Core.Path.{_≡_};
+ghost use Prim.Native.Nat.{_*_, _/_, _<_, _≤_};
+ghost use lib.ListN.{length, getD};
+
+// A part as a number.
+fn wide(x: u8) -> u64
+    ensures { λ r. ⌜ r ≡ x ⌝ }
+{
+    x as u64
+}
+
+// Of u units, what goes on to action a of the set whose own part of a table with d parts in each set is given.
+pub fn share(part: &[u8], a: usize, u: u64, d: usize) -> u64
+    requires { ⌜ (a < length (now part)) × (u < 144115188075855872) × (1 ≤ d) × (d ≤ 64) ⌝ }
+    ensures { λ r. ⌜ (r < 144115188075855872) × (getD (now (part .entry)) a 0 ≤ d → r ≡ u * getD (now (part .entry)) a 0 / d) ⌝ }
+{
+    let parts = wide(part[a]);
+    let whole = d as u64;
+    if whole < parts {
+        return 0;
+    }
+    decision_share(u, parts, whole)
+}
