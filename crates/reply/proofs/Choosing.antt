@@ -37,7 +37,7 @@ topmost-same p q (suc n) h = rw (topmost-same p q n (λ a l. h a (omega arith)),
 
 -- ---- a choice kept
 module _ {i h b k : ℕ} (S : Scene i h b k) where
-  some : Every (λ j y n. 1 ≤ n) (S .tree)
+  pub some : Every (λ j y n. 1 ≤ n) (S .tree)
   some = in-every (λ j y n. 1 ≤ n) (S .tree) (λ x m. let l : (2 ≤ x .2) × (x .2 ≤ 3) = every-in (λ j y n. (2 ≤ n) × (n ≤ 3)) (S .tree) (S .few) x m in omega (arith, l .0))
 
   -- a set's first entry is one of the table's

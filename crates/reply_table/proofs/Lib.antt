@@ -1,0 +1,2 @@
+-- Lemmas on writing a reply.
+pub mod Laying

@@ -1,0 +1,20 @@
+use borrow.Author.Needs.{needs}
+use Rattle.reply_table.proofs.pure.Statement.{statement}
+use Rattle.reply_table.proofs.pure.Tie as tie
+use Rattle.reply_table.proofs.pure.Reads as reads
+use Rattle.reply_table.proofs.pure.Lts as lts
+
+-- src/lib.rt:40:17
+cast-result : tie.Need-cast-result
+cast-result c = search needs
+
+-- src/lib.rt:36:1
+returns : tie.Need-returns
+returns c = ?
+
+-- src/lib.rt:36:1
+returns-2 : tie.Need-returns-2
+returns-2 c = ?
+
+pub pure-spec : {M : Type 1} → statement M
+pure-spec = tie.close (tie.spec cast-result returns returns-2)

@@ -1,0 +1,106 @@
+use borrow.Author.Needs.{needs}
+use Rattle.reply_table.proofs.write_set.Statement.{statement}
+use Rattle.reply_table.proofs.write_set.Tie as tie
+use Rattle.reply_table.proofs.write_set.Reads as reads
+use Rattle.reply_table.proofs.write_set.Lts as lts
+use Rattle.arena.proofs.words.actions.Reads as actions-reads
+use Rattle.arena.proofs.words.actor.Reads as actor-reads
+use Rattle.reply.proofs.values.choose.Reads as choose-reads
+use Rattle.reply_table.proofs.byte.Reads as byte-reads
+use Rattle.reply_table.proofs.pure.Reads as pure-reads
+use Rattle.reply_table.proofs.write.Reads as write-reads
+
+-- src/lib.rt:71:9
+actions-requires : tie.Need-actions-requires
+actions-requires c κs = search needs
+
+-- src/lib.rt:72:8
+actor-requires : tie.Need-actor-requires
+actor-requires c κs = search needs
+
+-- src/lib.rt:73:13
+byte-requires : tie.Need-byte-requires
+byte-requires c κs = search needs
+
+-- src/lib.rt:74:34
+add-byte : tie.Need-add-byte
+add-byte c = search needs
+
+-- src/lib.rt:74:13
+byte-requires-2 : tie.Need-byte-requires-2
+byte-requires-2 c κs = search needs
+
+-- src/lib.rt:75:33
+add-byte-2 : tie.Need-add-byte-2
+add-byte-2 c = search needs
+
+-- src/lib.rt:75:13
+byte-requires-3 : tie.Need-byte-requires-3
+byte-requires-3 c κs = search needs
+
+-- src/lib.rt:76:9
+write-requires : tie.Need-write-requires
+write-requires c κs = search needs
+
+-- src/lib.rt:77:9
+same-length : tie.Need-same-length
+same-length c = search needs
+
+-- src/lib.rt:77:9
+returns : tie.Need-returns
+returns c = ?
+
+-- src/lib.rt:79:9
+choose-requires : tie.Need-choose-requires
+choose-requires c κs = search needs
+
+-- src/lib.rt:80:9
+pure-requires : tie.Need-pure-requires
+pure-requires c κs = search needs
+
+-- src/lib.rt:81:9
+pure-requires-2 : tie.Need-pure-requires-2
+pure-requires-2 c κs = search needs
+
+-- src/lib.rt:82:9
+pure-requires-3 : tie.Need-pure-requires-3
+pure-requires-3 c κs = search needs
+
+-- src/lib.rt:83:5
+write-requires-2 : tie.Need-write-requires-2
+write-requires-2 c κs = search needs
+
+-- src/lib.rt:56:1
+same-length-2 : tie.Need-same-length-2
+same-length-2 c = search needs
+
+-- src/lib.rt:56:1
+same-length-3 : tie.Need-same-length-3
+same-length-3 c = search needs
+
+-- src/lib.rt:56:1
+returns-2 : tie.Need-returns-2
+returns-2 c = ?
+
+pub write-set-spec : {M : Type 1} → statement M
+write-set-spec =
+    tie.close
+    (tie.spec
+    actions-requires
+    actor-requires
+    byte-requires
+    add-byte
+    byte-requires-2
+    add-byte-2
+    byte-requires-3
+    write-requires
+    same-length
+    returns
+    choose-requires
+    pure-requires
+    pure-requires-2
+    pure-requires-3
+    write-requires-2
+    same-length-2
+    same-length-3
+    returns-2)
