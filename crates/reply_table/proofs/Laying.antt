@@ -195,3 +195,12 @@ module _ (table : Table) (count i D h b k : ℕ) (old out : List ℕ) where
           → Noted S w × (written ≡ sets out 0 (tableOf (S .tree) (replied S)))
       at (A, done, [], B, C, E, F) = (A, F ∙ ap (λ z. sets out 0 (laidOut z (replied S))) (sym (B ∙ append-nil done)))
       at (A, done, d ∷ rest, B, C, E, F) = absurd (omega (arith, l, c, C, ap length B ∙ length-append done (d ∷ rest)))
+
+-- ---- byte by byte
+module _ (out u v : List ℕ) where
+  pub wrote-two : (e n x y z : ℕ) → u ≡ set out e x → v ≡ set u (e + 1) y → (n ≡ 3 → ⊥) → Wrote e n x y z out v
+  wrote-two e n x y z p q o = let s : e + 1 ≡ suc e = omega arith in ((λ l. q ∙ ap (λ j. set u j y) s ∙ ap (λ j. set j (suc e) y) p), λ l. absurd (o l))
+
+  pub wrote-three : (w : List ℕ) (e n x y z : ℕ) → u ≡ set out e x → v ≡ set u (e + 1) y → w ≡ set v (e + 2) z → n ≡ 3 → Wrote e n x y z out w
+  wrote-three w e n x y z p q r o = let s : e + 1 ≡ suc e = omega arith in let t : e + 2 ≡ suc (suc e) = omega arith in
+      ((λ l. absurd (omega arith)), λ l. r ∙ ap (λ j. set v j z) t ∙ ap (λ j. set j (suc (suc e)) z) (q ∙ ap (λ j. set u j y) s ∙ ap (λ j. set j (suc e) y) p))

@@ -1,3 +1,6 @@
+use denote.Ref.{now}
+use mathlib.Core.Path.{sym}
+use lib.ListN.{List·getD-eq-default}
 use borrow.Author.Needs.{needs}
 use Rattle.reply_table.proofs.byte.Statement.{statement}
 use Rattle.reply_table.proofs.byte.Tie as tie
@@ -14,7 +17,7 @@ returns c = search needs
 
 -- src/lib.rt:20:1
 returns-2 : tie.Need-returns-2
-returns-2 c = ?
+returns-2 c = sym (List·getD-eq-default (now (c .before .args .table)) 0 (c .if1 .left))
 
 pub byte-spec : {M : Type 1} → statement M
 byte-spec = tie.close (tie.spec shared-slice-read-result returns returns-2)

@@ -1,3 +1,6 @@
+use borrow.Author.Tests.{eq-eqb, ne-eqb}
+use mathlib.Core.Path.{sym, ap}
+use mathlib.Core.Bool.{cond}
 use borrow.Author.Needs.{needs}
 use Rattle.reply_table.proofs.pure.Statement.{statement}
 use Rattle.reply_table.proofs.pure.Tie as tie
@@ -10,11 +13,11 @@ cast-result c = search needs
 
 -- src/lib.rt:36:1
 returns : tie.Need-returns
-returns c = ?
+returns c = ap (λ t. cond t (c .before .args .d) 0) (sym (eq-eqb (c .before .args .a) (c .before .args .c) (c .if1 .taken)))
 
 -- src/lib.rt:36:1
 returns-2 : tie.Need-returns-2
-returns-2 c = ?
+returns-2 c = ap (λ t. cond t (c .before .args .d) 0) (sym (ne-eqb (c .before .args .a) (c .before .args .c) (c .if1 .left)))
 
 pub pure-spec : {M : Type 1} → statement M
 pure-spec = tie.close (tie.spec cast-result returns returns-2)

@@ -1,3 +1,5 @@
+use lib.Seq.{set-out}
+use mathlib.Core.Path.{sym}
 use borrow.Author.Needs.{needs}
 use Rattle.reply_table.proofs.put.Statement.{statement}
 use Rattle.reply_table.proofs.put.Tie as tie
@@ -18,7 +20,7 @@ returns c = search needs
 
 -- src/lib.rt:27:1
 returns-2 : tie.Need-returns-2
-returns-2 c = ?
+returns-2 c = sym (set-out _ _ _ (c .if1 .left))
 
 pub put-spec : {M : Type 1} → statement M
 put-spec = tie.close (tie.spec slice-write-out same-length returns returns-2)

@@ -1,3 +1,7 @@
+use denote.Ref.{now}
+use mathlib.Core.Path.{_≡_, _∙_, sym, ap, refl}
+use native.Mathlib.Omega.{arith}
+use Rattle.reply_table.proofs.Laying as laying
 use borrow.Author.Needs.{needs}
 use Rattle.reply_table.proofs.write.Statement.{statement}
 use Rattle.reply_table.proofs.write.Tie as tie
@@ -31,7 +35,7 @@ same-length c = search needs
 
 -- src/lib.rt:44:1
 returns : tie.Need-returns
-returns c = ?
+returns c = laying.wrote-three (now (c .before .before .before .before .before .before .before .before .before .before .before .before .before .before .args .out)) (c .before .before .before .before .before .before .before .before .before .before .before .put .last .0) (c .before .before .before .before .before .before .before .put2 .last .0) (c .before .before .put3 .last .0) (c .before .before .before .before .before .before .before .before .before .before .before .before .before .before .args .at) (c .before .before .before .before .before .before .before .before .before .before .before .before .before .before .args .count) (c .before .before .before .before .before .before .before .before .before .before .before .before .before .before .args .x) (c .before .before .before .before .before .before .before .before .before .before .before .before .before .before .args .y) (c .before .before .before .before .before .before .before .before .before .before .before .before .before .before .args .z) (c .before .before .before .before .before .before .before .before .before .before .before .put .ensures) (c .before .before .before .before .before .before .before .put2 .ensures) (c .before .before .put3 .ensures) (c .before .before .before .before .if1 .taken)
 
 -- src/lib.rt:44:1
 same-length-2 : tie.Need-same-length-2
@@ -39,7 +43,7 @@ same-length-2 c = search needs
 
 -- src/lib.rt:44:1
 returns-2 : tie.Need-returns-2
-returns-2 c = ?
+returns-2 c = laying.wrote-two (now (c .before .before .before .before .before .before .before .before .before .before .args .out)) (c .before .before .before .before .before .before .before .put .last .0) (c .before .before .before .put2 .last .0) (c .before .before .before .before .before .before .before .before .before .before .args .at) (c .before .before .before .before .before .before .before .before .before .before .args .count) (c .before .before .before .before .before .before .before .before .before .before .args .x) (c .before .before .before .before .before .before .before .before .before .before .args .y) (c .before .before .before .before .before .before .before .before .before .before .args .z) (c .before .before .before .before .before .before .before .put .ensures) (c .before .before .before .put2 .ensures) (c .if1 .left)
 
 pub write-spec : {M : Type 1} → statement M
 write-spec =

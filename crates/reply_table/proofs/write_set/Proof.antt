@@ -1,3 +1,6 @@
+use denote.Ref.{now}
+use mathlib.Core.Path.{_≡_, _∙_, sym, ap, refl, subst}
+use Rattle.reply_table.proofs.Laying as laying
 use borrow.Author.Needs.{needs}
 use Rattle.reply_table.proofs.write_set.Statement.{statement}
 use Rattle.reply_table.proofs.write_set.Tie as tie
@@ -48,7 +51,7 @@ same-length c = search needs
 
 -- src/lib.rt:77:9
 returns : tie.Need-returns
-returns c = ?
+returns c = laying.laid-other (now (c .before .before .before .before .before .before .before .before .before .before .before .before .before .args .table)) (c .before .before .before .before .before .before .before .before .before .before .before .before .before .args .x) (c .before .before .before .before .before .before .before .before .before .before .before .before .before .args .at) (c .before .before .before .before .before .before .before .before .before .before .before .before .before .args .seat) (c .before .before .before .before .before .before .before .before .before .before .before .before .before .args .d) (c .before .before .before .before .before .before .before .before .before .before .before .before .before .args .heads) (c .before .before .before .before .before .before .before .before .before .before .before .before .before .args .units) (c .before .before .before .before .before .before .before .before .before .before .before .before .before .args .kept) (now (c .before .before .before .before .before .before .before .before .before .before .before .before .before .args .w)) (now (c .before .before .before .before .before .before .before .before .before .before .before .before .before .args .out)) (c .before .before .write .last .0) (c .before .before .before .before .before .before .before .before .before .actions .result) (c .before .before .before .before .before .before .byte .result) (c .before .before .before .before .before .byte2 .result) (c .before .before .before .before .byte3 .result) (c .before .before .before .before .before .before .before .before .before .actions .ensures) (c .before .before .write .ensures) (λ q. c .before .before .before .before .before .before .before .if1 .taken (c .before .before .before .before .before .before .before .before .actor .ensures ∙ q)) (c .before .before .before .before .before .before .byte .ensures) (c .before .before .before .before .before .byte2 .ensures) (c .before .before .before .before .byte3 .ensures)
 
 -- src/lib.rt:79:9
 choose-requires : tie.Need-choose-requires
@@ -80,7 +83,7 @@ same-length-3 c = search needs
 
 -- src/lib.rt:56:1
 returns-2 : tie.Need-returns-2
-returns-2 c = ?
+returns-2 c = laying.laid-own (now (c .before .before .before .before .before .before .before .before .before .before .before .before .before .before .before .before .before .args .table)) (c .before .before .before .before .before .before .before .before .before .before .before .before .before .before .before .before .before .args .x) (c .before .before .before .before .before .before .before .before .before .before .before .before .before .before .before .before .before .args .at) (c .before .before .before .before .before .before .before .before .before .before .before .before .before .before .before .before .before .args .seat) (c .before .before .before .before .before .before .before .before .before .before .before .before .before .before .before .before .before .args .d) (c .before .before .before .before .before .before .before .before .before .before .before .before .before .before .before .before .before .args .heads) (c .before .before .before .before .before .before .before .before .before .before .before .before .before .before .before .before .before .args .units) (c .before .before .before .before .before .before .before .before .before .before .before .before .before .before .before .before .before .args .kept) (now (c .before .before .before .before .before .before .before .before .before .before .before .before .before .before .before .before .before .args .w)) (now (c .before .before .before .before .before .before .before .before .before .before .before .before .before .before .before .before .before .args .out)) (c .before .before .write2 .last .0) (c .before .before .before .before .before .before .before .before .before .before .before .before .before .actions .result) (c .before .before .before .before .before .before .pure .result) (c .before .before .before .before .before .pure2 .result) (c .before .before .before .before .pure3 .result) (c .before .before .before .before .before .before .before .before .before .before .before .before .before .actions .ensures) (c .before .before .write2 .ensures) (c .before .before .before .before .before .before .before .before .before .choose .last .0) (c .before .before .before .before .before .before .before .before .before .choose .result) (sym (c .before .before .before .before .before .before .before .before .before .before .before .before .actor .ensures) ∙ c .before .before .before .before .before .before .before .before .before .before .before .if1 .left) (c .before .before .before .before .before .before .before .before .before .choose .ensures) (c .before .before .before .before .before .before .pure .ensures) (c .before .before .before .before .before .pure2 .ensures) (c .before .before .before .before .pure3 .ensures)
 
 pub write-set-spec : {M : Type 1} → statement M
 write-set-spec =
