@@ -11,7 +11,7 @@ use lib.ListN.{length, drop, length-append}
 use Rattle.game.proofs.Counting.{In}
 use Rattle.game.specs.Tree.{Key, Tree, fan, Splits, SplitsAll, Every, EveryAll}
 use Rattle.game.specs.Sets.{height, Heights, HeightsAll, Levels, LevelsAll}
-use Rattle.kuhn_rules.specs.Rules.{PASS, BET, ended, key, remaining}
+use Rattle.kuhn_rules.specs.Rules.{PASS, BET, ended, remaining}
 use Rattle.kuhn_tree.specs.Tree.{each, m, kuhnTree, factorial, C}
 use Rattle.kuhn_tree.proofs.Cards.{remaining-less, remaining-all}
 use Rattle.kuhn_tree.proofs.Shape.{hand, deals, kuhn-deals}

@@ -1,3 +1,4 @@
 pub mod Six
 pub mod Adding
 pub mod Lifting
+pub mod Levels

@@ -28,7 +28,7 @@ decision-share-requires c κs = (omega (arith, c .before .before .before .before
 
 -- src/worths.rt:29:1
 returns-2 : tie.Need-returns-2
-returns-2 c = 
+returns-2 c =
     let e = c .decision-share .ensures in
     let l = share-few (c .before .before .before .before .before .args .u) (c .before .before .wide .result) (c .before .before .before .before .before .args .d) (omega (arith, c .before .if1 .left)) in
     (omega (arith, e, l, c .before .before .before .before .before .pre .1), λ q. e ∙ ap (λ x. c .before .before .before .before .before .args .u * x / c .before .before .before .before .before .args .d) (c .before .before .wide .ensures))

@@ -1,0 +1,3 @@
+-- Laws of the games' trees and units.
+pub mod Entries
+pub mod Facts

@@ -1,0 +1,1 @@
+// The units of a game's root, by its number.
