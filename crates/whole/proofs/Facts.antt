@@ -1,9 +1,11 @@
 -- The statements of specs/Facts.antt, each by its proof: what other crates cite. Assumes nothing.
-use mathlib.Core.Path.{_≡_, refl, sym, _∙_, subst}
+use mathlib.Core.Path.{_≡_, refl, sym, ap, _∙_, subst}
+use mathlib.Core.List.{List, [], _∷_}
 use Prim.Native.Nat.{ℕ, zero, suc, _+_, _*_, _-_, _^_, _≤_, _<_}
 use native.Mathlib.Nat as NatL
 use native.Mathlib.Omega.{arith}
 use lib.Dec.{eqb}
+use lib.ListN.{getD}
 use borrow.Author.Tests.{eq-eqb, ne-eqb, eqb-true, eqb-false, not-false}
 use Rattle.finite.proofs.Tests.{Tested, holds, fails, tested}
 use Rattle.game.specs.Tree.{Key, Every}
@@ -17,6 +19,7 @@ use Rattle.leduc_tree.specs.Tree as Leduc
 use Rattle.leduc_tree.proofs.Facts as Leduc-proofs
 use Rattle.tables.specs.declared.Game.{Game}
 use Rattle.tables.specs.Games.{treeOf, mostParts}
+use Rattle.tables.specs.Facts.{rootUnits}
 use Rattle.tables.proofs.Counts.{kuhn-least, kuhn-most}
 use Rattle.tables.proofs.Facts.{leduc-out, nodes-are, games-fit}
 use Rattle.units.proofs.Levels.{deep-levels, more-levels}
@@ -48,12 +51,20 @@ kuhn-units-few : (n : ℕ) → 2 ≤ n → n ≤ 6 → Kuhn-facts.rootUnits n (K
 unfolding Kuhn.C
 kuhn-units-few = each-seats (λ n. Kuhn-facts.rootUnits n (Kuhn.largestParts n) < 144115188075855872) (omega arith) (omega arith) (omega arith) (omega arith) (omega arith)
 
+-- C by seats
+abbrev pub kuhn-fans : List ℕ
+kuhn-fans = 0 ∷ 0 ∷ 6 ∷ 24 ∷ 120 ∷ 720 ∷ 5040 ∷ []
+
+kuhn-C : (n : ℕ) → 2 ≤ n → n ≤ 6 → getD kuhn-fans n 0 ≡ Kuhn.C n
+unfolding Kuhn.C
+kuhn-C = each-seats (λ n. getD kuhn-fans n 0 ≡ Kuhn.C n) refl refl refl refl refl
+
 module _ (g : Game) (a : Known g) where
   module _ (k : g .number ≡ 0) where
-    kuhn-two : 2 ≤ g .seats
+    pub kuhn-two : 2 ≤ g .seats
     kuhn-two = kuhn-least g k (a .seats)
 
-    kuhn-six : g .seats ≤ 6
+    pub kuhn-six : g .seats ≤ 6
     kuhn-six = six-seats (g .seats) (kuhn-most g k (a .seats)) (rw (eq-eqb (g .number) 0 k) at (a .small))
 
     kuhn-tree : treeOf g ≡ Kuhn.kuhnTree 1 1 (g .seats)
@@ -92,7 +103,13 @@ module _ (g : Game) (a : Known g) where
           conv = rw (eq-eqb (g .number) 0 k) (f .1);
         }
 
+    pub kuhn-root : (D : ℕ) → getD kuhn-fans (g .seats) 0 * D ^ (2 * g .seats - 1) ≡ rootUnits g D
+    kuhn-root D = ap (λ x. x * D ^ (2 * g .seats - 1)) (kuhn-C (g .seats) kuhn-two kuhn-six) ∙ sym (rw (eq-eqb (g .number) 0 k) refl)
+
   module _ (k : g .number ≡ 0 → ⊥) where
+    pub leduc-root : (D : ℕ) → 120 * D ^ 8 ≡ rootUnits g D
+    leduc-root D = sym (rw (ne-eqb (g .number) 0 k) refl)
+
     leduc-two : g .seats ≡ 2
     leduc-two = eqb-true (g .seats) 2 (not-false (eqb (g .seats) 2) (sym (leduc-out g k) ∙ a .seats))
 

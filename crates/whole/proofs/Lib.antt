@@ -1,3 +1,4 @@
 -- Laws of the games' trees and units.
 pub mod Entries
 pub mod Facts
+pub mod Powers
