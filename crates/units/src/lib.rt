@@ -1,3 +1,3 @@
 // Whole units over a tree in work memory.
-mod sums;
-mod worths;
+pub mod sums;
+pub mod worths;

@@ -2,3 +2,5 @@
 pub mod Entries
 pub mod Facts
 pub mod Powers
+pub mod Passed
+pub mod Lowering

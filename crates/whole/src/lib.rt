@@ -1,4 +1,6 @@
-// The units of a game's root, by its number.
+// Whole units by game number: the units of a game's root, and what a table is worth.
+pub mod worths;
+
 use tables::Game;
 ghost use mathlib.Core.Path.{_≡_};
 ghost use Prim.Native.Nat.{_*_, _^_, _≤_, _<_};
