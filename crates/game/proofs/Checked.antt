@@ -10,7 +10,7 @@ use Rattle.finite.proofs.Tests.{and-left, and-right}
 use Rattle.game.specs.Tree.{Key, Tree, end, chance, decide, Trees, nil, cons, fan, Splits, SplitsAll, Every, EveryAll}
 use Rattle.game.specs.Reply.{same}
 use Rattle.game.specs.Recall.{Path, moved, Recall, RecallAll, RecallKids}
-use Rattle.game.specs.Sets.{Decision, height, Heights, HeightsAll}
+use Rattle.game.specs.Sets.{Decision, height, Heights, HeightsAll, Levels, LevelsAll}
 use Rattle.game.proofs.Tests.{T-of, same→eq, eqb-is, eqb-self}
 use Rattle.game.proofs.Sets.{clash}
 
@@ -93,6 +93,30 @@ module _ (d : ℕ → Key → ℕ) where
     heights-all-sound : (f : Trees) → heightsAll f ≡ true → HeightsAll d f
     heights-all-sound nil e = tt
     heights-all-sound (cons t f) e = (heights-sound t (and-left _ _ e), heights-all-sound f (and-right _ _ e))
+
+-- ---- v gives the nodes that may follow a decision
+module _ (v : ℕ → Key → ℕ) where
+  unfoldable mutual
+    pub levels : ℕ → Tree → Bool
+    levels d (end p) = ltb 0 d
+    levels d (chance f) = and (ltb 0 d) (levelsAll (pred d) f)
+    levels d (decide j k f) = and (ltb 0 d) (and (eqb (v j k) (pred d)) (levelsAll (pred d) f))
+
+    pub levelsAll : ℕ → Trees → Bool
+    levelsAll d nil = true
+    levelsAll d (cons t f) = and (levels d t) (levelsAll d f)
+
+  mutual
+    unfolding levels Levels
+
+    pub levels-sound : (d : ℕ) (t : Tree) → levels d t ≡ true → Levels v d t
+    levels-sound d (end p) e = ltb-true _ _ e
+    levels-sound d (chance f) e = (ltb-true _ _ (and-left _ _ e), levels-all-sound (pred d) f (and-right _ _ e))
+    levels-sound d (decide j k f) e = let r = and-right _ _ e in (ltb-true _ _ (and-left _ _ e), eqb-is _ _ (and-left _ _ r), levels-all-sound (pred d) f (and-right _ _ r))
+
+    levels-all-sound : (d : ℕ) (f : Trees) → levelsAll d f ≡ true → LevelsAll v d f
+    levels-all-sound d nil e = tt
+    levels-all-sound d (cons t f) e = (levels-sound d t (and-left _ _ e), levels-all-sound d f (and-right _ _ e))
 
 -- ---- perfect recall of seat i
 unfoldable pub samePath : Path → Path → Bool

@@ -2,7 +2,7 @@
 use mathlib.Core.Path.{_≡_}
 use mathlib.Core.Bool.{Bool, true, false, cond}
 use mathlib.Core.List.{List, [], _∷_, _++_, map}
-use Prim.Native.Nat.{ℕ, suc, _+_, max}
+use Prim.Native.Nat.{ℕ, suc, pred, _+_, _<_, max}
 use lib.Dec.{eqb}
 use lib.IntN.{ℤ}
 use lib.ListN.{length, replicate}
@@ -168,6 +168,17 @@ unfoldable mutual
 -- decisions of one seat with equal keys have the same remaining depth
 abbrev pub SameHeights : Tree → Type 0
 SameHeights t = (d : ℕ → Key → ℕ) × Heights d t
+
+-- no path has more than d nodes, and v gives, by seat and key, how many may follow a decision
+unfoldable mutual
+  pub Levels : (ℕ → Key → ℕ) → ℕ → Tree → Type 0
+  Levels v d (end p) = 0 < d
+  Levels v d (chance f) = (0 < d) × LevelsAll v (pred d) f
+  Levels v d (decide j k f) = (0 < d) × (v j k ≡ pred d) × LevelsAll v (pred d) f
+
+  pub LevelsAll : (ℕ → Key → ℕ) → ℕ → Trees → Type 0
+  LevelsAll v d nil = Unit {0}
+  LevelsAll v d (cons t f) = Levels v d t × LevelsAll v d f
 
 -- P holds of the payoffs of every end
 unfoldable mutual

@@ -6,9 +6,9 @@ use lib.Signed.{_≤ℤ_}
 use Rattle.game.specs.Table.{tableWorth}
 use Rattle.game.proofs.TableTheorem.{reply-table-rival, reply-table-worth, no-rival-table-better}
 use Rattle.kuhn_tree.specs.Tree.{m, kuhnTree, C}
-use Rattle.kuhn_tree.specs.Facts.{rootUnits, FollowsRules, FuelEnough, SeatByKey, ActionsByKey, DepthByKey, Recalls, FansDivide, PayoffsBounded, PayoffsBalance, ReplyBest, CaseKUnbeaten, kuhn2, passes}
+use Rattle.kuhn_tree.specs.Facts.{rootUnits, FollowsRules, FuelEnough, SeatByKey, ActionsByKey, DepthByKey, LevelsByKey, TwoActions, Recalls, FansDivide, PayoffsBounded, PayoffsBalance, ReplyBest, CaseKUnbeaten, kuhn2, passes}
 use Rattle.kuhn_tree.proofs.Growth.{kuhn-follows, kuhn-fuel}
-use Rattle.kuhn_tree.proofs.Units.{kuhn-splits, kuhn-every, depthAt, kuhn-heights}
+use Rattle.kuhn_tree.proofs.Units.{kuhn-splits, kuhn-every, depthAt, kuhn-heights, levelAt, kuhn-levels}
 use Rattle.kuhn_tree.proofs.Recall.{kuhn-recall}
 use Rattle.kuhn_tree.proofs.Payoffs.{kuhn-pays, kuhn-balance}
 use Rattle.kuhn_tree.proofs.Sets.{kuhn-same-actions}
@@ -32,6 +32,12 @@ actions-by-key ante bet n = kuhn-same-actions ante bet n
 
 pub depth-by-key : DepthByKey
 depth-by-key ante bet n = ((λ j k. depthAt ante bet n (drop 2 k)), kuhn-heights ante bet n)
+
+pub levels-by-key : LevelsByKey
+levels-by-key ante bet n d l = (levelAt ante bet n d, kuhn-levels ante bet n d l)
+
+pub two-actions : TwoActions
+two-actions ante bet n = kuhn-every ante bet n (λ j k a. a ≡ 2) (λ j c h. refl)
 
 pub recalls : Recalls
 recalls ante bet n i = kuhn-recall ante bet n i

@@ -3,15 +3,15 @@ use mathlib.Core.Path.{_≡_, refl, sym, ap, ap₂, _∙_}
 use mathlib.Core.Logic.{inl, inr}
 use mathlib.Core.Bool.{Bool, true, false}
 use mathlib.Core.List.{List, [], _∷_, _++_}
-use Prim.Native.Nat.{ℕ, zero, suc, _+_, _*_, _-_, _≤_, max, zero-le, suc-le-suc}
+use Prim.Native.Nat.{ℕ, zero, suc, pred, _+_, _*_, _-_, _≤_, _<_, max, zero-le, suc-le-suc}
 use native.Mathlib.Nat as NatL
 use native.Mathlib.Numerals.{add-one}
 use native.Mathlib.Omega.{arith}
 use lib.ListN.{length, drop, length-append}
 use Rattle.game.proofs.Counting.{In}
 use Rattle.game.specs.Tree.{Key, Tree, fan, Splits, SplitsAll, Every, EveryAll}
-use Rattle.game.specs.Sets.{height, Heights, HeightsAll}
-use Rattle.kuhn_rules.specs.Rules.{PASS, BET, ended, key, remaining}
+use Rattle.game.specs.Sets.{height, Heights, HeightsAll, Levels, LevelsAll}
+use Rattle.kuhn_rules.specs.Rules.{PASS, BET, ended, remaining}
 use Rattle.kuhn_tree.specs.Tree.{each, m, kuhnTree, factorial, C}
 use Rattle.kuhn_tree.proofs.Cards.{remaining-less, remaining-all}
 use Rattle.kuhn_tree.proofs.Shape.{hand, deals, kuhn-deals}
@@ -36,6 +36,11 @@ each-heights : (d : ℕ → Key → ℕ) (l : List ℕ) (g : ℕ → Tree) → (
 unfolding each Heights
 each-heights d [] g h = tt
 each-heights d (c ∷ l) g h = (h c, each-heights d l g h)
+
+each-levels : (v : ℕ → Key → ℕ) (d : ℕ) (l : List ℕ) (g : ℕ → Tree) → ((c : ℕ) → Levels v d (g c)) → LevelsAll v d (each l g)
+unfolding each Levels
+each-levels v d [] g h = tt
+each-levels v d (c ∷ l) g h = (h c, each-levels v d l g h)
 
 module _ (ante bet n : ℕ) where
   -- ---- units
@@ -112,3 +117,32 @@ module _ (ante bet n : ℕ) where
 
   pub kuhn-heights : Heights (λ j k. depthAt (drop 2 k)) (kuhnTree ante bet n)
   kuhn-heights = rw (kuhn-deals ante bet n) (deals-heights n [])
+
+  -- ---- the nodes above a decision: the cards and its history
+  module _ (d : ℕ) where
+    unfoldable pub levelAt : ℕ → Key → ℕ
+    levelAt j k = d - (n + length (drop 2 k) + 1)
+
+    hand-levels : (cs : List ℕ) (r : ℕ) (b : Bool) (h : List ℕ) (x : ℕ) → r < x → n + length h + x ≡ d → Levels levelAt x (hand ante bet n cs r b h)
+    unfolding hand Levels levelAt
+    hand-levels cs zero b h x l e = omega arith
+    hand-levels cs (suc r) true h x l e = omega arith
+    hand-levels cs (suc r) false h x l e = (
+      omega arith,
+      omega arith,
+      (hand-levels cs r (ended n (h ++ (PASS ∷ []))) (h ++ (PASS ∷ [])) (pred x) (omega arith) (longer PASS), (hand-levels cs r (ended n (h ++ (BET ∷ []))) (h ++ (BET ∷ [])) (pred x) (omega arith) (longer BET), tt)),
+    )
+      where
+        longer : (a : ℕ) → n + length (h ++ (a ∷ [])) + pred x ≡ d
+        longer a = omega (arith, length-append h (a ∷ []))
+
+    deals-levels : (k : ℕ) (cs : List ℕ) (x : ℕ) → k + m n < x → n + x ≡ d + k → Levels levelAt x (deals ante bet n k cs)
+    unfolding deals Levels
+    deals-levels zero cs x l e = hand-levels cs (m n) (ended n []) [] x (omega arith) (omega arith)
+    deals-levels (suc k) cs x l e = (
+      omega arith,
+      each-levels levelAt (pred x) (remaining n cs) (λ c. deals ante bet n k (cs ++ (c ∷ []))) (λ c. deals-levels k (cs ++ (c ∷ [])) (pred x) (omega arith) (omega arith)),
+    )
+
+    pub kuhn-levels : n + m n < d → Levels levelAt d (kuhnTree ante bet n)
+    kuhn-levels l = rw (kuhn-deals ante bet n) (deals-levels n [] d l (NatL.add-comm n d))

@@ -9,7 +9,7 @@ use lib.Signed.{_≤ℤ_}
 use Rattle.finite.specs.Finite.{sumℤ}
 use Rattle.game.specs.Tree.{Key, Tree, U, Splits, Pays, Every}
 use Rattle.game.specs.Recall.{PerfectRecall}
-use Rattle.game.specs.Sets.{size, sets, setCount, entries, SameActions, SameHeights, EveryEnd}
+use Rattle.game.specs.Sets.{size, sets, setCount, entries, SameActions, SameHeights, Levels, EveryEnd}
 use Rattle.game.specs.Table.{Table, ValidTable, RivalTable, tableWorth, tableBest, replyTable, nashConv}
 use Rattle.kuhn_rules.specs.Reached.{Reached}
 use Rattle.kuhn_tree.specs.Tree.{next, below, m, fuel, kuhnTree, C, largestParts, largestPayoff}
@@ -69,6 +69,14 @@ ActionsByKey = (ante bet n : ℕ) → SameActions (kuhnTree ante bet n)
 
 abbrev pub DepthByKey : Type 0
 DepthByKey = (ante bet n : ℕ) → SameHeights (kuhnTree ante bet n)
+
+-- They have the same number of nodes above them: on no path are more than d nodes, if d is above n + m.
+abbrev pub LevelsByKey : Type 0
+LevelsByKey = (ante bet n d : ℕ) → n + m n < d → (v : ℕ → Key → ℕ) × Levels v d (kuhnTree ante bet n)
+
+-- Every decision has two actions.
+abbrev pub TwoActions : Type 0
+TwoActions = (ante bet n : ℕ) → Every (λ j k a. a ≡ 2) (kuhnTree ante bet n)
 
 -- 5. Every seat has perfect recall.
 abbrev pub Recalls : Type 0

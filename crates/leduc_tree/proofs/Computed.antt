@@ -2,23 +2,23 @@
 use mathlib.Core.Path.{_≡_, refl, ap, _∙_}
 use mathlib.Core.Bool.{Bool, true}
 use mathlib.Core.List.{List, [], map}
-use Prim.Native.Nat.{ℕ}
-use lib.Dec.{eqb}
+use Prim.Native.Nat.{ℕ, _≤_}
+use lib.Dec.{eqb, leb}
 use lib.ListN.{length, getD}
-use borrow.Author.Tests.{eqb-true}
+use borrow.Author.Tests.{eqb-true, leb-true}
 use Rattle.finite.specs.Finite.{and, or, some, those, has}
 use Rattle.finite.proofs.Tests.{and-left, and-right}
 use Rattle.game.specs.Tree.{Key, Tree, Splits, Every}
 use Rattle.game.specs.Recall.{Recall}
-use Rattle.game.specs.Sets.{Decision, size, Heights, sets, setCount, entries, entriesOf}
+use Rattle.game.specs.Sets.{Decision, size, Heights, Levels, sets, setCount, entries, entriesOf}
 use Rattle.game.proofs.Tries.{setsOf, sets-of}
-use Rattle.game.proofs.Checked.{splits, splits-sound, every, every-sound, heights, heights-sound, recall, recall-sound, alike, alike-sound}
+use Rattle.game.proofs.Checked.{splits, splits-sound, every, every-sound, heights, heights-sound, levels, levels-sound, recall, recall-sound, alike, alike-sound}
 use Rattle.leduc_betting.specs.Betting.{ends-with, folded, closes, behind, raises, may, options, in-play, turn, ended}
 use Rattle.leduc_betting.specs.Cards.{left, remaining}
 use Rattle.leduc_rules.specs.Rules.{public-due, due, key}
 use Rattle.leduc_tree.specs.Tree.{next, each, below, leducTree, C, m}
 use Rattle.leduc_tree.specs.Turns.{firstTurns, decisionAt}
-use Rattle.leduc_tree.proofs.Keys.{actionsOf, depthOf, past}
+use Rattle.leduc_tree.proofs.Keys.{actionsOf, depthOf, levelOf, past}
 
 -- the key tells who acts and with how many actions
 unfoldable keyed : ℕ → Key → ℕ → Bool
@@ -27,6 +27,14 @@ keyed j k n = and (eqb j (getD k 0 0)) (eqb n (actionsOf k))
 -- the nodes; the fans and the most decisions on a path; what a key tells, and the decisions to come
 unfoldable regular : Tree → Bool
 regular t = and (eqb (size t) 9457) (and (splits C m t) (and (every keyed t) (heights (λ j k. depthOf k) t)))
+
+-- two or three actions
+unfoldable few : ℕ → Key → ℕ → Bool
+few j k n = and (leb 2 n) (leb n 3)
+
+-- the nodes that may follow a decision, and its actions
+unfoldable leveled : Tree → Bool
+leveled t = and (levels (λ j k. levelOf k) 12 t) (every few t)
 
 -- the own moves before each decision are those that its key tells
 unfoldable recalled : Tree → Bool
@@ -60,6 +68,18 @@ module _ (ante raise₁ raise₂ : ℕ) where
   pub depths : Heights (λ j k. depthOf k) (leducTree ante raise₁ raise₂)
   unfolding regular
   depths = heights-sound (λ j k. depthOf k) (leducTree ante raise₁ raise₂) (and-right _ _ (and-right _ _ (and-right _ _ is-regular)))
+
+  is-leveled : leveled (leducTree ante raise₁ raise₂) ≡ true
+  unfolding leveled levels every few levelOf leducTree below next each and or some those has ends-with folded closes behind raises may options in-play turn ended left remaining public-due due key
+  is-leveled = refl
+
+  pub leveling : Levels (λ j k. levelOf k) 12 (leducTree ante raise₁ raise₂)
+  unfolding leveled
+  leveling = levels-sound (λ j k. levelOf k) 12 (leducTree ante raise₁ raise₂) (and-left _ _ is-leveled)
+
+  pub few-actions : Every (λ j k n. (2 ≤ n) × (n ≤ 3)) (leducTree ante raise₁ raise₂)
+  unfolding leveled few
+  few-actions = every-sound few _ (λ j k n e. (leb-true _ _ (and-left _ _ e), leb-true _ _ (and-right _ _ e))) (leducTree ante raise₁ raise₂) (and-right _ _ is-leveled)
 
   is-recalled : recalled (leducTree ante raise₁ raise₂) ≡ true
   unfolding recalled recall past actionsOf leducTree below next each and or some those has ends-with folded closes behind raises may options in-play turn ended left remaining public-due due key

@@ -7,9 +7,9 @@ use lib.ListN.{length, getD}
 use Rattle.game.proofs.TableTheorem.{reply-table-rival, reply-table-worth, no-rival-table-better}
 use Rattle.leduc_tree.specs.Tree.{Position, choices, leducTree, C, m}
 use Rattle.leduc_tree.specs.Turns.{firstTurns, decisionAt, actionsInOrder}
-use Rattle.leduc_tree.specs.Facts.{units, FollowsRules, FuelEnough, Counts, FirstOfSet, ActionsInOrder, SeatByKey, ActionsByKey, DepthByKey, Recalls, FansDivide, PayoffsBounded, ReplyBest, DealsFirst, OneShape}
-use Rattle.leduc_tree.proofs.Keys.{actionsOf, depthOf, past}
-use Rattle.leduc_tree.proofs.Computed.{node-count, splitting, seats, actions, depths, first-recalls, second-recalls, set-count, entry-count}
+use Rattle.leduc_tree.specs.Facts.{units, FollowsRules, FuelEnough, Counts, FirstOfSet, ActionsInOrder, SeatByKey, ActionsByKey, DepthByKey, LevelsByKey, TwoOrThreeActions, Recalls, FansDivide, PayoffsBounded, ReplyBest, DealsFirst, OneShape}
+use Rattle.leduc_tree.proofs.Keys.{actionsOf, depthOf, levelOf, past}
+use Rattle.leduc_tree.proofs.Computed.{node-count, splitting, seats, actions, depths, leveling, few-actions, first-recalls, second-recalls, set-count, entry-count}
 use Rattle.leduc_tree.proofs.Computed as Computed
 use Rattle.leduc_tree.proofs.Growth.{leduc-follows, leduc-fuel}
 use Rattle.leduc_tree.proofs.Payoffs.{leduc-pays}
@@ -43,6 +43,12 @@ actions-by-key ante raise₁ raise₂ = ((λ j k. actionsOf k), actions ante rai
 
 pub depth-by-key : DepthByKey
 depth-by-key ante raise₁ raise₂ = ((λ j k. depthOf k), depths ante raise₁ raise₂)
+
+pub levels-by-key : LevelsByKey
+levels-by-key ante raise₁ raise₂ = ((λ j k. levelOf k), leveling ante raise₁ raise₂)
+
+pub two-or-three-actions : TwoOrThreeActions
+two-or-three-actions ante raise₁ raise₂ = few-actions ante raise₁ raise₂
 
 pub recalls : Recalls
 recalls ante raise₁ raise₂ zero l = (past, actionsOf, first-recalls ante raise₁ raise₂)

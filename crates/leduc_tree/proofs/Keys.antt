@@ -31,6 +31,11 @@ unfoldable pub depthOf : Key → ℕ
 unfolding to-come closes
 depthOf k = cond (closes (first-of k)) (to-come (second-of k)) (to-come (first-of k) + 4)
 
+-- of 12 nodes on a path, how many may follow: two cards stand above, round 1's actions and, once it has closed, the public card and round 2's
+unfoldable pub levelOf : Key → ℕ
+unfolding closes
+levelOf k = cond (closes (first-of k)) (8 - (length (first-of k) + length (second-of k))) (9 - length (first-of k))
+
 -- the place of action a among the legal ones after h, where FOLD may be missing
 abbrev pub place : List ℕ → ℕ → ℕ
 place h a = cond (behind h) a (a - 1)

@@ -3,11 +3,11 @@
 use mathlib.Core.Path.{_≡_}
 use mathlib.Core.Bool.{true}
 use mathlib.Core.List.{[], _∷_, map}
-use Prim.Native.Nat.{ℕ, _+_, _<_}
+use Prim.Native.Nat.{ℕ, _+_, _≤_, _<_}
 use lib.Signed.{_≤ℤ_}
 use Rattle.game.specs.Tree.{Key, Tree, U, chance, Splits, Pays, Every}
 use Rattle.game.specs.Recall.{PerfectRecall}
-use Rattle.game.specs.Sets.{size, sets, setCount, setActions, entries, SameActions, SameHeights}
+use Rattle.game.specs.Sets.{size, sets, setCount, setActions, entries, SameActions, SameHeights, Levels}
 use Rattle.game.specs.Table.{Table, ValidTable, RivalTable, tableWorth, tableBest, replyTable}
 use Rattle.leduc_betting.specs.Cards.{left}
 use Rattle.leduc_tree.specs.Tree.{start, payoff, afterDeal, next, each, below, fuel, leducTree, C, m, largestPayoff}
@@ -47,6 +47,14 @@ ActionsByKey = (ante raise₁ raise₂ : ℕ) → SameActions (leducTree ante ra
 
 abbrev pub DepthByKey : Type 0
 DepthByKey = (ante raise₁ raise₂ : ℕ) → SameHeights (leducTree ante raise₁ raise₂)
+
+-- They have the same number of nodes above them: on no path are more than 12 nodes.
+abbrev pub LevelsByKey : Type 0
+LevelsByKey = (ante raise₁ raise₂ : ℕ) → (v : ℕ → Key → ℕ) × Levels v 12 (leducTree ante raise₁ raise₂)
+
+-- Every decision has two or three actions.
+abbrev pub TwoOrThreeActions : Type 0
+TwoOrThreeActions = (ante raise₁ raise₂ : ℕ) → Every (λ j k n. (2 ≤ n) × (n ≤ 3)) (leducTree ante raise₁ raise₂)
 
 -- 5. Both seats have perfect recall.
 abbrev pub Recalls : Type 0

@@ -9,6 +9,7 @@ use Rattle.game.specs.Sets.{size, setCount}
 use Rattle.kuhn_tree.specs.Follows as Kuhn-tree
 use Rattle.tables.specs.declared.Game.{Game}
 use Rattle.tables.specs.Games.{isKuhn, treeOf}
+pub use Rattle.tables.specs.Games.{gameOf}
 use Rattle.tables.specs.Checks.{tree-checks}
 use Rattle.records.specs.Listing.{Cards, listing}
 use Rattle.kuhn_listing.specs.Listing as Kuhn
@@ -41,7 +42,3 @@ answer (suc r) g = record { refusal = suc r; nodes = 0; sets = 0 }
 abbrev pub written : ℕ → Game → List ℕ → List ℕ
 written zero g out = listingOf g ++ drop (length (listingOf g)) out
 written (suc r) g out = out
-
--- the game of a number and a seat count
-abbrev pub gameOf : (number seats : ℕ) → Game
-gameOf number seats = record { number = number; seats = seats }

@@ -10,6 +10,7 @@ use lib.ListN.{length, getD}
 use Rattle.finite.proofs.Tests.{Tested, holds, fails, tested}
 use Rattle.game.specs.Tree.{Key, Tree, end, chance, decide, Trees, nil, cons, fan, Every, EveryAll, Pays, PaysAll}
 use Rattle.game.specs.Reply.{share, same}
+use Rattle.game.specs.Sets.{Levels, LevelsAll}
 use Rattle.game.specs.Sets.{Decision, size, sizes, decisions, firstEntry}
 use Rattle.game.proofs.Tests.{T-of, same→eq, eqb-is}
 use Rattle.game.proofs.Counting.{In}
@@ -17,7 +18,7 @@ use Rattle.arena.specs.Held.{Held, HeldAll}
 use Rattle.arena.specs.Index.{laterIn, Indexed}
 use Rattle.arena.proofs.Building.{size-some}
 use Rattle.arena.proofs.Numbering.{in-every, every-in}
-use Rattle.units.specs.Gain.{Member, given, gain, gainAll, gainPick, found, foundAll, Stocked, StockedAll, Levels, LevelsAll}
+use Rattle.units.specs.Gain.{Member, given, gain, gainAll, gainPick, found, foundAll, Stocked, StockedAll}
 use Rattle.units.proofs.Adding.{share-few}
 use Rattle.reply.specs.Valued.{placeOf, Scene, Known, Noted, Here, HereAll, gained, gainedAll}
 

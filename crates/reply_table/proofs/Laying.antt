@@ -14,6 +14,7 @@ use Rattle.finite.proofs.Tests.{Tested, holds, fails, tested}
 use Rattle.game.specs.Sums.{sumℕ}
 use Rattle.game.specs.Tree.{Key, Tree, end, chance, decide, Trees, nil, cons, fan, Strategy, Every, EveryAll}
 use Rattle.game.specs.Reply.{pure, same}
+use Rattle.game.specs.Sets.{Levels, LevelsAll}
 use Rattle.game.specs.Sets.{Decision, size, preorder, decisions, decisionOf, decisionsOf, isOf, decides, numbers, setMembers, before, entriesOf, firstEntry, setCount}
 use Rattle.game.specs.Sets as Sets
 use Rattle.game.specs.Table.{Table, listed, laidOut, tableOf}
@@ -29,7 +30,7 @@ use Rattle.arena.proofs.Numbering.{none, node, held-node}
 use Rattle.reply.specs.Valued.{Scene, Known, Noted, Chosen}
 use Rattle.reply.proofs.Scenes.{known-of}
 use Rattle.reply.proofs.Choosing.{some}
-use Rattle.units.specs.Gain.{Levels, LevelsAll}
+
 use Rattle.reply_table.specs.Laid.{Tabled, replied, LaidSet, Laid}
 
 -- ---- no set stands deeper than its walk

@@ -33,7 +33,7 @@ use Rattle.tables.specs.Facts.{nodesOf}
 use Rattle.stored.specs.Stored.{Fit, headsOf, Stored}
 
 -- Kuhn with more than six seats has too many nodes
-six-seats : (n : ℕ) → n ≤ 10 → kuhnNodes n ≤ 4000000 → n ≤ 6
+pub six-seats : (n : ℕ) → n ≤ 10 → kuhnNodes n ≤ 4000000 → n ≤ 6
 unfolding dealNodes
 six-seats zero a b = omega arith
 six-seats (suc zero) a b = omega arith

@@ -9,6 +9,10 @@ use Rattle.kuhn_tree.specs.Tree as Kuhn
 use Rattle.leduc_tree.specs.Tree as Leduc
 use Rattle.tables.specs.declared.Game.{Game}
 
+-- the game of a number and a seat count
+abbrev pub gameOf : (number seats : ℕ) → Game
+gameOf number seats = record { number = number; seats = seats }
+
 -- game number 0 is Kuhn, 1 is Leduc; any other is refused before its tree is asked for
 abbrev pub isKuhn : Game → Bool
 isKuhn g = eqb (g .number) 0

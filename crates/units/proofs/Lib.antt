@@ -5,3 +5,4 @@ pub mod Lifting
 pub mod Found
 pub mod Gains
 pub mod Choices
+pub mod Levels

@@ -3,7 +3,7 @@ use mathlib.Core.Path.{_≡_}
 use mathlib.Core.Bool.{cond}
 use mathlib.Core.List.{List, [], _∷_, _++_}
 use mathlib.Core.Bool.{false}
-use Prim.Native.Nat.{ℕ, zero, suc, pred, _+_, _*_, _/_, _<_}
+use Prim.Native.Nat.{ℕ, zero, suc, _+_, _*_, _/_}
 use lib.Dec.{eqb, ltb}
 use lib.ListN.{getD}
 use Rattle.game.specs.Sums.{sumℕ}
@@ -78,14 +78,3 @@ module _ (D : ℕ) (s : Strategy) (i : ℕ) where
 unfoldable pub topmost : (ℕ → ℕ) → ℕ → ℕ
 topmost q zero = 0
 topmost q (suc n) = let b : ℕ = topmost q n in cond (ltb (q b) (q (suc n))) (suc n) b
-
--- no path has more than d nodes, and v gives, by seat and key, how many may follow a decision
-unfoldable mutual
-  pub Levels : (ℕ → Key → ℕ) → ℕ → Tree → Type 0
-  Levels v d (end p) = 0 < d
-  Levels v d (chance f) = (0 < d) × LevelsAll v (pred d) f
-  Levels v d (decide j k f) = (0 < d) × (v j k ≡ pred d) × LevelsAll v (pred d) f
-
-  pub LevelsAll : (ℕ → Key → ℕ) → ℕ → Trees → Type 0
-  LevelsAll v d nil = Unit {0}
-  LevelsAll v d (cons t f) = Levels v d t × LevelsAll v d f

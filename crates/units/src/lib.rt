@@ -1,4 +1,4 @@
 // Whole units over a tree in work memory.
 pub mod shares;
-mod sums;
-mod worths;
+pub mod sums;
+pub mod worths;

@@ -99,3 +99,11 @@ fn shared(
     }
     sums
 }
+
+// The lifted worths of a whole tree, from u units at its root.
+pub fn lifted_worths(w: &[u64], table: &[u8], u: u64, d: usize) -> Sums
+    requires { ⌜ (u < 144115188075855872) × (1 ≤ d) × (d ≤ 64) ⌝ }
+    ensures { λ r. ⌜ Earned (now (w .entry)) (now (table .entry)) d 0 u 32 (r .of) ⌝ }
+{
+    node(w, table, 0, u, d, 32)
+}

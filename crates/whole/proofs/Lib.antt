@@ -1,0 +1,6 @@
+-- Laws of the games' trees and units.
+pub mod Entries
+pub mod Facts
+pub mod Powers
+pub mod Passed
+pub mod Lowering

@@ -1,0 +1,69 @@
+-- What a call knows once its checks have passed. Assumes nothing.
+use mathlib.Core.Path.{_≡_, refl, sym, _∙_}
+use mathlib.Core.Bool.{Bool, true, false, not}
+use mathlib.Core.List.{List, [], _∷_, _++_}
+use Prim.Native.Nat.{ℕ, _*_, _≤_}
+use native.Mathlib.Omega.{arith}
+use lib.Dec.{eqb, ltb}
+use lib.ListN.{length}
+use borrow.Author.Tests.{ltb-false, eqb-true, eqb-false, not-false}
+use Rattle.refusals.specs.Refusals.{_refuses_, first}
+use Rattle.finite.specs.Finite.{or}
+use Rattle.finite.proofs.Tests.{or-false-left, or-false-right}
+use Rattle.game.specs.Sets.{size, setActions, entries}
+use Rattle.game.specs.Table.{Table, addUp}
+use Rattle.tables.specs.declared.Game.{Game}
+use Rattle.tables.specs.Games.{treeOf, mostParts}
+use Rattle.tables.specs.Checks.{seats-out, tree-checks, parts-checks, table-checks}
+use Rattle.tables.specs.Facts.{nodesOf}
+use Rattle.tables.proofs.Facts.{nodes-are}
+use Rattle.whole.specs.Facts.{Known}
+use Rattle.whole.specs.Accepted.{Accepted}
+
+module _ (g : Game) (words : ℕ) (e : first (tree-checks g words) ≡ 0) where
+  four : (a b c d : Bool) → first ((a refuses 1) ∷ (b refuses 2) ∷ (c refuses 3) ∷ (d refuses 4) ∷ []) ≡ 0 → (a ≡ false) × (b ≡ false) × (c ≡ false) × (d ≡ false)
+  four true b c d e = absurd (omega arith)
+  four false true c d e = absurd (omega arith)
+  four false false true d e = absurd (omega arith)
+  four false false false true e = absurd (omega arith)
+  four false false false false e = (refl, refl, refl, refl)
+
+  all-four : (ltb 1 (g .number) ≡ false) × (seats-out g ≡ false) × (ltb 4000000 (size (treeOf g)) ≡ false) × (ltb words (12 * size (treeOf g)) ≡ false)
+  unfolding tree-checks
+  all-four = four (ltb 1 (g .number)) (seats-out g) (ltb 4000000 (size (treeOf g))) (ltb words (12 * size (treeOf g))) e
+
+  pub game-known : Known g
+  game-known = record {
+    known = ltb-false 1 (g .number) (all-four .0);
+    seats = all-four .1;
+    small = rw (← nodes-are g (all-four .1)) (ltb-false 4000000 (size (treeOf g)) (all-four .2));
+  }
+
+  -- there is memory for its tree
+  pub enough-words : 12 * size (treeOf g) ≤ words
+  enough-words = ltb-false words (12 * size (treeOf g)) (all-four .3)
+
+  pub enough-nodes : 12 * nodesOf g ≤ words
+  enough-nodes = rw (← nodes-are g (all-four .1)) enough-words
+
+module _ (g : Game) (D : ℕ) (table : Table) (e : first (parts-checks g D ++ table-checks g D table) ≡ 0) where
+  three : (a b c : Bool) → first ((a refuses 6) ∷ (b refuses 7) ∷ (c refuses 8) ∷ []) ≡ 0 → (a ≡ false) × (b ≡ false) × (c ≡ false)
+  three true b c e = absurd (omega arith)
+  three false true c e = absurd (omega arith)
+  three false false true e = absurd (omega arith)
+  three false false false e = (refl, refl, refl)
+
+  all-three : (or (eqb D 0) (ltb (mostParts g) D) ≡ false) × (not (eqb (length table) (entries (treeOf g))) ≡ false) × (not (addUp D (setActions (treeOf g)) table) ≡ false)
+  unfolding table-checks
+  all-three = three (or (eqb D 0) (ltb (mostParts g) D)) (not (eqb (length table) (entries (treeOf g)))) (not (addUp D (setActions (treeOf g)) table)) e
+
+  pub table-accepted : Known g → Accepted g D table
+  table-accepted k = record {
+    game = k;
+    least = one-at-least (eqb-false D 0 (or-false-left (eqb D 0) (ltb (mostParts g) D) (all-three .0)));
+    most = ltb-false (mostParts g) D (or-false-right (eqb D 0) (ltb (mostParts g) D) (all-three .0));
+    valid = (eqb-true (length table) (entries (treeOf g)) (not-false (eqb (length table) (entries (treeOf g))) (all-three .1)), not-false (addUp D (setActions (treeOf g)) table) (all-three .2));
+  }
+    where
+      one-at-least : (D ≡ 0 → ⊥) → 1 ≤ D
+      one-at-least f = omega arith

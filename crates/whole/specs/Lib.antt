@@ -1,0 +1,5 @@
+-- Whole units by game number (document 01, "Whole units"): the worths of a table, and what a call leaves of work memory. Facts and Accepted serve private contracts.
+pub mod Worths
+pub mod Memory
+pub mod Facts
+pub mod Accepted

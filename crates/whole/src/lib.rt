@@ -1,0 +1,44 @@
+// Whole units by game number: the units of a game's root, and what a table is worth.
+pub mod worths;
+
+use tables::Game;
+ghost use mathlib.Core.Path.{_≡_};
+ghost use Prim.Native.Nat.{_*_, _^_, _≤_, _<_};
+ghost use Rattle.tables.specs.Games.{mostParts};
+ghost use Rattle.tables.specs.Facts.{rootUnits};
+ghost use Rattle.whole.specs.Facts.{Known};
+
+// C of the units: (n + 1)! for Kuhn with 2 to 6 seats, from place 2, and Leduc's.
+const KUHN_C: [u64; 7] = [0, 0, 6, 24, 120, 720, 5040];
+
+const LEDUC_C: u64 = 120;
+
+// m of the units: the most actions in a hand of Leduc.
+const LEDUC_M: usize = 8;
+
+// c × d^m, which is below 2^57.
+fn times_power(c: u64, d: usize, m: usize) -> u64
+    requires { ⌜ (1 ≤ d) × (c * d ^ m < 144115188075855872) ⌝ }
+    ensures { λ r. ⌜ r ≡ c * d ^ m ⌝ }
+{
+    let parts = d as u64;
+    let mut product = c;
+    let mut i = 0;
+    while i < m {
+        product = product * parts;
+        i += 1;
+    }
+    product
+}
+
+// The units of the root of a game with d parts in each set: C × D^m.
+pub fn root_units(g: Game, d: usize) -> u64
+    requires { ⌜ Known g × (1 ≤ d) × (d ≤ mostParts g) ⌝ }
+    ensures { λ r. ⌜ (r ≡ rootUnits g d) × (r < 144115188075855872) ⌝ }
+{
+    let seats = g.seats;
+    if g.number == Game::KUHN {
+        return times_power(KUHN_C[seats], d, 2 * seats - 1);
+    }
+    times_power(LEDUC_C, d, LEDUC_M)
+}

@@ -1,0 +1,50 @@
+// What a table is worth to each seat, from the game's tree in work memory.
+use crate::root_units;
+use tables::Game;
+use units::sums::Sums;
+use units::worths::lifted_worths;
+ghost use mathlib.Core.Path.{_≡_};
+ghost use Prim.Native.Nat.{ℕ, _*_, _≤_, _<_};
+ghost use lib.IntN.{pos, _-ℤ_};
+ghost use lib.ListN.{getD};
+ghost use Rattle.stored.specs.Stored.{Stored};
+ghost use Rattle.whole.specs.Accepted.{Accepted};
+ghost use Rattle.whole.specs.Worths.{worthsOf, loweredOf};
+
+// A sum of u units lifted by 64, as a worth.
+fn lowered(sum: u64, u: u64) -> i64
+    requires { ⌜ (u < 144115188075855872) × (sum ≤ 124 * u) ⌝ }
+    ensures { λ r. ⌜ r ≡ pos sum -ℤ pos (64 * u) ⌝ }
+{
+    let lift = 64 * u;
+    if sum < lift {
+        return -((lift - sum) as i64);
+    }
+    (sum - lift) as i64
+}
+
+// The same of each of n seats; 0 past them.
+fn lowered_all(sums: Sums, u: u64, n: usize) -> [i64; 6]
+    requires { ⌜ (n ≤ 6) × (u < 144115188075855872) × ((i : ℕ) → i < n → getD (sums .of) i 0 ≤ 124 * u) ⌝ }
+    ensures { λ r. ⌜ r ≡ loweredOf (sums .of) u n ⌝ }
+{
+    let of = sums.of;
+    let mut out = [0i64; 6];
+    let mut seat = 0;
+    while seat < n {
+        let worth = lowered(of[seat], u);
+        out[seat] = worth;
+        seat += 1;
+    }
+    out
+}
+
+// The worths of a table that is not refused, where the game's tree is stored.
+pub fn table_worths(g: Game, w: &[u64], d: usize, table: &[u8]) -> [i64; 6]
+    requires { ⌜ Stored g (now w) × Accepted g d (now table) ⌝ }
+    ensures { λ r. ⌜ r ≡ worthsOf g d (now (table .entry)) ⌝ }
+{
+    let u = root_units(g, d);
+    let sums = lifted_worths(w, table, u, d);
+    lowered_all(sums, u, g.seats)
+}

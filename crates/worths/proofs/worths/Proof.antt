@@ -1,0 +1,55 @@
+-- The checks, then the worths from the tree that is stored in the words for it. Assumes nothing.
+use mathlib.Core.Path.{_≡_, refl, sym, _∙_}
+use Prim.Native.Nat.{_*_}
+use native.Mathlib.Omega.{arith}
+use lib.ListN.{length}
+use lib.Seq.{length-take-le}
+use Rattle.tables.specs.Games.{gameOf}
+use Rattle.worths.proofs.Outcome.{accepted-game, accepted-table, nodes-room, part-room, not-valued, valued, nothing-left, rest-left}
+use borrow.Author.Needs.{needs}
+use Rattle.worths.proofs.worths.Statement.{statement}
+use Rattle.worths.proofs.worths.Tie as tie
+
+refusal-of-requires : tie.Need-refusal-of-requires
+refusal-of-requires c κs = search needs
+
+returns : tie.Need-returns
+returns c = (not-valued _ _ (gameOf (c .before .before .before .before .args .number) (c .before .before .before .before .args .seats)) (c .before .before .before .before .args .d) (c .before .before .before .before .args .table .now) (c .before .refusal-of .ensures) (c .if1 .taken), nothing-left _ (gameOf (c .before .before .before .before .args .number) (c .before .before .before .before .args .seats)) (c .before .before .before .before .args .work .now) (c .if1 .taken))
+
+nodes-requires : tie.Need-nodes-requires
+nodes-requires c κs = accepted-game (gameOf (c .before .before .before .before .args .number) (c .before .before .before .before .args .seats)) (length (c .before .before .before .before .args .work .now)) (c .before .before .before .before .args .d) (c .before .before .before .before .args .table .now) (sym (c .before .refusal-of .ensures) ∙ c .if1 .left) .seats
+
+mul-words : tie.Need-mul-words
+mul-words c = omega (arith, nodes-room (gameOf (c .before .before .before .before .before .args .number) (c .before .before .before .before .before .args .seats)) (length (c .before .before .before .before .before .args .work .now)) (c .before .before .before .before .before .args .d) (c .before .before .before .before .before .args .table .now) (sym (c .before .before .refusal-of .ensures) ∙ c .before .if1 .left) _ (c .nodes .ensures))
+
+slice-relend-prefix-evaluate : tie.Need-slice-relend-prefix-evaluate
+slice-relend-prefix-evaluate c = nodes-room (gameOf (c .before .before .before .before .before .args .number) (c .before .before .before .before .before .args .seats)) (length (c .before .before .before .before .before .args .work .now)) (c .before .before .before .before .before .args .d) (c .before .before .before .before .before .args .table .now) (sym (c .before .before .refusal-of .ensures) ∙ c .before .if1 .left) _ (c .nodes .ensures)
+
+slice-aggregate-evaluate : tie.Need-slice-aggregate-evaluate
+slice-aggregate-evaluate c = sym (length-take-le (12 * c .before .nodes .result) (c .before .before .before .before .before .before .args .work .now) (nodes-room (gameOf (c .before .before .before .before .before .before .args .number) (c .before .before .before .before .before .before .args .seats)) (length (c .before .before .before .before .before .before .args .work .now)) (c .before .before .before .before .before .before .args .d) (c .before .before .before .before .before .before .args .table .now) (sym (c .before .before .before .refusal-of .ensures) ∙ c .before .before .if1 .left) _ (c .before .nodes .ensures)))
+
+evaluate-requires : tie.Need-evaluate-requires
+evaluate-requires c κs = (accepted-table (gameOf (c .before .before .before .before .before .before .args .number) (c .before .before .before .before .before .before .args .seats)) (length (c .before .before .before .before .before .before .args .work .now)) (c .before .before .before .before .before .before .args .d) (c .before .before .before .before .before .before .args .table .now) (sym (c .before .before .before .refusal-of .ensures) ∙ c .before .before .if1 .left), part-room (gameOf (c .before .before .before .before .before .before .args .number) (c .before .before .before .before .before .before .args .seats)) (length (c .before .before .before .before .before .before .args .work .now)) (c .before .before .before .before .before .before .args .d) (c .before .before .before .before .before .before .args .table .now) (sym (c .before .before .before .refusal-of .ensures) ∙ c .before .before .if1 .left) _ (c .before .before .before .before .before .before .args .work .now) (c .before .nodes .ensures) refl)
+
+same-length : tie.Need-same-length
+same-length c = search needs
+
+returns-2 : tie.Need-returns-2
+returns-2 c = (
+  valued _ _ (gameOf (c .before .before .before .before .before .before .before .before .before .args .number) (c .before .before .before .before .before .before .before .before .before .args .seats)) (c .before .before .before .before .before .before .before .before .before .args .d) (c .before .before .before .before .before .before .before .before .before .args .table .now) (c .before .before .before .before .before .before .refusal-of .ensures) _ (c .before .before .before .before .before .if1 .left) (c .before .before .evaluate .ensures),
+  rest-left _ _ (gameOf (c .before .before .before .before .before .before .before .before .before .args .number) (c .before .before .before .before .before .before .before .before .before .args .seats)) (c .before .before .before .before .before .before .before .before .before .args .work .now) (c .before .before .evaluate .last .1 .0) (c .before .before .before .before .before .if1 .left) (accepted-game (gameOf (c .before .before .before .before .before .before .before .before .before .args .number) (c .before .before .before .before .before .before .before .before .before .args .seats)) (length (c .before .before .before .before .before .before .before .before .before .args .work .now)) (c .before .before .before .before .before .before .before .before .before .args .d) (c .before .before .before .before .before .before .before .before .before .args .table .now) (sym (c .before .before .before .before .before .before .refusal-of .ensures) ∙ c .before .before .before .before .before .if1 .left) .seats) (c .before .before .before .before .nodes .ensures) (nodes-room (gameOf (c .before .before .before .before .before .before .before .before .before .args .number) (c .before .before .before .before .before .before .before .before .before .args .seats)) (length (c .before .before .before .before .before .before .before .before .before .args .work .now)) (c .before .before .before .before .before .before .before .before .before .args .d) (c .before .before .before .before .before .before .before .before .before .args .table .now) (sym (c .before .before .before .before .before .before .refusal-of .ensures) ∙ c .before .before .before .before .before .if1 .left) _ (c .before .before .before .before .nodes .ensures)) (c .before .before .evaluate .kept .1 .0),
+)
+
+pub worths-spec : {M : Type 1} → statement M
+worths-spec =
+    tie.close
+    (tie.spec
+    refusal-of-requires
+    returns
+    nodes-requires
+    mul-words
+    slice-relend-prefix-evaluate
+    slice-aggregate-evaluate
+    evaluate-requires
+    same-length
+    returns-2)

@@ -1,0 +1,62 @@
+// The worths of a table: what it is worth to each seat, in whole units.
+use tables::Game;
+ghost use mathlib.Core.Path.{_≡_};
+ghost use Prim.Native.Nat.{_*_, _≤_};
+ghost use lib.ListN.{length};
+ghost use Rattle.tables.specs.Games.{gameOf};
+ghost use Rattle.tables.specs.Facts.{nodesOf};
+ghost use Rattle.whole.specs.Worths.{worthsOf};
+ghost use Rattle.whole.specs.Memory.{Left};
+ghost use Rattle.whole.specs.Accepted.{Accepted};
+ghost use Rattle.worths.specs.Calls.{worths-refusal, answer};
+
+// A call's refusal number, 0 if it was accepted, and the worth of each of count seats, 0 past them; every number but the first is 0 if it was refused. C has it as it is.
+#[repr(C)]
+pub struct WorthsAnswer {
+    pub refusal: u64,
+    pub count: usize,
+    pub worths: [i64; 6],
+}
+
+// What refuses a table with d parts in each set, with so many words of work memory: 1 to 4, then 6 to 8.
+fn refusal_of(g: Game, words: usize, d: usize, table: &[u8]) -> u64
+    ensures { λ r. ⌜ r ≡ worths-refusal g words d (now (table .entry)) ⌝ }
+{
+    let tree = tables::tree_refusal(g, words);
+    if tree != refusals::ACCEPTED {
+        return tree;
+    }
+    tables::table_refusal(g, d, table)
+}
+
+// The worths of a table that is not refused, with the game's tree stored in the words for it.
+fn evaluate(g: Game, words: &mut [u64], d: usize, table: &[u8]) -> [i64; 6]
+    requires { ⌜ Accepted g d (now table) × (12 * nodesOf g ≤ length (now words)) ⌝ }
+    ensures { λ r. ⌜ r ≡ worthsOf g d (now (table .entry)) ⌝ }
+{
+    stored::store(g, words);
+    whole::worths::table_worths(g, words, d, table)
+}
+
+// What a table with d parts in each set is worth to each seat, in whole units.
+pub fn worths(number: usize, seats: usize, work: &mut [u64], d: usize, table: &[u8]) -> WorthsAnswer
+    ensures answer { λ r. ⌜ r ≡ answer (worths-refusal (gameOf number seats) (length (now (work .entry))) d (now (table .entry))) (gameOf number seats) d (now (table .entry)) ⌝ }
+    ensures memory { λ r. ⌜ Left (r .refusal) (gameOf number seats) (now (work .entry)) (now (work .exit)) ⌝ }
+{
+    let g = Game { number, seats };
+    let refusal = refusal_of(g, work.len(), d, table);
+    if refusal != refusals::ACCEPTED {
+        return WorthsAnswer {
+            refusal,
+            count: 0,
+            worths: [0i64; 6],
+        };
+    }
+    let words = Game::WORDS * g.nodes();
+    let worths = evaluate(g, &mut work[..words], d, table);
+    WorthsAnswer {
+        refusal,
+        count: seats,
+        worths,
+    }
+}
