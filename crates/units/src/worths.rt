@@ -13,7 +13,7 @@ use arena::words::kind;
 use arena::words::next;
 use arena::words::set;
 use arena::words::word;
-ghost use Prim.Native.Nat.{_≤_};
+ghost use Prim.Native.Nat.{_≤_, _<_};
 ghost use lib.ListN.{length};
 ghost use Rattle.units.specs.Earned.{Earned, EarnedAll, EarnedKids, EarnedShares, Walkable};
 

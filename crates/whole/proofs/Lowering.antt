@@ -80,7 +80,7 @@ lifted-few (negsuc a) l u b e h = at (tested (ltb u (suc a)))
     at (holds t) = let q : pos l ≡ negsuc (suc a - suc u) = e ∙ rw t refl in absurd (pos-ne-negsuc l (suc a - suc u) q)
     at (fails t) = let q : pos l ≡ pos (u - suc a) = e ∙ rw t refl in let r : l ≡ u - suc a = ap natAbs q in omega arith
 
-back : (z : ℤ) (l u : ℕ) → pos l ≡ z +ℤ pos u → pos l -ℤ pos u ≡ z
+pub back : (z : ℤ) (l u : ℕ) → pos l ≡ z +ℤ pos u → pos l -ℤ pos u ≡ z
 back z l u e = ap (λ x. x -ℤ pos u) e ∙ +ℤ-negℤ-cancel z (pos u)
 
 -- ---- the worths of a table that is not refused

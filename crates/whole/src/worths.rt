@@ -12,7 +12,7 @@ ghost use Rattle.whole.specs.Accepted.{Accepted};
 ghost use Rattle.whole.specs.Worths.{worthsOf, loweredOf};
 
 // A sum of u units lifted by 64, as a worth.
-fn lowered(sum: u64, u: u64) -> i64
+pub fn lowered(sum: u64, u: u64) -> i64
     requires { ⌜ (u < 144115188075855872) × (sum ≤ 124 * u) ⌝ }
     ensures { λ r. ⌜ r ≡ pos sum -ℤ pos (64 * u) ⌝ }
 {

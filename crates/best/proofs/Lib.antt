@@ -1,0 +1,3 @@
+-- Lemmas on the best value over a game's stored tree.
+pub mod Places
+pub mod Staging

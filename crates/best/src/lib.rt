@@ -1,0 +1,68 @@
+// The best value of a seat against a table, and the reply behind it, where the game's tree is stored. Behind the tree's index stand the units of each node, and
+// behind these the choices.
+use arena::index::clear;
+use reply::values::value;
+use reply_table::write_reply;
+use stock::collect;
+use tables::Game;
+use whole::root_units;
+use whole::worths::lowered;
+ghost use mathlib.Core.Path.{_≡_};
+ghost use Prim.Native.Nat.{_*_, _≤_, _<_};
+ghost use lib.ListN.{length};
+ghost use lib.Seq.{sets};
+ghost use Rattle.game.specs.Table.{tableBest, replyTable};
+ghost use Rattle.tables.specs.Games.{treeOf};
+ghost use Rattle.tables.specs.Facts.{nodesOf, rootUnits};
+ghost use Rattle.stored.specs.Stored.{headsOf, Stored};
+ghost use Rattle.whole.specs.Facts.{Known};
+ghost use Rattle.whole.specs.Accepted.{Accepted};
+ghost use Rattle.best.specs.Staged.{Staged};
+
+// Where the first members of the sets stand: for Kuhn with 2 to 6 seats, from place 2, and Leduc.
+const KUHN_HEADS: [usize; 7] = [0, 0, 82, 745, 8526, 119509, 1958356];
+
+const LEDUC_HEADS: usize = 19621;
+
+// The depth of a walk: no path of a game has more nodes.
+const DEPTH: usize = 32;
+
+// Where the first members of a game's sets stand.
+fn heads_of(g: Game) -> usize
+    requires { ⌜ Known g ⌝ }
+    ensures { λ r. ⌜ r ≡ headsOf g ⌝ }
+{
+    let seats = g.seats;
+    if g.number == Game::KUHN {
+        return KUHN_HEADS[seats];
+    }
+    LEDUC_HEADS
+}
+
+// The best value of a seat against a table that is not refused.
+pub fn best_value(g: Game, w: &mut [u64], seat: usize, d: usize, table: &[u8]) -> i64
+    requires { ⌜ Stored g (now w) × Accepted g d (now table) × (seat < g .seats) × (12 * nodesOf g ≤ length (now w)) ⌝ }
+    ensures { λ r. ⌜ (r ≡ tableBest (treeOf g) d (rootUnits g d) (now (table .entry)) seat) × Staged g d seat (now (table .entry)) (now (w .exit)) × Stored g (now (w .exit)) ⌝ }
+{
+    let entries = g.entries();
+    let heads = heads_of(g);
+    let units = heads + entries;
+    let kept = units + g.nodes();
+    let u = root_units(g, d);
+    collect(w, table, 0, u, seat, d, units, DEPTH);
+    clear(w, kept, kept + entries);
+    let sum = value(w, 0, seat, DEPTH, heads, units, kept);
+    lowered(sum, u)
+}
+
+// The seat's reply to the table, from its choices.
+pub fn best_table(g: Game, w: &mut [u64], seat: usize, d: usize, table: &[u8], out: &mut [u8])
+    requires { ⌜ Staged g d seat (now table) (now w) × Accepted g d (now table) × (seat < g .seats) ⌝ }
+    ensures { λ _. ⌜ now (out .exit) ≡ sets (now (out .entry)) 0 (replyTable (treeOf g) d (rootUnits g d) (now (table .entry)) seat) ⌝ }
+{
+    let entries = g.entries();
+    let heads = heads_of(g);
+    let units = heads + entries;
+    let kept = units + g.nodes();
+    write_reply(w, table, out, g.sets(), seat, d, heads, units, kept);
+}
