@@ -4,3 +4,4 @@ pub mod Facts
 pub mod Powers
 pub mod Passed
 pub mod Lowering
+pub mod Leaving

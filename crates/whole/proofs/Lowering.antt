@@ -2,20 +2,16 @@
 use mathlib.Core.Path.{_≡_, refl, sym, ap, ap₂, _∙_, subst}
 use mathlib.Core.Bool.{Bool, true, false, cond}
 use mathlib.Core.List.{List}
-use Prim.Native.Nat.{ℕ, zero, suc, _+_, _-_, _*_, _%_, _^_, _≤_, _<_}
+use Prim.Native.Nat.{ℕ, zero, suc, _+_, _-_, _*_, _^_, _≤_, _<_}
 use native.Mathlib.Nat as NatL
 use native.Mathlib.Omega.{arith}
 use lib.Dec.{leb, ltb}
 use lib.IntN.{ℤ, pos, negsuc, negℤ, _+ℤ_, _-ℤ_, natAbs, pos-ne-negsuc, +ℤ-negℤ-cancel}
 use lib.ListN.{getD, set, replicate}
 use borrow.Author.Tests.{lt-ltb, le-ltb, ltb-true}
-use mir.Syntax.{w64}
-use mir.Val.{Fits, SFits, toZ, ofZ}
-use Rattle.finite.specs.Finite.{places}
-use Rattle.finite.proofs.Amounts.{amount, debt-fits, debt}
 use Rattle.finite.proofs.Lists.{filled-none, filled-more, places-same}
 use Rattle.finite.proofs.Tests.{Tested, holds, fails, tested}
-use Rattle.game.specs.Tree.{Tree, end, chance, decide, Trees, nil, cons, all, units, worth, Pays, PaysAll}
+use Rattle.game.specs.Tree.{Tree, end, chance, decide, Trees, nil, cons, Pays, PaysAll}
 use Rattle.game.specs.Table.{Table, strategyOf, tableWorth}
 use Rattle.game.proofs.TableTheorem.{table-units-add-up, table-bounds}
 use Rattle.tables.specs.declared.Game.{Game}

@@ -34,7 +34,7 @@ pub record Shaped (g : Game) : Type 0 where
 abbrev pub Games-shaped : Type 0
 Games-shaped = (g : Game) → Known g → Shaped g
 
--- the root's units, at most 2^57; a worth and a best value fit a signed number of 64 bits, NashConv an unsigned one
+-- the root has fewer than 2^57 units; a worth and a best value fit a signed number of 64 bits, NashConv an unsigned one
 pub record Fits (g : Game) (D : ℕ) : Type 0 where
   pub units : rootUnits g D < 144115188075855872
   pub worth : rootUnits g D * largestPayoff g < 2 ^ 63

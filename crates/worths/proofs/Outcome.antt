@@ -1,27 +1,22 @@
--- What a call for the worths knows, answers and leaves, refused or accepted. Assumes nothing.
-use mathlib.Core.Path.{_≡_, refl, sym, ap, ap₂, _∙_}
-use mathlib.Core.Bool.{false}
+-- What a call for the worths knows and answers, refused or accepted. Assumes nothing.
+use mathlib.Core.Path.{_≡_, sym, ap, ap₂, _∙_}
 use mathlib.Core.List.{List, _++_}
 use Prim.Native.Nat.{ℕ, zero, suc, _*_, _≤_}
 use native.Mathlib.Omega.{arith}
 use lib.Dec.{eqb}
 use lib.IntN.{ℤ, pos}
-use lib.ListN.{length, take, drop, replicate, length-append, length-drop}
-use lib.Seq.{drop-at, length-take-le}
+use lib.ListN.{length, take, replicate}
+use lib.Seq.{length-take-le}
 use borrow.Author.Tests.{eqb-true, eqb-false}
 use Rattle.refusals.specs.Refusals.{first}
 use Rattle.finite.proofs.Tests.{Tested, holds, fails, tested}
-use Rattle.game.specs.Sets.{size}
 use Rattle.game.specs.Table.{Table}
 use Rattle.tables.specs.declared.Game.{Game}
-use Rattle.tables.specs.Games.{treeOf}
-use Rattle.tables.specs.Checks.{seats-out, tree-checks, parts-checks, table-checks}
+use Rattle.tables.specs.Checks.{tree-checks, parts-checks, table-checks}
 use Rattle.tables.specs.Facts.{nodesOf}
-use Rattle.tables.proofs.Facts.{nodes-are}
 use Rattle.tables.proofs.Order.{first-refused, tree-passed}
 use Rattle.whole.specs.Facts.{Known}
 use Rattle.whole.specs.Worths.{worthsOf}
-use Rattle.whole.specs.Memory.{Left}
 use Rattle.whole.specs.Accepted.{Accepted}
 use Rattle.whole.proofs.Passed.{game-known, enough-nodes, table-accepted}
 use Rattle.worths.specs.Calls.{worths-refusal, answer}
@@ -62,18 +57,3 @@ module _ (r q : ℕ) (g : Game) (D : ℕ) (table : Table) (e : r ≡ q) where
       at : (q : ℕ) → r ≡ q → record { refusal = r; count = g .seats; worths = xs } ≡ answer q g D table
       at zero v = ap₂ (λ x y. record { refusal = x; count = g .seats; worths = y }) z w
       at (suc q) v = absurd (omega arith)
-
--- ---- work memory
-pub nothing-left : (r : ℕ) (g : Game) (work : List ℕ) → (r ≡ 0 → ⊥) → Left r g work work
-nothing-left zero g work f = absurd (f refl)
-nothing-left (suc r) g work f = refl
-
-pub rest-left : (r n : ℕ) (g : Game) (work part : List ℕ) → r ≡ 0 → seats-out g ≡ false → n ≡ nodesOf g → 12 * n ≤ length work → length part ≡ length (take (12 * n) work)
-    → Left r g work (part ++ drop (12 * n) work)
-rest-left zero n g work part z o q l k =
-    let s : 12 * n ≡ 12 * size (treeOf g) = ap (λ x. 12 * x) (q ∙ sym (nodes-are g o)) in
-    let p : length part ≡ 12 * n = k ∙ length-take-le (12 * n) work l in (
-      omega (arith, length-append part (drop (12 * n) work), length-drop (12 * n) work),
-      ap (λ x. drop x (part ++ drop (12 * n) work)) (sym s) ∙ drop-at part (drop (12 * n) work) (12 * n) p ∙ ap (λ x. drop x work) s,
-    )
-rest-left (suc r) n g work part z o q l k = absurd (omega arith)

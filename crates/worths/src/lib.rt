@@ -38,7 +38,7 @@ fn evaluate(g: Game, words: &mut [u64], d: usize, table: &[u8]) -> [i64; 6]
     whole::worths::table_worths(g, words, d, table)
 }
 
-// What a table with d parts in each set is worth to each seat, in whole units.
+// What a table with d parts in each set is worth to each seat, in whole units. The tree is built at the front of the work memory, which has 12 words for each node.
 pub fn worths(number: usize, seats: usize, work: &mut [u64], d: usize, table: &[u8]) -> WorthsAnswer
     ensures answer { λ r. ⌜ r ≡ answer (worths-refusal (gameOf number seats) (length (now (work .entry))) d (now (table .entry))) (gameOf number seats) d (now (table .entry)) ⌝ }
     ensures memory { λ r. ⌜ Left (r .refusal) (gameOf number seats) (now (work .entry)) (now (work .exit)) ⌝ }

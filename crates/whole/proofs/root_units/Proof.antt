@@ -1,8 +1,6 @@
 -- C × D^m by game number. Assumes nothing.
-use mathlib.Core.Path.{sym, _∙_}
-use Prim.Native.Nat.{_<_}
+use mathlib.Core.Path.{_∙_}
 use native.Mathlib.Omega.{arith}
-use Rattle.whole.specs.Facts.{Known}
 use Rattle.whole.proofs.Facts.{units-fit, kuhn-two, kuhn-six, kuhn-root, leduc-root}
 use Rattle.whole.proofs.root_units.Statement.{statement}
 use Rattle.whole.proofs.root_units.Tie as tie

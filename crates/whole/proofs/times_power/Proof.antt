@@ -1,5 +1,5 @@
 -- c × d^i after i turns. Assumes nothing.
-use mathlib.Core.Path.{_≡_, ap, _∙_}
+use mathlib.Core.Path.{_≡_}
 use Prim.Native.Nat.{_*_, _-_, _^_, _≤_}
 use native.Mathlib.Omega.{arith}
 use Rattle.whole.proofs.Powers.{no-power, one-power-more, partial-fits, all-powers}

@@ -1,11 +1,12 @@
 -- The checks, then the worths from the tree that is stored in the words for it. Assumes nothing.
-use mathlib.Core.Path.{_≡_, refl, sym, _∙_}
+use mathlib.Core.Path.{refl, sym, _∙_}
 use Prim.Native.Nat.{_*_}
 use native.Mathlib.Omega.{arith}
 use lib.ListN.{length}
 use lib.Seq.{length-take-le}
 use Rattle.tables.specs.Games.{gameOf}
-use Rattle.worths.proofs.Outcome.{accepted-game, accepted-table, nodes-room, part-room, not-valued, valued, nothing-left, rest-left}
+use Rattle.whole.proofs.Leaving.{all-left, rest-left}
+use Rattle.worths.proofs.Outcome.{accepted-game, accepted-table, nodes-room, part-room, not-valued, valued}
 use borrow.Author.Needs.{needs}
 use Rattle.worths.proofs.worths.Statement.{statement}
 use Rattle.worths.proofs.worths.Tie as tie
@@ -14,7 +15,7 @@ refusal-of-requires : tie.Need-refusal-of-requires
 refusal-of-requires c κs = search needs
 
 returns : tie.Need-returns
-returns c = (not-valued _ _ (gameOf (c .before .before .before .before .args .number) (c .before .before .before .before .args .seats)) (c .before .before .before .before .args .d) (c .before .before .before .before .args .table .now) (c .before .refusal-of .ensures) (c .if1 .taken), nothing-left _ (gameOf (c .before .before .before .before .args .number) (c .before .before .before .before .args .seats)) (c .before .before .before .before .args .work .now) (c .if1 .taken))
+returns c = (not-valued _ _ (gameOf (c .before .before .before .before .args .number) (c .before .before .before .before .args .seats)) (c .before .before .before .before .args .d) (c .before .before .before .before .args .table .now) (c .before .refusal-of .ensures) (c .if1 .taken), all-left _ (gameOf (c .before .before .before .before .args .number) (c .before .before .before .before .args .seats)) (c .before .before .before .before .args .work .now) (c .if1 .taken))
 
 nodes-requires : tie.Need-nodes-requires
 nodes-requires c κs = accepted-game (gameOf (c .before .before .before .before .args .number) (c .before .before .before .before .args .seats)) (length (c .before .before .before .before .args .work .now)) (c .before .before .before .before .args .d) (c .before .before .before .before .args .table .now) (sym (c .before .refusal-of .ensures) ∙ c .if1 .left) .seats
