@@ -20,7 +20,7 @@ use Rattle.game.proofs.TableTheorem.{table-valid}
 use Rattle.tables.specs.declared.Game.{Game}
 use Rattle.tables.specs.Games.{isKuhn, treeOf, C, m, largestPayoff}
 use Rattle.tables.specs.Facts.{nodesOf, entriesOf, setsOf, rootUnits}
-use Rattle.tables.proofs.Facts.{games-fit, nodes-are, entries-are, counted-games}
+use Rattle.tables.proofs.Facts.{reply-best, games-fit, nodes-are, entries-are, counted-games}
 use Rattle.arena.specs.Words.{CHANCE, kindOf}
 use Rattle.arena.specs.Held.{Says, Held}
 use Rattle.arena.specs.Index.{firstOf, laterIn, Indexed, Cleared, Kept}
@@ -40,6 +40,7 @@ use Rattle.whole.specs.Facts as Whole
 use Rattle.whole.specs.Accepted.{Accepted}
 use Rattle.whole.proofs.Facts.{games-shaped, units-fit, games-readable}
 use Rattle.whole.proofs.Lowering.{pays-more, back}
+use Rattle.best.specs.Best.{Unbeaten, BestReply}
 use Rattle.best.specs.Staged.{unitsAt, keptAt, Staged}
 use Rattle.best.proofs.Places.{Roomy, roomy, Deals, root-deals}
 
@@ -229,6 +230,13 @@ module _ (g : Game) (D i : ℕ) (table : Table) (a : Accepted g D table) (l : i 
       pub is-stored : Stored g y
       is-stored = stored v w z x long o′ r′ y sum k′
 
+  -- ---- what is demanded of the reply
+  pub best-reply : BestReply g D i table (tableBest T D U table i) (replyTable T D U table i)
+  best-reply = let r = reply-best g D i table (a .game .known) (a .game .seats) l (a .least) (a .valid) in record { rival = r .0; worth = r .1; unbeaten = r .2 }
+
+  pub unbeaten : (b : ℤ) → b ≡ tableBest T D U table i → Unbeaten g D i table b
+  unbeaten b e = subst (Unbeaten g D i table) (sym e) (best-reply .unbeaten)
+
   -- ---- the reply
   module _ (y : List ℕ) (x : Staged g D i table y) where
     tabled : Tabled (x .scene) table D
@@ -251,5 +259,5 @@ module _ (g : Game) (D i : ℕ) (table : Table) (a : Accepted g D table) (l : i 
       pub is-reply : (w out written : List ℕ) → Laid table b i D h (h + E) (h + E + n) y w out written → written ≡ sets out 0 (replyTable T D U table i)
       is-reply w out written r =
           let r′ : Laid table b i D (headsOf g) (unitsAt g) (keptAt g) y w out written = subst (λ d. Laid table b i D (headsOf g) (unitsAt g) (unitsAt g + d) y w out written) t (subst (λ d. Laid table b i D (headsOf g) (headsOf g + d) (headsOf g + d + n) y w out written) p
-                  (subst (λ d. Laid table b i D d (d + E) (d + E + n) y w out written) q r)) in
+          (subst (λ d. Laid table b i D d (d + E) (d + E + n) y w out written) q r)) in
           r′ (x .scene) (x .noted) tabled (o ∙ sym (counted-games g (a .game .seats) .1) ∙ ap setCount (sym (x .tree))) .1 ∙ ap (sets out 0) reply-is

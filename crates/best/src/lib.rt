@@ -17,6 +17,7 @@ ghost use Rattle.tables.specs.Facts.{nodesOf, rootUnits};
 ghost use Rattle.stored.specs.Stored.{headsOf, Stored};
 ghost use Rattle.whole.specs.Facts.{Known};
 ghost use Rattle.whole.specs.Accepted.{Accepted};
+ghost use Rattle.best.specs.Best.{Unbeaten, BestReply};
 ghost use Rattle.best.specs.Staged.{Staged};
 
 // Where the first members of the sets stand: for Kuhn with 2 to 6 seats, from place 2, and Leduc.
@@ -42,7 +43,7 @@ fn heads_of(g: Game) -> usize
 // The best value of a seat against a table that is not refused.
 pub fn best_value(g: Game, w: &mut [u64], seat: usize, d: usize, table: &[u8]) -> i64
     requires { ⌜ Stored g (now w) × Accepted g d (now table) × (seat < g .seats) × (12 * nodesOf g ≤ length (now w)) ⌝ }
-    ensures { λ r. ⌜ (r ≡ tableBest (treeOf g) d (rootUnits g d) (now (table .entry)) seat) × Staged g d seat (now (table .entry)) (now (w .exit)) × Stored g (now (w .exit)) ⌝ }
+    ensures { λ r. ⌜ (r ≡ tableBest (treeOf g) d (rootUnits g d) (now (table .entry)) seat) × Unbeaten g d seat (now (table .entry)) r × Staged g d seat (now (table .entry)) (now (w .exit)) × Stored g (now (w .exit)) ⌝ }
 {
     let entries = g.entries();
     let heads = heads_of(g);
@@ -58,7 +59,8 @@ pub fn best_value(g: Game, w: &mut [u64], seat: usize, d: usize, table: &[u8]) -
 // The seat's reply to the table, from its choices.
 pub fn best_table(g: Game, w: &mut [u64], seat: usize, d: usize, table: &[u8], out: &mut [u8])
     requires { ⌜ Staged g d seat (now table) (now w) × Accepted g d (now table) × (seat < g .seats) ⌝ }
-    ensures { λ _. ⌜ now (out .exit) ≡ sets (now (out .entry)) 0 (replyTable (treeOf g) d (rootUnits g d) (now (table .entry)) seat) ⌝ }
+    ensures { λ _. ⌜ (now (out .exit) ≡ sets (now (out .entry)) 0 (replyTable (treeOf g) d (rootUnits g d) (now (table .entry)) seat))
+        × BestReply g d seat (now (table .entry)) (tableBest (treeOf g) d (rootUnits g d) (now (table .entry)) seat) (replyTable (treeOf g) d (rootUnits g d) (now (table .entry)) seat) ⌝ }
 {
     let entries = g.entries();
     let heads = heads_of(g);

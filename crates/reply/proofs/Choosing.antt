@@ -83,7 +83,7 @@ module _ (i d h b k e n : ℕ) (old : List ℕ) where
       let A : Noted S u × (x ≡ behindAction S key 0) = s S m key n g l w (omega (arith, few)) in
       let B : Noted S v × (y ≡ behindAction S key 1) = t S (A .0) key n g l w (omega (arith, few)) in
       let top : c ≡ S .choice key = q ∙ topmost-same (λ a. getD (x ∷ y ∷ []) a 0) (behindAction S key) 1 (same x y (behindAction S key) (A .1) (B .1)) ∙ ap (topmost (behindAction S key)) (sym two)
-              ∙ sym (known-of S (λ j y n. j ≡ i → S .choice y ≡ topmost (behindAction S y) (pred n)) (S .decided) i key n g refl) in
+      ∙ sym (known-of S (λ j y n. j ≡ i → S .choice y ≡ topmost (behindAction S y) (pred n)) (S .decided) i key n g refl) in
       (subst (Noted S) (ap (λ j. set v (k + j) (c + 1)) (sym l) ∙ sym o) (noted-more S v (B .0) key n g c top), top)
     where
       same : (x y : ℕ) (q : ℕ → ℕ) → x ≡ q 0 → y ≡ q 1 → (a : ℕ) → a ≤ 1 → getD (x ∷ y ∷ []) a 0 ≡ q a
@@ -100,7 +100,7 @@ module _ (i d h b k e n : ℕ) (old : List ℕ) where
       let B : Noted S v × (y ≡ behindAction S key 1) = t S (A .0) key n g l f (omega (arith, three)) in
       let C : Noted S w × (z ≡ behindAction S key 2) = r S (B .0) key n g l f (omega (arith, three)) in
       let top : c ≡ S .choice key = q ∙ topmost-same (λ a. getD (x ∷ y ∷ z ∷ []) a 0) (behindAction S key) 2 (same x y z (behindAction S key) (A .1) (B .1) (C .1)) ∙ ap (topmost (behindAction S key)) (sym two)
-              ∙ sym (known-of S (λ j y n. j ≡ i → S .choice y ≡ topmost (behindAction S y) (pred n)) (S .decided) i key n g refl) in
+      ∙ sym (known-of S (λ j y n. j ≡ i → S .choice y ≡ topmost (behindAction S y) (pred n)) (S .decided) i key n g refl) in
       (subst (Noted S) (ap (λ j. set w (k + j) (c + 1)) (sym l) ∙ sym o) (noted-more S w (C .0) key n g c top), top)
     where
       same : (x y z : ℕ) (q : ℕ → ℕ) → x ≡ q 0 → y ≡ q 1 → z ≡ q 2 → (a : ℕ) → a ≤ 2 → getD (x ∷ y ∷ z ∷ []) a 0 ≡ q a

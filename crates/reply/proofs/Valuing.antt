@@ -89,7 +89,7 @@ module _ (i d h b k a : ℕ) (old : List ℕ) where
               let o : Here S lev a u (decide i n f) = subst (λ y. Here S lev a u (decide y n f)) q g in
               let p : lev ≡ suc (pred lev) = omega (arith, levels-some (S .levels) lev (decide i n f) (o .level)) in
               subst (λ y. Noted S new × (r ≡ gained S u (decide y n f) % 2 ^ 64)) (sym q)
-                  (v S m n u (pred lev) f (omega arith) (ap setOf (says S m (decide i n f) u lev o) ∙ o .held .0 .3) (ap actionsOf (says S m (decide i n f) u lev o) ∙ o .held .0 .2) (subst (λ y. Here S y a u (decide i n f)) p o))
+              (v S m n u (pred lev) f (omega arith) (ap setOf (says S m (decide i n f) u lev o) ∙ o .held .0 .3) (ap actionsOf (says S m (decide i n f) u lev o) ∙ o .held .0 .2) (subst (λ y. Here S y a u (decide i n f)) p o))
 
 -- ---- a row, tree by tree
 -- what is held in the scene's words is held in those with choices

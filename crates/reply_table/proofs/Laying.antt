@@ -30,7 +30,6 @@ use Rattle.arena.proofs.Numbering.{none, node, held-node}
 use Rattle.reply.specs.Valued.{Scene, Known, Noted, Chosen}
 use Rattle.reply.proofs.Scenes.{known-of}
 use Rattle.reply.proofs.Choosing.{some}
-
 use Rattle.reply_table.specs.Laid.{Tabled, replied, LaidSet, Laid}
 
 -- ---- no set stands deeper than its walk
@@ -63,8 +62,11 @@ module _ (table : Table) (x e i D h b k : ℕ) (old : List ℕ) (out written : L
   -- another seat's
   pub laid-other : (actorOf x ≡ i → ⊥) → p ≡ getD table e 0 → q ≡ getD table (e + 1) 0 → r ≡ getD table (e + 2) 0 → LaidSet table x e i D h b k old old out written
   unfolding replied
-  laid-other o P Q R S m t j y a g l z v = (m, subst (λ a. written ≡ sets out e (listed a (replied S j y))) (c ∙ v)
-      (wrote-listed e n p q r out written (replied S j y) w (subst (λ a. (2 ≤ a) × (a ≤ 3)) (sym (c ∙ v)) (known-of S (λ j y n. (2 ≤ n) × (n ≤ 3)) (S .few) j y a g)) (P ∙ ap (λ s. getD table s 0) (sym (NatL.add-zero e)) ∙ at 0) (Q ∙ at 1) (R ∙ at 2)))
+  laid-other o P Q R S m t j y a g l z v = (
+    m,
+    subst (λ a. written ≡ sets out e (listed a (replied S j y))) (c ∙ v)
+        (wrote-listed e n p q r out written (replied S j y) w (subst (λ a. (2 ≤ a) × (a ≤ 3)) (sym (c ∙ v)) (known-of S (λ j y n. (2 ≤ n) × (n ≤ 3)) (S .few) j y a g)) (P ∙ ap (λ s. getD table s 0) (sym (NatL.add-zero e)) ∙ at 0) (Q ∙ at 1) (R ∙ at 2)),
+  )
     where
       at : (s : ℕ) → getD table (e + s) 0 ≡ replied S j y s
       at s = ap (λ u. getD table (u + s) 0) l ∙ sym (t .strategy j y s) ∙ ap (λ u. cond u (pure (S .parts) (S .choice) y s) (S .strategy j y s)) (sym (ne-eqb j i (λ u. o (z ∙ u))))
@@ -132,10 +134,10 @@ module _ {i h b k : ℕ} (S : Scene i h b k) where
       at (b, l, o, f, d, c) =
           let few : b < size (S .tree) = subst (λ z. b < z) (preorder-length (S .tree)) l in
           let place : getD w (h + e) 0 ≡ b = ap (λ z. getD w (h + z) 0) q ∙ m .words (h + firstEntry (S .tree) j y) (omega (arith, S .before, entry-inside (S .tree) (some S) (j, y, n) g))
-                  ∙ known-of S (λ j y n. getD (S .words) (h + firstEntry (S .tree) j y) 0 ≡ firstOf (setMembers (S .tree) j y)) (S .indexed .heads) j y n g ∙ o ∙ NatL.zero-add b in
+          ∙ known-of S (λ j y n. getD (S .words) (h + firstEntry (S .tree) j y) 0 ≡ firstOf (setMembers (S .tree) j y)) (S .indexed .heads) j y n g ∙ o ∙ NatL.zero-add b in
           let here : x ≡ getD (S .words) b 0 = r ∙ ap (λ z. getD w (z % 2097152) 0) place ∙ ap (λ z. getD w z 0) (NatL.mod-eq-of-lt (omega (arith, few, S .room))) ∙ m .words b (omega (arith, few, S .nodes, S .before)) in
           let says : Says (S .seats) (firstEntry (S .tree)) (laterIn (S .tree)) x b (decide j y f) = subst (λ z. Says (S .seats) (firstEntry (S .tree)) (laterIn (S .tree)) z b (decide j y f)) (sym here)
-                  (subst (Says (S .seats) (firstEntry (S .tree)) (laterIn (S .tree)) (getD (S .words) b 0) b) d (held-node (S .seats) (firstEntry (S .tree)) (laterIn (S .tree)) (S .words) (S .tree) (S .indexed .held) b few)) in
+          (subst (Says (S .seats) (firstEntry (S .tree)) (laterIn (S .tree)) (getD (S .words) b 0) b) d (held-node (S .seats) (firstEntry (S .tree)) (laterIn (S .tree)) (S .words) (S .tree) (S .indexed .held) b few)) in
           let A : fan f ≡ S .actions .0 j y = known-of S (λ j y n. n ≡ S .actions .0 j y) (S .actions .1) j y (fan f) (subst (In (j, y, fan f)) (sym (decisions-of-nodes (S .tree))) c) in
           let B : n ≡ S .actions .0 j y = known-of S (λ j y n. n ≡ S .actions .0 j y) (S .actions .1) j y n g in
           (says .1, says .2 ∙ A ∙ sym B)

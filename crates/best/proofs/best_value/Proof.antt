@@ -72,7 +72,7 @@ same-length c = search needs
 returns : tie.Need-returns
 returns c =
     let whole : toZ w64 (ofZ w64 (c .lowered .result)) ≡ c .lowered .result = search needs in
-    (staging.is-best (c .before .before .before .before .before .before .before .before .before .before .before .before .before .before .before .before .before .before .before .args .g) (c .before .before .before .before .before .before .before .before .before .before .before .before .before .before .before .before .before .before .before .args .d) (c .before .before .before .before .before .before .before .before .before .before .before .before .before .before .before .before .before .before .before .args .seat) (now (c .before .before .before .before .before .before .before .before .before .before .before .before .before .before .before .before .before .before .before .args .table)) (c .before .before .before .before .before .before .before .before .before .before .before .before .before .before .before .before .before .before .before .pre .1) (c .before .before .before .before .before .before .before .before .before .before .before .before .before .before .before .before .before .before .before .pre .2) (c .before .before .before .before .before .before .before .before .before .before .before .before .before .before .before .before .entries .result) (c .before .before .before .before .before .before .before .before .before .before .before .before .before .before .before .heads-of .result) (c .before .before .before .before .before .before .before .before .before .before .before .before .before .before .nodes .result) (c .before .before .before .before .before .before .before .before .before .before .before .before .before .root-units .result) (c .before .before .before .before .before .before .before .before .before .before .before .before .before .before .before .before .entries .ensures) (c .before .before .before .before .before .before .before .before .before .before .before .before .before .before .before .heads-of .ensures) (c .before .before .before .before .before .before .before .before .before .before .before .before .before .before .nodes .ensures) (c .before .before .before .before .before .before .before .before .before .before .before .before .before .root-units .ensures) (now (c .before .before .before .before .before .before .before .before .before .before .before .before .before .before .before .before .before .before .before .args .w)) (c .before .before .before .before .before .before .before .before .before .before .before .collect .last .0) (c .before .before .before .before .before .before .before .clear .last .0) (c .before .before .before .value .last .0) (c .before .before .before .before .before .before .before .before .before .before .before .before .before .before .before .before .before .before .before .pre .0) (c .before .before .before .before .before .before .before .before .before .before .before .before .before .before .before .before .before .before .before .pre .3) (c .before .before .before .before .before .before .before .before .before .before .before .collect .ensures) (c .before .before .before .before .before .before .before .clear .ensures) (c .before .before .before .value .result) (c .before .before .before .value .ensures) _ (whole ∙ c .lowered .ensures), staging.is-staged (c .before .before .before .before .before .before .before .before .before .before .before .before .before .before .before .before .before .before .before .args .g) (c .before .before .before .before .before .before .before .before .before .before .before .before .before .before .before .before .before .before .before .args .d) (c .before .before .before .before .before .before .before .before .before .before .before .before .before .before .before .before .before .before .before .args .seat) (now (c .before .before .before .before .before .before .before .before .before .before .before .before .before .before .before .before .before .before .before .args .table)) (c .before .before .before .before .before .before .before .before .before .before .before .before .before .before .before .before .before .before .before .pre .1) (c .before .before .before .before .before .before .before .before .before .before .before .before .before .before .before .before .before .before .before .pre .2) (c .before .before .before .before .before .before .before .before .before .before .before .before .before .before .before .before .entries .result) (c .before .before .before .before .before .before .before .before .before .before .before .before .before .before .before .heads-of .result) (c .before .before .before .before .before .before .before .before .before .before .before .before .before .before .nodes .result) (c .before .before .before .before .before .before .before .before .before .before .before .before .before .root-units .result) (c .before .before .before .before .before .before .before .before .before .before .before .before .before .before .before .before .entries .ensures) (c .before .before .before .before .before .before .before .before .before .before .before .before .before .before .before .heads-of .ensures) (c .before .before .before .before .before .before .before .before .before .before .before .before .before .before .nodes .ensures) (c .before .before .before .before .before .before .before .before .before .before .before .before .before .root-units .ensures) (now (c .before .before .before .before .before .before .before .before .before .before .before .before .before .before .before .before .before .before .before .args .w)) (c .before .before .before .before .before .before .before .before .before .before .before .collect .last .0) (c .before .before .before .before .before .before .before .clear .last .0) (c .before .before .before .value .last .0) (c .before .before .before .before .before .before .before .before .before .before .before .before .before .before .before .before .before .before .before .pre .0) (c .before .before .before .before .before .before .before .before .before .before .before .before .before .before .before .before .before .before .before .pre .3) (c .before .before .before .before .before .before .before .before .before .before .before .collect .ensures) (c .before .before .before .before .before .before .before .clear .ensures) (c .before .before .before .value .result) (c .before .before .before .value .ensures), staging.is-stored (c .before .before .before .before .before .before .before .before .before .before .before .before .before .before .before .before .before .before .before .args .g) (c .before .before .before .before .before .before .before .before .before .before .before .before .before .before .before .before .before .before .before .args .d) (c .before .before .before .before .before .before .before .before .before .before .before .before .before .before .before .before .before .before .before .args .seat) (now (c .before .before .before .before .before .before .before .before .before .before .before .before .before .before .before .before .before .before .before .args .table)) (c .before .before .before .before .before .before .before .before .before .before .before .before .before .before .before .before .before .before .before .pre .1) (c .before .before .before .before .before .before .before .before .before .before .before .before .before .before .before .before .before .before .before .pre .2) (c .before .before .before .before .before .before .before .before .before .before .before .before .before .before .before .before .entries .result) (c .before .before .before .before .before .before .before .before .before .before .before .before .before .before .before .heads-of .result) (c .before .before .before .before .before .before .before .before .before .before .before .before .before .before .nodes .result) (c .before .before .before .before .before .before .before .before .before .before .before .before .before .root-units .result) (c .before .before .before .before .before .before .before .before .before .before .before .before .before .before .before .before .entries .ensures) (c .before .before .before .before .before .before .before .before .before .before .before .before .before .before .before .heads-of .ensures) (c .before .before .before .before .before .before .before .before .before .before .before .before .before .before .nodes .ensures) (c .before .before .before .before .before .before .before .before .before .before .before .before .before .root-units .ensures) (now (c .before .before .before .before .before .before .before .before .before .before .before .before .before .before .before .before .before .before .before .args .w)) (c .before .before .before .before .before .before .before .before .before .before .before .collect .last .0) (c .before .before .before .before .before .before .before .clear .last .0) (c .before .before .before .value .last .0) (c .before .before .before .before .before .before .before .before .before .before .before .before .before .before .before .before .before .before .before .pre .0) (c .before .before .before .before .before .before .before .before .before .before .before .before .before .before .before .before .before .before .before .pre .3) (c .before .before .before .before .before .before .before .before .before .before .before .collect .ensures) (c .before .before .before .before .before .before .before .clear .ensures) (c .before .before .before .value .result) (c .before .before .before .value .ensures))
+    (staging.is-best (c .before .before .before .before .before .before .before .before .before .before .before .before .before .before .before .before .before .before .before .args .g) (c .before .before .before .before .before .before .before .before .before .before .before .before .before .before .before .before .before .before .before .args .d) (c .before .before .before .before .before .before .before .before .before .before .before .before .before .before .before .before .before .before .before .args .seat) (now (c .before .before .before .before .before .before .before .before .before .before .before .before .before .before .before .before .before .before .before .args .table)) (c .before .before .before .before .before .before .before .before .before .before .before .before .before .before .before .before .before .before .before .pre .1) (c .before .before .before .before .before .before .before .before .before .before .before .before .before .before .before .before .before .before .before .pre .2) (c .before .before .before .before .before .before .before .before .before .before .before .before .before .before .before .before .entries .result) (c .before .before .before .before .before .before .before .before .before .before .before .before .before .before .before .heads-of .result) (c .before .before .before .before .before .before .before .before .before .before .before .before .before .before .nodes .result) (c .before .before .before .before .before .before .before .before .before .before .before .before .before .root-units .result) (c .before .before .before .before .before .before .before .before .before .before .before .before .before .before .before .before .entries .ensures) (c .before .before .before .before .before .before .before .before .before .before .before .before .before .before .before .heads-of .ensures) (c .before .before .before .before .before .before .before .before .before .before .before .before .before .before .nodes .ensures) (c .before .before .before .before .before .before .before .before .before .before .before .before .before .root-units .ensures) (now (c .before .before .before .before .before .before .before .before .before .before .before .before .before .before .before .before .before .before .before .args .w)) (c .before .before .before .before .before .before .before .before .before .before .before .collect .last .0) (c .before .before .before .before .before .before .before .clear .last .0) (c .before .before .before .value .last .0) (c .before .before .before .before .before .before .before .before .before .before .before .before .before .before .before .before .before .before .before .pre .0) (c .before .before .before .before .before .before .before .before .before .before .before .before .before .before .before .before .before .before .before .pre .3) (c .before .before .before .before .before .before .before .before .before .before .before .collect .ensures) (c .before .before .before .before .before .before .before .clear .ensures) (c .before .before .before .value .result) (c .before .before .before .value .ensures) _ (whole ∙ c .lowered .ensures), staging.unbeaten (c .before .before .before .before .before .before .before .before .before .before .before .before .before .before .before .before .before .before .before .args .g) (c .before .before .before .before .before .before .before .before .before .before .before .before .before .before .before .before .before .before .before .args .d) (c .before .before .before .before .before .before .before .before .before .before .before .before .before .before .before .before .before .before .before .args .seat) (now (c .before .before .before .before .before .before .before .before .before .before .before .before .before .before .before .before .before .before .before .args .table)) (c .before .before .before .before .before .before .before .before .before .before .before .before .before .before .before .before .before .before .before .pre .1) (c .before .before .before .before .before .before .before .before .before .before .before .before .before .before .before .before .before .before .before .pre .2) _ (staging.is-best (c .before .before .before .before .before .before .before .before .before .before .before .before .before .before .before .before .before .before .before .args .g) (c .before .before .before .before .before .before .before .before .before .before .before .before .before .before .before .before .before .before .before .args .d) (c .before .before .before .before .before .before .before .before .before .before .before .before .before .before .before .before .before .before .before .args .seat) (now (c .before .before .before .before .before .before .before .before .before .before .before .before .before .before .before .before .before .before .before .args .table)) (c .before .before .before .before .before .before .before .before .before .before .before .before .before .before .before .before .before .before .before .pre .1) (c .before .before .before .before .before .before .before .before .before .before .before .before .before .before .before .before .before .before .before .pre .2) (c .before .before .before .before .before .before .before .before .before .before .before .before .before .before .before .before .entries .result) (c .before .before .before .before .before .before .before .before .before .before .before .before .before .before .before .heads-of .result) (c .before .before .before .before .before .before .before .before .before .before .before .before .before .before .nodes .result) (c .before .before .before .before .before .before .before .before .before .before .before .before .before .root-units .result) (c .before .before .before .before .before .before .before .before .before .before .before .before .before .before .before .before .entries .ensures) (c .before .before .before .before .before .before .before .before .before .before .before .before .before .before .before .heads-of .ensures) (c .before .before .before .before .before .before .before .before .before .before .before .before .before .before .nodes .ensures) (c .before .before .before .before .before .before .before .before .before .before .before .before .before .root-units .ensures) (now (c .before .before .before .before .before .before .before .before .before .before .before .before .before .before .before .before .before .before .before .args .w)) (c .before .before .before .before .before .before .before .before .before .before .before .collect .last .0) (c .before .before .before .before .before .before .before .clear .last .0) (c .before .before .before .value .last .0) (c .before .before .before .before .before .before .before .before .before .before .before .before .before .before .before .before .before .before .before .pre .0) (c .before .before .before .before .before .before .before .before .before .before .before .before .before .before .before .before .before .before .before .pre .3) (c .before .before .before .before .before .before .before .before .before .before .before .collect .ensures) (c .before .before .before .before .before .before .before .clear .ensures) (c .before .before .before .value .result) (c .before .before .before .value .ensures) _ (whole ∙ c .lowered .ensures)), staging.is-staged (c .before .before .before .before .before .before .before .before .before .before .before .before .before .before .before .before .before .before .before .args .g) (c .before .before .before .before .before .before .before .before .before .before .before .before .before .before .before .before .before .before .before .args .d) (c .before .before .before .before .before .before .before .before .before .before .before .before .before .before .before .before .before .before .before .args .seat) (now (c .before .before .before .before .before .before .before .before .before .before .before .before .before .before .before .before .before .before .before .args .table)) (c .before .before .before .before .before .before .before .before .before .before .before .before .before .before .before .before .before .before .before .pre .1) (c .before .before .before .before .before .before .before .before .before .before .before .before .before .before .before .before .before .before .before .pre .2) (c .before .before .before .before .before .before .before .before .before .before .before .before .before .before .before .before .entries .result) (c .before .before .before .before .before .before .before .before .before .before .before .before .before .before .before .heads-of .result) (c .before .before .before .before .before .before .before .before .before .before .before .before .before .before .nodes .result) (c .before .before .before .before .before .before .before .before .before .before .before .before .before .root-units .result) (c .before .before .before .before .before .before .before .before .before .before .before .before .before .before .before .before .entries .ensures) (c .before .before .before .before .before .before .before .before .before .before .before .before .before .before .before .heads-of .ensures) (c .before .before .before .before .before .before .before .before .before .before .before .before .before .before .nodes .ensures) (c .before .before .before .before .before .before .before .before .before .before .before .before .before .root-units .ensures) (now (c .before .before .before .before .before .before .before .before .before .before .before .before .before .before .before .before .before .before .before .args .w)) (c .before .before .before .before .before .before .before .before .before .before .before .collect .last .0) (c .before .before .before .before .before .before .before .clear .last .0) (c .before .before .before .value .last .0) (c .before .before .before .before .before .before .before .before .before .before .before .before .before .before .before .before .before .before .before .pre .0) (c .before .before .before .before .before .before .before .before .before .before .before .before .before .before .before .before .before .before .before .pre .3) (c .before .before .before .before .before .before .before .before .before .before .before .collect .ensures) (c .before .before .before .before .before .before .before .clear .ensures) (c .before .before .before .value .result) (c .before .before .before .value .ensures), staging.is-stored (c .before .before .before .before .before .before .before .before .before .before .before .before .before .before .before .before .before .before .before .args .g) (c .before .before .before .before .before .before .before .before .before .before .before .before .before .before .before .before .before .before .before .args .d) (c .before .before .before .before .before .before .before .before .before .before .before .before .before .before .before .before .before .before .before .args .seat) (now (c .before .before .before .before .before .before .before .before .before .before .before .before .before .before .before .before .before .before .before .args .table)) (c .before .before .before .before .before .before .before .before .before .before .before .before .before .before .before .before .before .before .before .pre .1) (c .before .before .before .before .before .before .before .before .before .before .before .before .before .before .before .before .before .before .before .pre .2) (c .before .before .before .before .before .before .before .before .before .before .before .before .before .before .before .before .entries .result) (c .before .before .before .before .before .before .before .before .before .before .before .before .before .before .before .heads-of .result) (c .before .before .before .before .before .before .before .before .before .before .before .before .before .before .nodes .result) (c .before .before .before .before .before .before .before .before .before .before .before .before .before .root-units .result) (c .before .before .before .before .before .before .before .before .before .before .before .before .before .before .before .before .entries .ensures) (c .before .before .before .before .before .before .before .before .before .before .before .before .before .before .before .heads-of .ensures) (c .before .before .before .before .before .before .before .before .before .before .before .before .before .before .nodes .ensures) (c .before .before .before .before .before .before .before .before .before .before .before .before .before .root-units .ensures) (now (c .before .before .before .before .before .before .before .before .before .before .before .before .before .before .before .before .before .before .before .args .w)) (c .before .before .before .before .before .before .before .before .before .before .before .collect .last .0) (c .before .before .before .before .before .before .before .clear .last .0) (c .before .before .before .value .last .0) (c .before .before .before .before .before .before .before .before .before .before .before .before .before .before .before .before .before .before .before .pre .0) (c .before .before .before .before .before .before .before .before .before .before .before .before .before .before .before .before .before .before .before .pre .3) (c .before .before .before .before .before .before .before .before .before .before .before .collect .ensures) (c .before .before .before .before .before .before .before .clear .ensures) (c .before .before .before .value .result) (c .before .before .before .value .ensures))
 
 pub best-value-spec : {M : Type 1} → statement M
 best-value-spec =
