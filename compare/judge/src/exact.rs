@@ -163,9 +163,10 @@ impl Tree {
         &table[self.sets[set].first..][..self.sets[set].actions]
     }
 
-    /// The probabilities of the set with a key, as the Rust's evaluations ask for them.
-    pub fn probabilities(&self, table: &[u8], d: u64, key: &[u8]) -> Vec<f64> {
-        self.part(table, self.numbers[key]).iter().map(|&part| f64::from(part) / d as f64).collect()
+    /// The probabilities of each set by its key, as the Rust's evaluations ask for them.
+    pub fn profile(&self, table: &[u8], d: u64) -> HashMap<Vec<u8>, Vec<f64>> {
+        let probabilities = |set| self.part(table, set).iter().map(|&part| f64::from(part) / d as f64).collect();
+        self.numbers.iter().map(|(key, &set)| (key.clone(), probabilities(set))).collect()
     }
 
     /// The child behind an action of a decision.
@@ -279,8 +280,9 @@ impl<'a> Played<'a> {
 }
 
 fn evenly(units: i128, by: i128) -> i128 {
-    assert_eq!(units % by, 0, "units divide evenly");
-    units / by
+    let share = units / by;
+    assert_eq!(share * by, units, "units divide evenly");
+    share
 }
 
 /// The values and choices of a responder. A choice asks the values below all members, and those ask deeper choices.

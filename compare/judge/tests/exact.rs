@@ -96,8 +96,9 @@ fn units_of_all_ends_add_up() {
 /// The f64 NashConv of the same profile, in units.
 fn agrees<G: Game<Event = f64>>(game: &G, tree: &Tree, d: u64, kind: Kind, random: &mut Random) {
     let table = table(tree, d, kind, random);
-    let profile = |key: &[u8], _: usize| tree.probabilities(&table, d, key);
-    let rust = nash_conv(game, &EventNumber, &profile).expect("a tree within the limit");
+    let profile = tree.profile(&table, d);
+    let rust =
+        nash_conv(game, &EventNumber, &|key: &[u8], _: usize| profile[key].clone()).expect("a tree within the limit");
     let played = Played::new(tree, d, &table);
     let exact = played.nash_conv() as f64 / played.units() as f64;
     assert!((rust - exact).abs() <= 1e-9 * exact.max(1.0), "{rust} and {exact}");
