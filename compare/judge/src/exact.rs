@@ -213,9 +213,9 @@ impl<'a> Played<'a> {
     pub fn new(tree: &'a Tree, d: u64, table: &'a [u8]) -> Self {
         assert!((1..=tree.most_parts).contains(&d) && table.len() == tree.entries && tree.adds_up(table, d));
         let played = Played { tree, d, table };
-        // No sum has more terms than the tree has nodes, and no node more units than the root.
-        let bound = played.units().checked_mul(LARGEST_PAYOFF * tree.nodes.len() as i128);
-        bound.expect("no sum below can leave i128");
+        // No sum has more terms than the tree has nodes, no node more units than the root, and NashConv has two such sums for each seat.
+        let terms = (2 * SEATS * tree.nodes.len()) as i128;
+        played.units().checked_mul(LARGEST_PAYOFF * terms).expect("no sum below can leave i128");
         played
     }
 
