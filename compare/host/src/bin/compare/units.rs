@@ -7,7 +7,7 @@ use host::stack::stack_of;
 use host::units::{best_reply, nash_conv_units, worths, NashConvAnswer, ReplyAnswer, WorthsAnswer};
 use judge::exact::{kuhn, leduc, Played, Tree};
 use judge::listing_lists::{KUHN, LEDUC};
-use judge::parts::{pure_rival, rival, table, KINDS};
+use judge::parts::{pure_rival, rival, table, Kind, KINDS};
 use judge::random::Random;
 use judge::units::{words, Call};
 
@@ -17,7 +17,7 @@ struct Plan {
     game: u64,
     tree: &'static Tree,
     tables: usize,
-    /// The rivals of each seat, over all tables.
+    /// The rivals of each seat, over all tables; where D is 1, in one table of four, they are pure.
     rivals: usize,
     /// The calls refused with each number.
     refused: usize,
@@ -26,12 +26,12 @@ struct Plan {
 pub fn compare(random: &mut Random) {
     let plan = |name, game, tree, tables, rivals, refused| Plan { name, game, tree, tables, rivals, refused };
     let plans = [
-        plan("Kuhn 2", KUHN, kuhn(2), 2_400, 10_000, 100),
-        plan("Kuhn 3", KUHN, kuhn(3), 480, 10_000, 100),
+        plan("Kuhn 2", KUHN, kuhn(2), 2_400, 14_000, 100),
+        plan("Kuhn 3", KUHN, kuhn(3), 480, 14_000, 100),
         plan("Kuhn 4", KUHN, kuhn(4), 48, 2_000, 20),
         plan("Kuhn 5", KUHN, kuhn(5), 6, 24, 2),
-        plan("Kuhn 6", KUHN, kuhn(6), 2, 4, 1),
-        plan("Leduc", LEDUC, leduc(), 48, 10_000, 20),
+        plan("Kuhn 6", KUHN, kuhn(6), 3, 6, 1),
+        plan("Leduc", LEDUC, leduc(), 48, 14_000, 20),
     ];
     let mut counts = Counts::new();
     for plan in &plans {
@@ -127,8 +127,8 @@ impl Plan {
     fn all_tables(&self, counts: &mut Counts, random: &mut Random) -> usize {
         let each = self.rivals.div_ceil(self.tables);
         for number in 0..self.tables {
-            // 24 tables have each kind with each D; fewer have another kind and another D in turn.
-            let number = if self.tables < 24 { number * 5 } else { number };
+            // 24 tables have each kind with each D; fewer have another kind and another D in turn, the first mixed with the largest D.
+            let number = if self.tables < 24 { number * 5 + 1 } else { number };
             let mut asked = Asked { call: self.some_call(number, random), seat: 0, room: 0 };
             asked.worths(counts, random);
             asked.nash_conv(counts, random);
@@ -173,7 +173,7 @@ impl Plan {
     fn rivals(&self, call: &Call, seat: usize, rivals: usize, random: &mut Random) {
         let best = self.best(call, seat).0;
         for number in 0..rivals {
-            let rival = rival(self.tree, &call.table, seat, call.d, random.pick(&KINDS), random);
+            let rival = rival(self.tree, &call.table, seat, call.d, Kind::Mixed, random);
             let worth = Played::new(self.tree, call.d, &rival).worths()[seat];
             assert!(worth <= i128::from(best), "{rival:?} is worth {worth} to seat {seat} in {call:?}");
             if number == 0 {
