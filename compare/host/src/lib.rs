@@ -4,6 +4,8 @@ pub mod listing;
 pub mod memory;
 pub mod rules;
 pub mod stack;
+#[cfg(feature = "units")]
+pub mod units;
 
 /// The middle one of some times.
 pub fn median(mut times: Vec<f64>) -> f64 {

@@ -1,7 +1,7 @@
-//! `answers GAME`: the judge's answers to the records of standard input, for GAME kuhn or leduc, or `answers listing`.
+//! `answers GAME`: the judge's answers to the records of standard input, for GAME kuhn or leduc, or `answers listing`, `answers units`.
 
 use judge::list::answer;
-use judge::{kuhn_lists, leduc_lists, listing_lists};
+use judge::{kuhn_lists, leduc_lists, listing_lists, units_lists};
 use std::{env, io};
 
 fn main() -> io::Result<()> {
@@ -9,7 +9,8 @@ fn main() -> io::Result<()> {
         Some("kuhn") => answer::<kuhn_lists::Given>,
         Some("leduc") => answer::<leduc_lists::Given>,
         Some("listing") => listing_lists::answer,
-        _ => panic!("usage: answers kuhn, answers leduc, or answers listing"),
+        Some("units") => units_lists::answer,
+        _ => panic!("usage: answers kuhn, answers leduc, answers listing, or answers units"),
     };
     for record in io::stdin().lines() {
         print!("{}", answer(&record?));

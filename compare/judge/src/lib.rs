@@ -3,6 +3,7 @@
 
 pub mod answer;
 pub mod calls;
+pub mod exact;
 pub mod kuhn;
 pub mod kuhn_lists;
 pub mod kuhn_paper;
@@ -13,7 +14,10 @@ pub mod line;
 pub mod list;
 pub mod listing;
 pub mod listing_lists;
+pub mod parts;
 pub mod random;
+pub mod units;
+pub mod units_lists;
 
 use reinfors_core::reward::Reward;
 

@@ -1,6 +1,6 @@
 //! `lists SEED FOLDER`: writes stdin and stdout of each replay program NAME, to FOLDER/NAME if there is such a program.
 
-use judge::{kuhn_lists, leduc_lists, listing_lists};
+use judge::{kuhn_lists, leduc_lists, listing_lists, units_lists};
 use std::path::Path;
 use std::{env, io};
 
@@ -10,6 +10,8 @@ const KUHN: [usize; 11] = [0, 2, 9, 10, 11, 12, 13, 14, 18, 19, 20];
 const LEDUC: [usize; 13] = [0, 9, 10, 11, 12, 13, 14, 15, 16, 17, 18, 19, 20];
 /// The numbers that the listing gives.
 const LISTING: [usize; 6] = [0, 1, 2, 3, 4, 9];
+/// The numbers that the calls in whole units give.
+const UNITS: [usize; 10] = [0, 1, 2, 3, 4, 5, 6, 7, 8, 9];
 
 fn main() -> io::Result<()> {
     let arguments: Vec<String> = env::args().collect();
@@ -18,5 +20,6 @@ fn main() -> io::Result<()> {
     let folder = Path::new(folder);
     kuhn_lists::list(seed).write(folder, "kuhn_replay", &KUHN)?;
     leduc_lists::list(seed).write(folder, "leduc_replay", &LEDUC)?;
-    listing_lists::list(seed).write(folder, "listing_replay", &LISTING)
+    listing_lists::list(seed).write(folder, "listing_replay", &LISTING)?;
+    units_lists::list(seed).write(folder, "units_replay", &UNITS)
 }

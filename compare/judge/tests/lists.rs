@@ -1,7 +1,7 @@
 //! The lists themselves: what the paper's moves reach, and that the committed files are what the seed makes.
 
 use judge::list::{answer, home, List};
-use judge::{kuhn_lists, kuhn_paper, leduc_lists, leduc_paper, listing_lists};
+use judge::{kuhn_lists, kuhn_paper, leduc_lists, leduc_paper, listing_lists, units_lists};
 use reinfors_core::game::{Actor, Game};
 use reinfors_games::leduc::{LeducPoker, LeducState};
 use std::collections::HashSet;
@@ -75,6 +75,7 @@ fn committed_lists_are_the_seeds() {
         ("kuhn_replay", kuhn_lists::list(judge::SEED)),
         ("leduc_replay", leduc_lists::list(judge::SEED)),
         ("listing_replay", listing_lists::list(judge::SEED)),
+        ("units_replay", units_lists::list(judge::SEED)),
     ];
     for (program, list) in lists {
         assert!(list.stdin == committed(program, "stdin"), "{program}: stdin is another list");
@@ -91,4 +92,6 @@ fn records_can_be_answered_alone() {
     assert!(answered(&leduc, answer::<leduc_lists::Given>) == leduc.stdout);
     let listing = listing_lists::list(judge::SEED);
     assert!(answered(&listing, listing_lists::answer) == listing.stdout);
+    let units = units_lists::list(judge::SEED);
+    assert!(answered(&units, units_lists::answer) == units.stdout);
 }

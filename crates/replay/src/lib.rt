@@ -13,6 +13,7 @@ pub use line::say;
 pub use line::say_all;
 pub use line::say_letter;
 pub use line::say_payoff;
+pub use line::say_whole;
 pub use source::Bytes;
 pub use source::Given;
 pub use source::Source;

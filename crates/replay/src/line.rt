@@ -224,6 +224,32 @@ pub fn say_payoff(out: &mut [u8; 4096], line: Line, payoff: i64) -> Line {
     }
 }
 
+// How far a number below 0 is from it.
+fn size(number: i64) -> u64 {
+    if number < 0 {
+        (-1 - number) as u64 + 1
+    } else {
+        0
+    }
+}
+
+// A word that is a whole number, with its sign if it is below 0.
+pub fn say_whole(out: &mut [u8; 4096], line: Line, number: i64) -> Line {
+    if 0 <= number {
+        return say(out, line, number as u64);
+    }
+    if !line.shown {
+        return line;
+    }
+    let gap = put_gap(out, line.at);
+    let at = put(out, gap, b'-');
+    Line {
+        at: put_digits(out, at, size(number)),
+        sum: line.sum,
+        shown: true,
+    }
+}
+
 fn flush(out: &[u8], at: usize) {
     if at <= out.len() {
         let text = &out[0..at];

@@ -3,6 +3,8 @@
 
 mod listing;
 mod rules;
+#[cfg(feature = "units")]
+mod units;
 
 use host::median;
 use std::env;
@@ -19,6 +21,8 @@ fn main() {
     println!("| what | rounds | Rust | ours | times as fast |");
     println!("| --- | --- | --- | --- | --- |");
     listing::bench(rounds);
+    #[cfg(feature = "units")]
+    units::bench(rounds);
     rules::bench(rounds);
 }
 

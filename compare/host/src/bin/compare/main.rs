@@ -1,9 +1,12 @@
-//! `compare [CALLS [SEED]]`: as many hands of each game, and as many listings, with random inputs, held to the unchanged Rust.
+//! `compare [CALLS [SEED]]`: as many hands of each game, and as many listings, with random inputs, held to the unchanged Rust; and tables of
+//! each game, held to the reference in whole units.
 //! It prints its seed, and stops at the first difference.
 
 mod listing;
 mod number;
 mod rules;
+#[cfg(feature = "units")]
+mod units;
 
 use judge::random::Random;
 use std::env;
@@ -17,6 +20,8 @@ fn main() {
     let mut random = Random::new(seed);
     rules::compare(calls, &mut random);
     listing::compare(calls, &mut random);
+    #[cfg(feature = "units")]
+    units::compare(&mut random);
 }
 
 fn clock() -> u64 {

@@ -1,0 +1,43 @@
+//! NashConv of one table: the Rust's f64 `nash_conv` of the profile part / D, and ours in whole units. The memory that is lent was filled before.
+
+use crate::row;
+use host::memory::Memory;
+use host::units::nash_conv_units;
+use judge::exact::{kuhn, leduc, Tree};
+use judge::listing_lists::{KUHN, LEDUC};
+use judge::parts::{table, Kind};
+use judge::random::Random;
+use judge::units::words;
+use judge::EventNumber;
+use reinfors_core::best_response::nash_conv;
+use reinfors_core::game::Game;
+use reinfors_games::kuhn::KuhnPoker;
+use reinfors_games::leduc::LeducPoker;
+use std::hint::black_box;
+
+pub fn bench(rounds: usize) {
+    for players in 2..=6 {
+        one_table(&format!("NashConv, Kuhn {players}"), KUHN, kuhn(players), &KuhnPoker { players }, rounds);
+    }
+    one_table("NashConv, Leduc", LEDUC, leduc(), &LeducPoker, rounds);
+}
+
+/// A mixed table with as many parts as the game may have.
+fn one_table<G: Game<Event = f64>>(name: &str, number: u64, tree: &Tree, game: &G, rounds: usize) {
+    let d = tree.most_parts;
+    let table = table(tree, d, Kind::Mixed, &mut Random::new(2026));
+    let profile = tree.profile(&table, d);
+    let mut memory = Memory::new(words(tree), 0);
+    let (mut float, mut whole) = (0.0, 0.0);
+    let mut ours = || {
+        let answer = nash_conv_units(number, tree.seats as u64, &mut memory.work, d, black_box(&table));
+        assert_eq!(answer.refusal, 0, "{name} is evaluated");
+        whole = answer.nash_conv as f64 / answer.units as f64;
+    };
+    let mut rust = || {
+        let asked = |key: &[u8], _: usize| profile[key].clone();
+        float = nash_conv(black_box(game), &EventNumber, &asked).expect("a tree within the limit");
+    };
+    row(name, rounds, &mut rust, &mut ours);
+    assert!((float - whole).abs() <= 1e-9 * whole.max(1.0), "{name}: {float} and {whole}");
+}

@@ -1,0 +1,306 @@
+//! The calls in whole units: random tables of each game, rivals of their seats, and calls that are refused, held to the reference.
+
+use crate::number::some_number;
+use crate::Counts;
+use host::memory::Memory;
+use host::stack::stack_of;
+use host::units::{best_reply, nash_conv_units, worths, NashConvAnswer, ReplyAnswer, WorthsAnswer};
+use judge::exact::{kuhn, leduc, Played, Tree};
+use judge::listing_lists::{KUHN, LEDUC};
+use judge::parts::{pure_rival, rival, table, Kind, KINDS};
+use judge::random::Random;
+use judge::units::{words, Call};
+
+/// A game, and how much of it is compared.
+struct Plan {
+    name: &'static str,
+    game: u64,
+    tree: &'static Tree,
+    tables: usize,
+    /// The rivals of each seat, over all tables; where D is 1, in one table of four, they are pure.
+    rivals: usize,
+    /// The calls refused with each number.
+    refused: usize,
+}
+
+pub fn compare(random: &mut Random) {
+    let plan = |name, game, tree, tables, rivals, refused| Plan { name, game, tree, tables, rivals, refused };
+    let plans = [
+        plan("Kuhn 2", KUHN, kuhn(2), 2_400, 14_000, 100),
+        plan("Kuhn 3", KUHN, kuhn(3), 480, 14_000, 100),
+        plan("Kuhn 4", KUHN, kuhn(4), 48, 2_000, 20),
+        plan("Kuhn 5", KUHN, kuhn(5), 6, 24, 2),
+        plan("Kuhn 6", KUHN, kuhn(6), 3, 6, 1),
+        plan("Leduc", LEDUC, leduc(), 48, 14_000, 20),
+    ];
+    let mut counts = Counts::new();
+    for plan in &plans {
+        let rivals = plan.all_tables(&mut counts, random);
+        let refused = plan.all_refusals(&mut counts, random);
+        let Plan { name, tables, .. } = plan;
+        println!("units, {name}: {tables} tables agree, {rivals} rivals of each seat are not better, {refused} calls are refused");
+    }
+    pure_rivals(random);
+    println!("units: at most {} bytes of stack", plans.iter().map(Plan::stack).max().expect("six games"));
+    counts.print();
+}
+
+/// The calls on one table, for one seat and with so many bytes of output.
+struct Asked {
+    call: Call,
+    seat: u64,
+    room: u64,
+}
+
+impl Asked {
+    /// Makes the three calls and holds all they leave to the reference.
+    fn held(&self, counts: &mut Counts, random: &mut Random) {
+        self.worths(counts, random);
+        self.best_reply(counts, random);
+        self.nash_conv(counts, random);
+    }
+
+    fn memory(&self, random: &mut Random) -> Memory {
+        let mut memory = Memory::new(self.call.words, self.room);
+        memory.fill_at_random(random);
+        memory
+    }
+
+    fn worths(&self, counts: &mut Counts, random: &mut Random) {
+        let Call { game, seats, d, table, .. } = &self.call;
+        let mut memory = self.memory(random);
+        let ours = worths(*game, *seats, &mut memory.work, *d, table);
+        let judged = self.call.worths();
+        let expected = WorthsAnswer { refusal: judged.refusal, count: judged.count, worths: judged.worths };
+        assert_eq!(ours, expected, "the worths of {:?}", self.call);
+        self.left(ours.refusal, 0, &memory);
+        counts.count(ours.refusal);
+    }
+
+    fn best_reply(&self, counts: &mut Counts, random: &mut Random) {
+        let Call { game, seats, d, table, .. } = &self.call;
+        let mut memory = self.memory(random);
+        let ours = best_reply(*game, *seats, &mut memory.work, self.seat, *d, table, &mut memory.out);
+        let judged = self.call.best_reply(self.seat, self.room);
+        let expected = ReplyAnswer { refusal: judged.refusal, value: judged.value };
+        assert_eq!(ours, expected, "the best value of seat {} in {:?}", self.seat, self.call);
+        let reply = &memory.out[..judged.reply.len()];
+        assert_eq!(reply, judged.reply, "the reply of seat {} in {:?}", self.seat, self.call);
+        self.left(ours.refusal, judged.reply.len(), &memory);
+        counts.count(ours.refusal);
+    }
+
+    fn nash_conv(&self, counts: &mut Counts, random: &mut Random) {
+        let Call { game, seats, d, table, .. } = &self.call;
+        let mut memory = self.memory(random);
+        let ours = nash_conv_units(*game, *seats, &mut memory.work, *d, table);
+        let judged = self.call.nash_conv();
+        let expected = NashConvAnswer { refusal: judged.refusal, nash_conv: judged.nash_conv, units: judged.units };
+        assert_eq!(ours, expected, "NashConv of {:?}", self.call);
+        self.left(ours.refusal, 0, &memory);
+        counts.count(ours.refusal);
+    }
+
+    /// A refused call leaves all of both; an accepted one the words past its share and the output past what it wrote.
+    fn left(&self, refusal: u64, wrote: usize, memory: &Memory) {
+        let from = if refusal == 0 { self.call.kept() } else { 0 };
+        assert!(memory.words_kept(from), "the work memory from word {from} of {:?}", self.call);
+        assert!(memory.bytes_kept(wrote), "the output from byte {wrote} of {:?}", self.call);
+    }
+}
+
+impl Plan {
+    /// The limits of D, and two numbers near the lower one.
+    fn d(&self, number: usize) -> u64 {
+        [1, self.tree.most_parts, 3, 2][number % 4]
+    }
+
+    /// A valid table, with lengths at or a little above those that are needed.
+    fn some_call(&self, number: usize, random: &mut Random) -> Call {
+        let d = self.d(number);
+        let mut call = Call::of(self.game, self.tree, d, table(self.tree, d, KINDS[number / 4 % KINDS.len()], random));
+        call.words += more(random);
+        call
+    }
+
+    /// All calls on each table, with some rivals of every seat. Answers how many rivals each seat had.
+    fn all_tables(&self, counts: &mut Counts, random: &mut Random) -> usize {
+        let each = self.rivals.div_ceil(self.tables);
+        for number in 0..self.tables {
+            // 24 tables have each kind with each D; fewer have another kind and another D in turn, the first mixed with the largest D.
+            let number = if self.tables < 24 { number * 5 + 1 } else { number };
+            let mut asked = Asked { call: self.some_call(number, random), seat: 0, room: 0 };
+            asked.worths(counts, random);
+            asked.nash_conv(counts, random);
+            for seat in 0..self.tree.seats {
+                asked.seat = seat as u64;
+                asked.room = self.tree.entries as u64 + more(random);
+                asked.best_reply(counts, random);
+                self.replied(&asked.call, seat, random);
+                self.rivals(&asked.call, seat, each, random);
+            }
+        }
+        each * self.tables
+    }
+
+    /// The best value of a table, by the archive, and the reply.
+    fn best(&self, call: &Call, seat: usize) -> (i64, Vec<u8>) {
+        let mut memory = Memory::new(call.words, self.tree.entries as u64);
+        let Memory { work, out, .. } = &mut memory;
+        let answer = best_reply(call.game, call.seats, work, seat as u64, call.d, &call.table, out);
+        assert_eq!(answer.refusal, 0, "{call:?}");
+        (answer.value, memory.out)
+    }
+
+    /// A seat's worth, by the archive.
+    fn worth(&self, call: &Call, table: &[u8], seat: usize) -> i64 {
+        let mut memory = Memory::new(call.words, 0);
+        let answer = worths(call.game, call.seats, &mut memory.work, call.d, table);
+        assert_eq!(answer.refusal, 0, "{call:?}");
+        answer.worths[seat]
+    }
+
+    /// The reply is worth the best value, and a seat's own entries do not matter to it.
+    fn replied(&self, call: &Call, seat: usize, random: &mut Random) {
+        let (value, reply) = self.best(call, seat);
+        assert_eq!(self.worth(call, &reply, seat), value, "the reply's worth in {call:?}");
+        let kind = random.pick(&KINDS);
+        let other = rival(self.tree, &call.table, seat, call.d, kind, random);
+        assert_eq!(self.best(&Call { table: other, ..call.clone() }, seat), (value, reply), "a rival of {call:?}");
+    }
+
+    /// No rival is worth more than the best value. Rivals are weighed by the reference, the first one by the archive too.
+    fn rivals(&self, call: &Call, seat: usize, rivals: usize, random: &mut Random) {
+        let best = self.best(call, seat).0;
+        for number in 0..rivals {
+            let rival = rival(self.tree, &call.table, seat, call.d, Kind::Mixed, random);
+            let worth = Played::new(self.tree, call.d, &rival).worths()[seat];
+            assert!(worth <= i128::from(best), "{rival:?} is worth {worth} to seat {seat} in {call:?}");
+            if number == 0 {
+                assert_eq!(i128::from(self.worth(call, &rival, seat)), worth, "{rival:?} in {call:?}");
+            }
+        }
+    }
+
+    /// Each of the numbers 1 to 9 so many times. Answers how many calls there were.
+    fn all_refusals(&self, counts: &mut Counts, random: &mut Random) -> usize {
+        for number in 1..=9 {
+            for time in 0..self.refused {
+                let asked = self.refused_with(number, time, random);
+                let Asked { call, seat, room } = &asked;
+                assert_eq!(call.best_reply(*seat, *room).refusal, number, "seat {seat} and {room} bytes with {call:?}");
+                asked.held(counts, random);
+            }
+        }
+        9 * self.refused
+    }
+
+    /// A call that is refused with a number, and may have reason to be refused with later ones.
+    fn refused_with(&self, number: u64, time: usize, random: &mut Random) -> Asked {
+        let room = self.tree.entries as u64 + more(random);
+        let call = self.some_call(time, random);
+        let mut asked = Asked { call, seat: random.below(self.tree.seats) as u64, room };
+        for later in ((number + 1).max(4)..=9).rev() {
+            if random.below(4) == 0 {
+                self.damage(&mut asked, later, random);
+            }
+        }
+        self.damage(&mut asked, number, random);
+        asked
+    }
+
+    /// Makes the call one that a check refuses.
+    fn damage(&self, asked: &mut Asked, number: u64, random: &mut Random) {
+        let Asked { call, seat, room } = asked;
+        match number {
+            1 => call.game = number_but(random, |game| game > LEDUC),
+            2 => {
+                call.seats =
+                    number_but(random, |seats| if self.game == KUHN { !(2..=10).contains(&seats) } else { seats != 2 })
+            }
+            3 => (call.game, call.seats) = (KUHN, 7 + random.below(4) as u64),
+            4 => call.words = fewer(words(self.tree), random),
+            5 => *seat = number_but(random, |seat| seat >= self.tree.seats as u64),
+            6 => call.d = number_but(random, |d| d == 0 || d > self.tree.most_parts),
+            7 => self.resize(call, random),
+            8 => self.unbalance(call, random),
+            _ => *room = fewer(self.tree.entries as u64, random),
+        }
+    }
+
+    fn resize(&self, call: &mut Call, random: &mut Random) {
+        let entries = self.tree.entries;
+        let length = match random.below(4) {
+            0 => random.below(entries),
+            1 => entries - 1,
+            2 => entries + 1,
+            _ => entries + 1 + random.below(entries),
+        };
+        call.table.resize(length, 0);
+    }
+
+    /// A part more, a part less, a part moved to another set, or a sum that a byte would take for D.
+    fn unbalance(&self, call: &mut Call, random: &mut Random) {
+        let set = &self.tree.sets[random.below(self.tree.sets.len())];
+        let Some(part) = call.table.get_mut(set.first..set.first + set.actions) else { return };
+        let place = random.below(part.len());
+        match random.below(3) {
+            0 => part[place] = part[place].wrapping_add(1),
+            1 => part[place] = part[place].wrapping_sub(1),
+            _ => {
+                part.fill(0);
+                part[place] = 255;
+                part[(place + 1) % set.actions] = (call.d as u8).wrapping_add(1);
+            }
+        }
+    }
+
+    /// The most stack that a call takes.
+    fn stack(&self) -> usize {
+        let call = self.some_call(1, &mut Random::new(1));
+        let mut memory = Memory::new(call.words, self.tree.entries as u64);
+        let Memory { work, out, .. } = &mut memory;
+        let Call { game, seats, d, table, .. } = &call;
+        let of_worths = stack_of(|| _ = worths(*game, *seats, work, *d, table));
+        let of_reply = stack_of(|| _ = best_reply(*game, *seats, work, 0, *d, table, out));
+        let of_nash_conv = stack_of(|| _ = nash_conv_units(*game, *seats, work, *d, table));
+        of_worths.max(of_reply).max(of_nash_conv)
+    }
+}
+
+/// All 64 pure rivals of each seat of some tables of Kuhn 2: the best of them is the best value.
+fn pure_rivals(random: &mut Random) {
+    let plan = Plan { name: "Kuhn 2", game: KUHN, tree: kuhn(2), tables: 240, rivals: 0, refused: 0 };
+    for number in 0..plan.tables {
+        let call = plan.some_call(number, random);
+        for seat in 0..2 {
+            let worth = |pure| plan.worth(&call, &pure_rival(plan.tree, &call.table, seat, call.d, pure), seat);
+            let best = (0..64).map(worth).max().expect("64 rivals");
+            assert_eq!(plan.best(&call, seat).0, best, "the pure rivals of seat {seat} in {call:?}");
+        }
+    }
+    println!("units, Kuhn 2: of {} tables all 64 pure rivals of each seat; the best is the best value", plan.tables);
+}
+
+/// 0 once in two, else a small number.
+fn more(random: &mut Random) -> u64 {
+    (random.below(2) * random.below(40)) as u64
+}
+
+/// A length below the given one: just below once in two.
+fn fewer(length: u64, random: &mut Random) -> u64 {
+    match random.below(2) {
+        0 => length - 1,
+        _ => random.below(length as usize) as u64,
+    }
+}
+
+/// A number of any size that passes a test.
+fn number_but(random: &mut Random, passes: impl Fn(u64) -> bool) -> u64 {
+    loop {
+        let number = some_number(random);
+        if passes(number) {
+            return number;
+        }
+    }
+}

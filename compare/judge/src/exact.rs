@@ -1,0 +1,327 @@
+//! Document 01's whole units over the tree of the unchanged Rust's moves: worths, best values with their replies, NashConv.
+//! Written for reading, not for speed, in i128, which no sum here can leave.
+
+use crate::whole;
+use reinfors_core::game::{Actor, Game};
+use reinfors_games::kuhn::KuhnPoker;
+use reinfors_games::leduc::LeducPoker;
+use std::collections::HashMap;
+use std::sync::OnceLock;
+
+/// The places of an answer that has a number for each seat.
+pub const SEATS: usize = 6;
+
+/// No payoff of either game is further from 0.
+const LARGEST_PAYOFF: i128 = 13;
+
+/// A game with the numbers of U = C × D^m and the limit of D.
+pub trait Whole: Game<Event = f64> {
+    /// C, which every product of fans divides.
+    fn deals(&self) -> i128;
+
+    /// m, the decisions of the longest hand.
+    fn moves(&self) -> u32;
+
+    fn most_parts(&self) -> u64;
+}
+
+impl Whole for KuhnPoker {
+    fn deals(&self) -> i128 {
+        (1..=self.players as i128 + 1).product()
+    }
+
+    fn moves(&self) -> u32 {
+        2 * self.players as u32 - 1
+    }
+
+    fn most_parts(&self) -> u64 {
+        if self.players <= 4 {
+            64
+        } else {
+            16
+        }
+    }
+}
+
+impl Whole for LeducPoker {
+    fn deals(&self) -> i128 {
+        120
+    }
+
+    fn moves(&self) -> u32 {
+        8
+    }
+
+    fn most_parts(&self) -> u64 {
+        64
+    }
+}
+
+pub enum Node {
+    /// The payoffs, 0 past the seats.
+    End([i64; SEATS]),
+    Chance(Vec<usize>),
+    Decision {
+        set: usize,
+        children: Vec<usize>,
+    },
+}
+
+pub struct Set {
+    pub seat: usize,
+    /// The place of its first entry in a table.
+    pub first: usize,
+    pub actions: usize,
+    /// Its nodes, in order.
+    pub members: Vec<usize>,
+}
+
+/// A game's tree: a node is numbered before its children, ends included, and a set at its first node.
+pub struct Tree {
+    pub seats: usize,
+    pub deals: i128,
+    pub moves: u32,
+    pub most_parts: u64,
+    pub nodes: Vec<Node>,
+    pub sets: Vec<Set>,
+    pub entries: usize,
+    numbers: HashMap<Vec<u8>, usize>,
+}
+
+impl Tree {
+    pub fn of<G: Whole>(game: &G) -> Tree {
+        let mut tree = Tree {
+            seats: game.num_agents(),
+            deals: game.deals(),
+            moves: game.moves(),
+            most_parts: game.most_parts(),
+            nodes: Vec::new(),
+            sets: Vec::new(),
+            entries: 0,
+            numbers: HashMap::new(),
+        };
+        tree.grow(game, &game.initial_state());
+        tree
+    }
+
+    /// Adds the tree from a position that has not ended; answers its number.
+    fn grow<G: Game<Event = f64>>(&mut self, game: &G, state: &G::State) -> usize {
+        let number = self.nodes.len();
+        let mut children = Vec::new();
+        match game.actor(state) {
+            Actor::Chance => {
+                self.nodes.push(Node::Chance(Vec::new()));
+                let fan = game.chance_node(state).enumerable_count().expect("the deal can be enumerated");
+                for outcome in 0..fan {
+                    let made = game.apply_chance_node(state, outcome);
+                    assert!(!made.terminal, "a deal ends no hand");
+                    children.push(self.grow(game, &made.next_state));
+                }
+                self.nodes[number] = Node::Chance(children);
+            }
+            Actor::Agent(seat) => {
+                let legal = game.legal_actions(state, seat);
+                let set = self.meet(game.information_state_key(state, seat), seat, legal.len());
+                self.sets[set].members.push(number);
+                self.nodes.push(Node::Decision { set, children: Vec::new() });
+                for action in legal {
+                    let made = game.step(state, &vec![action; self.seats]);
+                    let end = made.terminal;
+                    children.push(if end { self.end(&made.events) } else { self.grow(game, &made.next_state) });
+                }
+                self.nodes[number] = Node::Decision { set, children };
+            }
+            Actor::Simultaneous => unreachable!("both games are sequential"),
+        }
+        number
+    }
+
+    fn end(&mut self, events: &[Option<f64>]) -> usize {
+        let mut payoffs = [0; SEATS];
+        for (payoff, event) in payoffs.iter_mut().zip(events) {
+            *payoff = whole(event.expect("every seat has a payoff at an end"));
+            assert!(i128::from(payoff.abs()) <= LARGEST_PAYOFF);
+        }
+        self.nodes.push(Node::End(payoffs));
+        self.nodes.len() - 1
+    }
+
+    /// The number of the set with a key.
+    fn meet(&mut self, key: Vec<u8>, seat: usize, actions: usize) -> usize {
+        let next = self.sets.len();
+        let set = *self.numbers.entry(key).or_insert(next);
+        if set == next {
+            self.sets.push(Set { seat, first: self.entries, actions, members: Vec::new() });
+            self.entries += actions;
+        }
+        assert_eq!((self.sets[set].seat, self.sets[set].actions), (seat, actions), "members of a set are alike");
+        set
+    }
+
+    /// A set's own part of a table.
+    pub fn part<'a>(&self, table: &'a [u8], set: usize) -> &'a [u8] {
+        &table[self.sets[set].first..][..self.sets[set].actions]
+    }
+
+    /// The probabilities of each set by its key, as the Rust's evaluations ask for them.
+    pub fn profile(&self, table: &[u8], d: u64) -> HashMap<Vec<u8>, Vec<f64>> {
+        let probabilities = |set| self.part(table, set).iter().map(|&part| f64::from(part) / d as f64).collect();
+        self.numbers.iter().map(|(key, &set)| (key.clone(), probabilities(set))).collect()
+    }
+
+    /// The child behind an action of a decision.
+    fn child(&self, node: usize, action: usize) -> usize {
+        match &self.nodes[node] {
+            Node::Decision { children, .. } => children[action],
+            _ => unreachable!("a member is a decision"),
+        }
+    }
+
+    /// Whether the parts of each set add up to D.
+    pub fn adds_up(&self, table: &[u8], d: u64) -> bool {
+        let sum = |set| self.part(table, set).iter().map(|&part| u64::from(part)).sum::<u64>();
+        (0..self.sets.len()).all(|set| sum(set) == d)
+    }
+}
+
+/// The tree of Kuhn with 2 to 6 seats, made once.
+pub fn kuhn(players: usize) -> &'static Tree {
+    static TREES: [OnceLock<Tree>; 7] = [const { OnceLock::new() }; 7];
+    TREES[players].get_or_init(|| Tree::of(&KuhnPoker { players }))
+}
+
+/// Leduc's tree, made once.
+pub fn leduc() -> &'static Tree {
+    static TREE: OnceLock<Tree> = OnceLock::new();
+    TREE.get_or_init(|| Tree::of(&LeducPoker))
+}
+
+/// A valid table of a tree, with D parts in each set.
+pub struct Played<'a> {
+    pub tree: &'a Tree,
+    pub d: u64,
+    pub table: &'a [u8],
+}
+
+/// A seat's best value and its reply.
+pub struct Best {
+    pub value: i128,
+    pub reply: Vec<u8>,
+}
+
+impl<'a> Played<'a> {
+    pub fn new(tree: &'a Tree, d: u64, table: &'a [u8]) -> Self {
+        assert!((1..=tree.most_parts).contains(&d) && table.len() == tree.entries && tree.adds_up(table, d));
+        let played = Played { tree, d, table };
+        // No sum has more terms than the tree has nodes, no node more units than the root, and NashConv has two such sums for each seat.
+        let terms = (2 * SEATS * tree.nodes.len()) as i128;
+        played.units().checked_mul(LARGEST_PAYOFF * terms).expect("no sum below can leave i128");
+        played
+    }
+
+    /// U, the root's units.
+    pub fn units(&self) -> i128 {
+        let power = i128::from(self.d).checked_pow(self.tree.moves);
+        power.and_then(|power| power.checked_mul(self.tree.deals)).expect("U is within i128")
+    }
+
+    /// The units of each node; a responder's moves pass all of them on.
+    pub fn units_of_nodes(&self, responder: Option<usize>) -> Vec<i128> {
+        let mut units = vec![0; self.tree.nodes.len()];
+        units[0] = self.units();
+        for (number, node) in self.tree.nodes.iter().enumerate() {
+            let own = units[number];
+            match node {
+                Node::End(_) => {}
+                Node::Chance(children) => {
+                    children.iter().for_each(|&child| units[child] = evenly(own, children.len() as i128));
+                }
+                Node::Decision { set, children } if Some(self.tree.sets[*set].seat) == responder => {
+                    children.iter().for_each(|&child| units[child] = own);
+                }
+                Node::Decision { set, children } => {
+                    for (&child, &part) in children.iter().zip(self.tree.part(self.table, *set)) {
+                        units[child] = evenly(own * i128::from(part), i128::from(self.d));
+                    }
+                }
+            }
+        }
+        units
+    }
+
+    /// What each seat's table is worth, 0 past the seats.
+    pub fn worths(&self) -> [i128; SEATS] {
+        let mut worths = [0; SEATS];
+        for (node, units) in self.tree.nodes.iter().zip(self.units_of_nodes(None)) {
+            if let Node::End(payoffs) = node {
+                worths.iter_mut().zip(payoffs).for_each(|(worth, &payoff)| *worth += units * i128::from(payoff));
+            }
+        }
+        worths
+    }
+
+    pub fn best(&self, seat: usize) -> Best {
+        let units = self.units_of_nodes(Some(seat));
+        let mut search = Search { tree: self.tree, seat, units, choices: vec![None; self.tree.sets.len()] };
+        let value = search.value(0);
+        let mut reply = self.table.to_vec();
+        for (number, set) in self.tree.sets.iter().enumerate().filter(|(_, set)| set.seat == seat) {
+            reply[set.first..][..set.actions].fill(0);
+            reply[set.first + search.choice(number)] = self.d as u8;
+        }
+        Best { value, reply }
+    }
+
+    /// The sum of best − worth over the seats.
+    pub fn nash_conv(&self) -> i128 {
+        let worths = self.worths();
+        (0..self.tree.seats).map(|seat| self.best(seat).value - worths[seat]).sum()
+    }
+}
+
+fn evenly(units: i128, by: i128) -> i128 {
+    let share = units / by;
+    assert_eq!(share * by, units, "units divide evenly");
+    share
+}
+
+/// The values and choices of a responder. A choice asks the values below all members, and those ask deeper choices.
+struct Search<'a> {
+    tree: &'a Tree,
+    seat: usize,
+    units: Vec<i128>,
+    choices: Vec<Option<usize>>,
+}
+
+impl Search<'_> {
+    fn value(&mut self, node: usize) -> i128 {
+        let tree = self.tree;
+        match &tree.nodes[node] {
+            Node::End(payoffs) => self.units[node] * i128::from(payoffs[self.seat]),
+            Node::Decision { set, children } if tree.sets[*set].seat == self.seat => {
+                let choice = self.choice(*set);
+                self.value(children[choice])
+            }
+            Node::Chance(children) | Node::Decision { children, .. } => {
+                children.iter().map(|&child| self.value(child)).sum()
+            }
+        }
+    }
+
+    /// The lowest action with the greatest sum over the set's members.
+    fn choice(&mut self, set: usize) -> usize {
+        if let Some(choice) = self.choices[set] {
+            return choice;
+        }
+        let sums: Vec<i128> = (0..self.tree.sets[set].actions).map(|action| self.sum(set, action)).collect();
+        let greatest = *sums.iter().max().expect("a set has actions");
+        let choice = sums.iter().position(|&sum| sum == greatest).expect("the greatest is one of them");
+        self.choices[set] = Some(choice);
+        choice
+    }
+
+    fn sum(&mut self, set: usize, action: usize) -> i128 {
+        let tree = self.tree;
+        tree.sets[set].members.iter().map(|&member| self.value(tree.child(member, action))).sum()
+    }
+}

@@ -1,0 +1,24 @@
+-- `size` is safe and ends.
+-- Assumes nothing.
+use borrow.Author.Needs.{needs}
+use Rattle.replay.proofs.Whole.{mirrored-fits, mirrored-casts, mirrored-next}
+use Rattle.replay.proofs.line.size.Statement.{statement}
+use Rattle.replay.proofs.line.size.Tie as tie
+
+sub-result : tie.Need-sub-result
+sub-result c = mirrored-fits (c .before .args .number) (c .before .fits .number) (c .if1 .taken)
+
+cast-result : tie.Need-cast-result
+cast-result c = mirrored-casts (c .before .args .number) (c .before .fits .number) (c .if1 .taken)
+
+add-result : tie.Need-add-result
+add-result c = mirrored-next (c .before .args .number) (c .before .fits .number) (c .if1 .taken)
+
+returns : tie.Need-returns
+returns c = search needs
+
+returns-2 : tie.Need-returns-2
+returns-2 c = search needs
+
+pub size-spec : {M : Type 1} → statement M
+size-spec = tie.close (tie.spec sub-result cast-result add-result returns returns-2)
