@@ -1,0 +1,2 @@
+-- Lemmas on the call for a seat's best value and reply.
+pub mod Outcome

@@ -1,0 +1,33 @@
+-- What the call for a seat's best value and reply answers (document 01, "Whole units"), and the mission's third demand of it.
+use mathlib.Core.List.{List, _++_}
+use Prim.Native.Nat.{ℕ, zero, suc}
+use lib.IntN.{ℤ, pos}
+use lib.ListN.{length, take, drop}
+use Rattle.refusals.specs.Refusals.{first}
+use Rattle.game.specs.Sets.{entries}
+use Rattle.game.specs.Table.{Table, tableBest, replyTable}
+use Rattle.tables.specs.declared.Game.{Game}
+use Rattle.tables.specs.Games.{treeOf}
+use Rattle.tables.specs.Checks.{reply-checks}
+use Rattle.tables.specs.Facts.{rootUnits}
+use Rattle.best.specs.Best.{BestReply}
+use Rattle.best_reply.specs.declared.ReplyAnswer.{ReplyAnswer}
+
+-- the refusal number, 1 to 9 in order, 0 if the call was accepted
+abbrev pub reply-refusal : (g : Game) (words seat D : ℕ) (table : Table) (room : ℕ) → ℕ
+reply-refusal g words seat D table room = first (reply-checks g words seat D table room)
+
+-- the answer: the best value of the seat, 0 if the call was refused
+abbrev pub answer : ℕ → Game → (seat D : ℕ) → Table → ReplyAnswer
+answer zero g seat D table = record { refusal = 0; value = tableBest (treeOf g) D (rootUnits g D) table seat }
+answer (suc r) g seat D table = record { refusal = suc r; value = pos 0 }
+
+-- what the output holds then: the reply at its front and what it held beyond; all it held, if the call was refused
+abbrev pub written : ℕ → Game → (seat D : ℕ) → Table → List ℕ → List ℕ
+written zero g seat D table out = replyTable (treeOf g) D (rootUnits g D) table seat ++ drop (entries (treeOf g)) out
+written (suc r) g seat D table out = out
+
+-- of an accepted call: what stands at the front of the output is a valid table with every other seat's entries as given, it is worth the value to the seat, and no such table is worth more
+abbrev pub Demand : ℕ → Game → (seat D : ℕ) → Table → (value : ℤ) (out : List ℕ) → Type 0
+Demand zero g seat D table value out = BestReply g D seat table value (take (entries (treeOf g)) out)
+Demand (suc r) g seat D table value out = Unit {0}
