@@ -5,3 +5,4 @@ pub mod Winner
 pub mod Moves
 pub mod Balance
 pub mod Facts
+pub mod Apart

@@ -72,17 +72,23 @@ pub fn unknown_action(history: &[u8], acted: usize) -> bool
     false
 }
 
-// Whether a seat has bet.
+// Whether a seat has bet: its turns are n places apart.
 pub fn bet_by(history: &[u8], acted: usize, n: usize, player: usize) -> bool
     requires { ⌜ (acted ≤ length (now history)) × (1 ≤ n) ⌝ }
     ensures { λ r. ⌜ r ≡ bets n (take acted (now (history .entry))) player ⌝ }
 {
-    let mut i = 0;
+    if n <= player {
+        return false;
+    }
+    let mut i = player;
     while i < acted {
-        if i % n == player && history[i] == crate::BET {
+        if history[i] == crate::BET {
             return true;
         }
-        i += 1;
+        if acted - i <= n {
+            return false;
+        }
+        i += n;
     }
     false
 }

@@ -1,47 +1,61 @@
--- Whether a seat has bet: not among the actions passed. Assumes nothing.
-use Prim.Native.Nat.{_≤_, _-_, _%_}
-use mathlib.Core.Path.{_≡_, sym, _∙_}
-use mathlib.Core.Logic.{⊎-elim}
-use mathlib.Core.Bool.{false}
-use borrow.Author.Needs.{needs}
 use borrow.Author.Tests.{eq-eqb, ne-eqb}
-use lib.Dec.{eqb}
-use lib.ListN.{getD}
-use Rattle.finite.specs.Finite.{some, and}
-use Rattle.finite.proofs.Tests.{some-none, none-more, none-passed, some-here, both, and-left-fails, and-right-fails}
+use mathlib.Core.Path.{_≡_, sym, _∙_}
+use Prim.Native.Nat.{_≤_, _<_, _-_, _+_}
+use native.Mathlib.Omega.{arith}
+use borrow.Author.Needs.{needs}
+use denote.Ref.{now}
 use Rattle.kuhn_rules.proofs.Histories.{bets-take}
+use Rattle.kuhn_rules.proofs.Apart as apart
 use Rattle.kuhn_rules.proofs.betting.bet_by.Statement.{statement}
 use Rattle.kuhn_rules.proofs.betting.bet_by.Tie as tie
+use Rattle.kuhn_rules.proofs.betting.bet_by.Reads as reads
+use Rattle.kuhn_rules.proofs.betting.bet_by.Lts as lts
 
 abbrev Inv-loop : tie.InvT-loop
-Inv-loop history acted n player i₀ i = (i ≤ acted) × (some i (λ k. and (eqb (k % n) player) (eqb (getD history k 0) 1)) ≡ false)
+Inv-loop history acted n player i₀ i = apart.Unbet history n player i × (player < n)
 
 abbrev μ-loop : tie.MeasureT-loop
 μ-loop history acted n player i₀ i = acted - i
 
-loop-holds : tie.Need-loop-holds Inv-loop μ-loop
-loop-holds c = (search needs, some-none _)
-
-rem-if1 : tie.Need-rem-if1 Inv-loop μ-loop
-rem-if1 c = search needs
-
-shared-slice-read-if2 : tie.Need-shared-slice-read-if2 Inv-loop μ-loop
-shared-slice-read-if2 c = search needs
-
+-- src/betting.rt:81:9
 returns : tie.Need-returns Inv-loop μ-loop
-returns c = sym (bets-take _ _ _ _ (c .before .before .before .before .before .pre .0) ∙ some-here _ _ (c .before .before .before .before .loop .i) (search needs) (both (eq-eqb _ _ (c .before .before .if1 .taken)) (c .if2 .taken)))
+returns c = sym (bets-take (c .before .args .n) (c .before .args .acted) (now (c .before .args .history)) (c .before .args .player) (c .before .pre .0) ∙ apart.no-turn (now (c .before .args .history)) (c .before .args .n) (c .before .args .player) (c .before .args .acted) (c .before .pre .1) (c .if1 .taken))
 
+-- src/betting.rt:84:5
+loop-holds : tie.Need-loop-holds Inv-loop μ-loop
+loop-holds c = (apart.first-turn (now (c .before .args .history)) (c .before .args .n) (c .before .args .player) (omega (arith, c .if1 .left)), omega (arith, c .if1 .left))
+
+-- src/betting.rt:85:12
+shared-slice-read-if2 : tie.Need-shared-slice-read-if2 Inv-loop μ-loop
+shared-slice-read-if2 c = omega (arith, c .before .loop-test .taken, c .before .before .before .before .pre .0)
+
+-- src/betting.rt:86:13
+returns-2 : tie.Need-returns-2 Inv-loop μ-loop
+returns-2 c = sym (bets-take (c .before .before .before .before .before .args .n) (c .before .before .before .before .before .args .acted) (now (c .before .before .before .before .before .args .history)) (c .before .before .before .before .before .args .player) (c .before .before .before .before .before .pre .0) ∙ apart.bet-here (now (c .before .before .before .before .before .args .history)) (c .before .before .before .before .before .args .n) (c .before .before .before .before .before .args .player) (c .before .before .before .loop .i) (c .before .before .before .before .before .args .acted) (c .before .before .loop-test .taken) (c .before .before .before .loop .inv .0) (eq-eqb _ _ (c .if2 .taken)))
+
+-- src/betting.rt:88:12
+sub-if3 : tie.Need-sub-if3 Inv-loop μ-loop
+sub-if3 c = omega (arith, c .before .before .loop-test .taken)
+
+-- src/betting.rt:89:13
+returns-3 : tie.Need-returns-3 Inv-loop μ-loop
+returns-3 c = sym (bets-take (c .before .before .before .before .before .before .args .n) (c .before .before .before .before .before .before .args .acted) (now (c .before .before .before .before .before .before .args .history)) (c .before .before .before .before .before .before .args .player) (c .before .before .before .before .before .before .pre .0) ∙ apart.unbet (now (c .before .before .before .before .before .before .args .history)) (c .before .before .before .before .before .before .args .n) (c .before .before .before .before .before .before .args .player) (c .before .before .before .before .loop .i + c .before .before .before .before .before .before .args .n) (c .before .before .before .before .before .before .args .acted) (apart.next-turn (now (c .before .before .before .before .before .before .args .history)) (c .before .before .before .before .before .before .args .n) (c .before .before .before .before .before .before .args .player) (c .before .before .before .before .loop .i) (c .before .before .before .before .loop .inv .1) (c .before .before .before .before .loop .inv .0) (ne-eqb _ _ (c .before .if2 .left))) (omega (arith, c .if3 .taken, c .before .before .before .loop-test .taken)))
+
+-- src/betting.rt:91:9
 add-i : tie.Need-add-i Inv-loop μ-loop
 add-i c = search needs
 
+-- src/betting.rt:84:5
 loop-less : tie.Need-loop-less Inv-loop μ-loop
-loop-less c = search needs
+loop-less c = omega (arith, c .before .before .before .loop-test .taken, c .if3 .left, c .before .before .before .before .loop .inv .1)
 
+-- src/betting.rt:84:5
 loop-again : tie.Need-loop-again Inv-loop μ-loop
-loop-again c = (search needs, none-more _ _ (c .before .before .loop .inv .1) (⊎-elim (λ w. and-right-fails _ (w .2 .left)) (λ w. and-left-fails _ (ne-eqb _ _ (w .left))) (c .if1 .came)))
+loop-again c = (apart.next-turn (now (c .before .before .before .before .before .before .args .history)) (c .before .before .before .before .before .before .args .n) (c .before .before .before .before .before .before .args .player) (c .before .before .before .before .loop .i) (c .before .before .before .before .loop .inv .1) (c .before .before .before .before .loop .inv .0) (ne-eqb _ _ (c .before .if2 .left)), c .before .before .before .before .loop .inv .1)
 
-returns-2 : tie.Need-returns-2 Inv-loop μ-loop
-returns-2 c = sym (bets-take _ _ _ _ (c .before .before .pre .0) ∙ none-passed _ _ _ (c .before .loop .inv .0) (search needs) (c .before .loop .inv .1))
+-- src/betting.rt:76:1
+returns-4 : tie.Need-returns-4 Inv-loop μ-loop
+returns-4 c = sym (bets-take (c .before .before .before .args .n) (c .before .before .before .args .acted) (now (c .before .before .before .args .history)) (c .before .before .before .args .player) (c .before .before .before .pre .0) ∙ apart.unbet (now (c .before .before .before .args .history)) (c .before .before .before .args .n) (c .before .before .before .args .player) (c .before .loop .i) (c .before .before .before .args .acted) (c .before .loop .inv .0) (omega (arith, c .loop-test .left)))
 
 pub bet-by-spec : {M : Type 1} → statement M
 bet-by-spec =
@@ -49,11 +63,13 @@ bet-by-spec =
     (tie.spec
     Inv-loop
     μ-loop
-    loop-holds
-    rem-if1
-    shared-slice-read-if2
     returns
+    loop-holds
+    shared-slice-read-if2
+    returns-2
+    sub-if3
+    returns-3
     add-i
     loop-less
     loop-again
-    returns-2)
+    returns-4)
