@@ -1,6 +1,6 @@
 /*
- * Kuhn poker for 2 to 10 seats and Leduc hold'em for 2: the rules calls, the saved-position checks and the listing of libchukkanalli.a, for
- * x86-64 Linux.
+ * Kuhn poker for 2 to 10 seats and Leduc hold'em for 2: the rules calls, the saved-position checks, the listing and the
+ * evaluations in whole units of libchukkanalli.a, for x86-64 Linux.
  *
  * Every call is defined on every input, and answers a refusal number: 0 if it was accepted, else the first number of the list below that
  * applies. A refused call leaves all lent memory as it was. Every answer of a call on a position holds a position: the new one of an
@@ -181,6 +181,44 @@ typedef struct {
  * touched. Refuses with 1, 2, 3, 4, 9. */
 chukkanalli_listing chukkanalli_enumerate_infosets(
     uint64_t game, uint64_t seats, const uint64_t *work, size_t work_len, uint8_t *out, size_t out_len);
+
+/* The seats of a tree at most. */
+enum { CHUKKANALLI_TREE_SEATS = 6 };
+
+/* Whole units. A table lists the parts of each action, one byte each, set after set in set order; in each set they add up to d. The work memory
+ * holds 12 words for each node of the tree; what it holds within these after an accepted call is not said, and what is beyond stays.
+ * What the worths answer: the seats, and what the table is worth to each of them, 0 past them. */
+typedef struct {
+    uint64_t refusal;
+    uint64_t count;
+    int64_t worths[CHUKKANALLI_TREE_SEATS];
+} chukkanalli_worths_answer;
+
+/* What a table is worth to each seat. Refuses with 1, 2, 3, 4, 6, 7, 8. */
+chukkanalli_worths_answer chukkanalli_worths(
+    uint64_t game, uint64_t seats, uint64_t *work, size_t work_len, uint64_t d, const uint8_t *table, size_t table_len);
+
+/* What a best reply answers: the most that any table is worth to the seat which differs from the given one in that seat's sets only. */
+typedef struct {
+    uint64_t refusal;
+    int64_t value;
+} chukkanalli_reply_answer;
+
+/* Best value of a seat; the reply that is worth it goes to the front of the output: the table with d on one action in each of the seat's sets
+ * and 0 on the others. Refuses with 1 to 9. */
+chukkanalli_reply_answer chukkanalli_best_reply(uint64_t game, uint64_t seats, uint64_t *work, size_t work_len, uint64_t seat, uint64_t d,
+    const uint8_t *table, size_t table_len, uint8_t *out, size_t out_len);
+
+/* What NashConv answers: the sum of best value - worth over the seats, and the units of the root, to divide by. */
+typedef struct {
+    uint64_t refusal;
+    uint64_t nash_conv;
+    uint64_t units;
+} chukkanalli_nash_conv_answer;
+
+/* NashConv of a table. Refuses with 1, 2, 3, 4, 6, 7, 8. */
+chukkanalli_nash_conv_answer chukkanalli_nash_conv_units(
+    uint64_t game, uint64_t seats, uint64_t *work, size_t work_len, uint64_t d, const uint8_t *table, size_t table_len);
 
 #ifdef __cplusplus
 }

@@ -1,5 +1,6 @@
-// Whole units.
+// Whole units for C: the game's number and the seat count, then what the call of the crate takes.
 use best_reply::ReplyAnswer;
+use nash_conv_units::NashConvAnswer;
 use worths::WorthsAnswer;
 ghost use mathlib.Core.Path.{_≡_};
 ghost use lib.ListN.{length};
@@ -7,7 +8,10 @@ ghost use Rattle.tables.specs.Games.{gameOf};
 ghost use Rattle.whole.specs.Memory.{Left};
 ghost use Rattle.worths.specs.Calls as Worths;
 ghost use Rattle.best_reply.specs.Calls as Reply;
+ghost use Rattle.nash_conv_units.specs.Calls as Conv;
+ghost use Rattle.whole.specs.Accepted.{evaluation-refusal};
 
+// What a table is worth to each seat.
 #[no_mangle]
 pub extern "C" fn chukkanalli_worths(
     game: u64,
@@ -16,12 +20,13 @@ pub extern "C" fn chukkanalli_worths(
     d: u64,
     table: &[u8],
 ) -> WorthsAnswer
-    ensures answer { λ r. ⌜ r ≡ Worths.answer (Worths.worths-refusal (gameOf game seats) (length (now (work .entry))) d (now (table .entry))) (gameOf game seats) d (now (table .entry)) ⌝ }
+    ensures answer { λ r. ⌜ r ≡ Worths.answer (evaluation-refusal (gameOf game seats) (length (now (work .entry))) d (now (table .entry))) (gameOf game seats) d (now (table .entry)) ⌝ }
     ensures memory { λ r. ⌜ Left (r .refusal) (gameOf game seats) (now (work .entry)) (now (work .exit)) ⌝ }
 {
     worths::worths(game as usize, seats as usize, work, d as usize, table)
 }
 
+// A seat's best value, and the reply that is worth it.
 #[no_mangle]
 pub extern "C" fn chukkanalli_best_reply(
     game: u64,
@@ -46,4 +51,20 @@ pub extern "C" fn chukkanalli_best_reply(
         table,
         out,
     )
+}
+
+// NashConv: the sum of best value − worth over the seats.
+#[no_mangle]
+pub extern "C" fn chukkanalli_nash_conv_units(
+    game: u64,
+    seats: u64,
+    work: &mut [u64],
+    d: u64,
+    table: &[u8],
+) -> NashConvAnswer
+    ensures answer { λ r. ⌜ r ≡ Conv.answer (evaluation-refusal (gameOf game seats) (length (now (work .entry))) d (now (table .entry))) (gameOf game seats) d (now (table .entry)) ⌝ }
+    ensures whole { λ r. ⌜ Conv.Whole r (gameOf game seats) d (now (table .entry)) ⌝ }
+    ensures memory { λ r. ⌜ Left (r .refusal) (gameOf game seats) (now (work .entry)) (now (work .exit)) ⌝ }
+{
+    nash_conv_units::nash_conv_units(game as usize, seats as usize, work, d as usize, table)
 }

@@ -1,15 +1,16 @@
 -- What a call knows once its checks have passed. Assumes nothing.
-use mathlib.Core.Path.{_≡_, refl}
+use mathlib.Core.Path.{_≡_, refl, sym, _∙_}
 use mathlib.Core.Bool.{Bool, true, false, not}
-use mathlib.Core.List.{[], _∷_, _++_}
+use mathlib.Core.List.{List, [], _∷_, _++_}
 use Prim.Native.Nat.{ℕ, _*_, _≤_}
 use native.Mathlib.Omega.{arith}
 use lib.Dec.{eqb, ltb}
-use lib.ListN.{length}
+use lib.ListN.{length, take}
+use lib.Seq.{length-take-le}
 use borrow.Author.Tests.{ltb-false, eqb-true, eqb-false, not-false}
 use Rattle.refusals.specs.Refusals.{_refuses_, first}
 use Rattle.finite.specs.Finite.{or}
-use Rattle.finite.proofs.Tests.{or-false-left, or-false-right}
+use Rattle.finite.proofs.Tests.{Tested, holds, fails, tested, or-false-left, or-false-right}
 use Rattle.game.specs.Sets.{size, setActions, entries}
 use Rattle.game.specs.Table.{Table, addUp}
 use Rattle.tables.specs.declared.Game.{Game}
@@ -17,8 +18,10 @@ use Rattle.tables.specs.Games.{treeOf, mostParts}
 use Rattle.tables.specs.Checks.{seats-out, tree-checks, parts-checks, table-checks}
 use Rattle.tables.specs.Facts.{nodesOf}
 use Rattle.tables.proofs.Facts.{nodes-are}
+use Rattle.tables.proofs.Order.{first-refused, tree-passed}
 use Rattle.whole.specs.Facts.{Known}
 use Rattle.whole.specs.Accepted.{Accepted}
+use Rattle.whole.specs.Checks.{evaluation-refusal}
 
 module _ (g : Game) (words : ℕ) (e : first (tree-checks g words) ≡ 0) where
   four : (a b c d : Bool) → first ((a refuses 1) ∷ (b refuses 2) ∷ (c refuses 3) ∷ (d refuses 4) ∷ []) ≡ 0 → (a ≡ false) × (b ≡ false) × (c ≡ false) × (d ≡ false)
@@ -67,3 +70,24 @@ module _ (g : Game) (D : ℕ) (table : Table) (e : first (parts-checks g D ++ ta
     where
       one-at-least : (D ≡ 0 → ⊥) → 1 ≤ D
       one-at-least f = omega arith
+
+-- ---- an accepted call that evaluates all seats
+module _ (g : Game) (words D : ℕ) (table : Table) (e : evaluation-refusal g words D table ≡ 0) where
+  tree-accepted : first (tree-checks g words) ≡ 0
+  tree-accepted = at (tested (eqb (first (tree-checks g words)) 0))
+    where
+      at : Tested (eqb (first (tree-checks g words)) 0) → first (tree-checks g words) ≡ 0
+      at (holds t) = eqb-true (first (tree-checks g words)) 0 t
+      at (fails t) = first-refused (tree-checks g words) (parts-checks g D ++ table-checks g D table) (eqb-false (first (tree-checks g words)) 0 t) ∙ e
+
+  pub accepted-game : Known g
+  accepted-game = game-known g words tree-accepted
+
+  pub accepted-table : Accepted g D table
+  accepted-table = table-accepted g D table (sym (tree-passed g words (parts-checks g D ++ table-checks g D table) tree-accepted) ∙ e) accepted-game
+
+  pub nodes-room : (n : ℕ) → n ≡ nodesOf g → 12 * n ≤ words
+  nodes-room n q = omega (arith, enough-nodes g words tree-accepted)
+
+  pub part-room : (n : ℕ) (work : List ℕ) → n ≡ nodesOf g → length work ≡ words → 12 * nodesOf g ≤ length (take (12 * n) work)
+  part-room n work q l = omega (arith, length-take-le (12 * n) work (omega (arith, enough-nodes g words tree-accepted)))

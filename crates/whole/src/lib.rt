@@ -1,4 +1,4 @@
-// Whole units by game number: the units of a game's root, and what a table is worth.
+// Whole units by game number: what refuses a call, the units of a game's root, and what a table is worth.
 pub mod worths;
 
 use tables::Game;
@@ -7,6 +7,18 @@ ghost use Prim.Native.Nat.{_*_, _^_, _≤_, _<_};
 ghost use Rattle.tables.specs.Games.{mostParts};
 ghost use Rattle.tables.specs.Facts.{rootUnits};
 ghost use Rattle.whole.specs.Facts.{Known};
+ghost use Rattle.whole.specs.Checks.{evaluation-refusal};
+
+// What refuses a call that evaluates all seats of a table with d parts in each set, with so many words of work memory: 1 to 4, then 6 to 8.
+pub fn evaluation_refusal(g: Game, words: usize, d: usize, table: &[u8]) -> u64
+    ensures { λ r. ⌜ r ≡ evaluation-refusal g words d (now (table .entry)) ⌝ }
+{
+    let tree = tables::tree_refusal(g, words);
+    if tree != refusals::ACCEPTED {
+        return tree;
+    }
+    tables::table_refusal(g, d, table)
+}
 
 // C of the units: (n + 1)! for Kuhn with 2 to 6 seats, from place 2, and Leduc's.
 const KUHN_C: [u64; 7] = [0, 0, 6, 24, 120, 720, 5040];

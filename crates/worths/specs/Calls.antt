@@ -1,22 +1,11 @@
 -- What the call for the worths answers (document 01, "Whole units": "The answer with the worths holds six whole numbers, 0 past the seats").
-use mathlib.Core.List.{List, _++_}
 use Prim.Native.Nat.{ℕ, zero, suc}
 use lib.IntN.{pos}
 use lib.ListN.{replicate}
-use Rattle.refusals.specs.Refusals.{Check, first}
 use Rattle.game.specs.Table.{Table}
 use Rattle.tables.specs.declared.Game.{Game}
-use Rattle.tables.specs.Checks.{tree-checks, parts-checks, table-checks}
 use Rattle.whole.specs.Worths.{worthsOf}
 use Rattle.worths.specs.declared.WorthsAnswer.{WorthsAnswer}
-
--- 1 to 4, then 6 to 8
-abbrev pub worths-checks : (g : Game) (words D : ℕ) (table : Table) → List Check
-worths-checks g words D table = tree-checks g words ++ (parts-checks g D ++ table-checks g D table)
-
--- the refusal number, 0 if the call was accepted
-abbrev pub worths-refusal : (g : Game) (words D : ℕ) (table : Table) → ℕ
-worths-refusal g words D table = first (worths-checks g words D table)
 
 -- the answer: how many seats there are, and what the table is worth to each of them, 0 past them; every number but the refusal is 0, if the call was refused
 abbrev pub answer : ℕ → Game → (D : ℕ) → Table → WorthsAnswer

@@ -1,2 +1,2 @@
--- The worths of a table (document 01, "Whole units"): the call, its checks and its answer.
+-- The worths of a table (document 01, "Whole units"): what the call answers.
 pub mod Calls

@@ -8,7 +8,8 @@ ghost use Rattle.tables.specs.Facts.{nodesOf};
 ghost use Rattle.whole.specs.Worths.{worthsOf};
 ghost use Rattle.whole.specs.Memory.{Left};
 ghost use Rattle.whole.specs.Accepted.{Accepted};
-ghost use Rattle.worths.specs.Calls.{worths-refusal, answer};
+ghost use Rattle.whole.specs.Checks.{evaluation-refusal};
+ghost use Rattle.worths.specs.Calls.{answer};
 
 // A call's refusal number, 0 if it was accepted, and the worth of each of count seats, 0 past them; every number but the first is 0 if it was refused. C has it as it is.
 #[repr(C)]
@@ -16,17 +17,6 @@ pub struct WorthsAnswer {
     pub refusal: u64,
     pub count: usize,
     pub worths: [i64; 6],
-}
-
-// What refuses a table with d parts in each set, with so many words of work memory: 1 to 4, then 6 to 8.
-fn refusal_of(g: Game, words: usize, d: usize, table: &[u8]) -> u64
-    ensures { λ r. ⌜ r ≡ worths-refusal g words d (now (table .entry)) ⌝ }
-{
-    let tree = tables::tree_refusal(g, words);
-    if tree != refusals::ACCEPTED {
-        return tree;
-    }
-    tables::table_refusal(g, d, table)
 }
 
 // The worths of a table that is not refused, with the game's tree stored in the words for it.
@@ -40,11 +30,11 @@ fn evaluate(g: Game, words: &mut [u64], d: usize, table: &[u8]) -> [i64; 6]
 
 // What a table with d parts in each set is worth to each seat, in whole units. The tree is built at the front of the work memory, which has 12 words for each node.
 pub fn worths(number: usize, seats: usize, work: &mut [u64], d: usize, table: &[u8]) -> WorthsAnswer
-    ensures answer { λ r. ⌜ r ≡ answer (worths-refusal (gameOf number seats) (length (now (work .entry))) d (now (table .entry))) (gameOf number seats) d (now (table .entry)) ⌝ }
+    ensures answer { λ r. ⌜ r ≡ answer (evaluation-refusal (gameOf number seats) (length (now (work .entry))) d (now (table .entry))) (gameOf number seats) d (now (table .entry)) ⌝ }
     ensures memory { λ r. ⌜ Left (r .refusal) (gameOf number seats) (now (work .entry)) (now (work .exit)) ⌝ }
 {
     let g = Game { number, seats };
-    let refusal = refusal_of(g, work.len(), d, table);
+    let refusal = whole::evaluation_refusal(g, work.len(), d, table);
     if refusal != refusals::ACCEPTED {
         return WorthsAnswer {
             refusal,

@@ -6,46 +6,47 @@ use lib.ListN.{length}
 use lib.Seq.{length-take-le}
 use Rattle.tables.specs.Games.{gameOf}
 use Rattle.whole.proofs.Leaving.{all-left, rest-left}
-use Rattle.worths.proofs.Outcome.{accepted-game, accepted-table, nodes-room, part-room, not-valued, valued}
+use Rattle.whole.proofs.Passed.{accepted-game, accepted-table, nodes-room, part-room}
+use Rattle.worths.proofs.Outcome.{not-valued, valued}
 use borrow.Author.Needs.{needs}
 use Rattle.worths.proofs.worths.Statement.{statement}
 use Rattle.worths.proofs.worths.Tie as tie
 
-refusal-of-requires : tie.Need-refusal-of-requires
-refusal-of-requires c κs = search needs
+evaluation-refusal-requires : tie.Need-evaluation-refusal-requires
+evaluation-refusal-requires c κs = search needs
 
 returns : tie.Need-returns
-returns c = (not-valued _ _ (gameOf (c .before .before .before .before .args .number) (c .before .before .before .before .args .seats)) (c .before .before .before .before .args .d) (c .before .before .before .before .args .table .now) (c .before .refusal-of .ensures) (c .if1 .taken), all-left _ (gameOf (c .before .before .before .before .args .number) (c .before .before .before .before .args .seats)) (c .before .before .before .before .args .work .now) (c .if1 .taken))
+returns c = (not-valued _ _ (gameOf (c .before .before .before .before .args .number) (c .before .before .before .before .args .seats)) (c .before .before .before .before .args .d) (c .before .before .before .before .args .table .now) (c .before .evaluation-refusal .ensures) (c .if1 .taken), all-left _ (gameOf (c .before .before .before .before .args .number) (c .before .before .before .before .args .seats)) (c .before .before .before .before .args .work .now) (c .if1 .taken))
 
 nodes-requires : tie.Need-nodes-requires
-nodes-requires c κs = accepted-game (gameOf (c .before .before .before .before .args .number) (c .before .before .before .before .args .seats)) (length (c .before .before .before .before .args .work .now)) (c .before .before .before .before .args .d) (c .before .before .before .before .args .table .now) (sym (c .before .refusal-of .ensures) ∙ c .if1 .left) .seats
+nodes-requires c κs = accepted-game (gameOf (c .before .before .before .before .args .number) (c .before .before .before .before .args .seats)) (length (c .before .before .before .before .args .work .now)) (c .before .before .before .before .args .d) (c .before .before .before .before .args .table .now) (sym (c .before .evaluation-refusal .ensures) ∙ c .if1 .left) .seats
 
 mul-words : tie.Need-mul-words
-mul-words c = omega (arith, nodes-room (gameOf (c .before .before .before .before .before .args .number) (c .before .before .before .before .before .args .seats)) (length (c .before .before .before .before .before .args .work .now)) (c .before .before .before .before .before .args .d) (c .before .before .before .before .before .args .table .now) (sym (c .before .before .refusal-of .ensures) ∙ c .before .if1 .left) _ (c .nodes .ensures))
+mul-words c = omega (arith, nodes-room (gameOf (c .before .before .before .before .before .args .number) (c .before .before .before .before .before .args .seats)) (length (c .before .before .before .before .before .args .work .now)) (c .before .before .before .before .before .args .d) (c .before .before .before .before .before .args .table .now) (sym (c .before .before .evaluation-refusal .ensures) ∙ c .before .if1 .left) _ (c .nodes .ensures))
 
 slice-relend-prefix-evaluate : tie.Need-slice-relend-prefix-evaluate
-slice-relend-prefix-evaluate c = nodes-room (gameOf (c .before .before .before .before .before .args .number) (c .before .before .before .before .before .args .seats)) (length (c .before .before .before .before .before .args .work .now)) (c .before .before .before .before .before .args .d) (c .before .before .before .before .before .args .table .now) (sym (c .before .before .refusal-of .ensures) ∙ c .before .if1 .left) _ (c .nodes .ensures)
+slice-relend-prefix-evaluate c = nodes-room (gameOf (c .before .before .before .before .before .args .number) (c .before .before .before .before .before .args .seats)) (length (c .before .before .before .before .before .args .work .now)) (c .before .before .before .before .before .args .d) (c .before .before .before .before .before .args .table .now) (sym (c .before .before .evaluation-refusal .ensures) ∙ c .before .if1 .left) _ (c .nodes .ensures)
 
 slice-aggregate-evaluate : tie.Need-slice-aggregate-evaluate
-slice-aggregate-evaluate c = sym (length-take-le (12 * c .before .nodes .result) (c .before .before .before .before .before .before .args .work .now) (nodes-room (gameOf (c .before .before .before .before .before .before .args .number) (c .before .before .before .before .before .before .args .seats)) (length (c .before .before .before .before .before .before .args .work .now)) (c .before .before .before .before .before .before .args .d) (c .before .before .before .before .before .before .args .table .now) (sym (c .before .before .before .refusal-of .ensures) ∙ c .before .before .if1 .left) _ (c .before .nodes .ensures)))
+slice-aggregate-evaluate c = sym (length-take-le (12 * c .before .nodes .result) (c .before .before .before .before .before .before .args .work .now) (nodes-room (gameOf (c .before .before .before .before .before .before .args .number) (c .before .before .before .before .before .before .args .seats)) (length (c .before .before .before .before .before .before .args .work .now)) (c .before .before .before .before .before .before .args .d) (c .before .before .before .before .before .before .args .table .now) (sym (c .before .before .before .evaluation-refusal .ensures) ∙ c .before .before .if1 .left) _ (c .before .nodes .ensures)))
 
 evaluate-requires : tie.Need-evaluate-requires
-evaluate-requires c κs = (accepted-table (gameOf (c .before .before .before .before .before .before .args .number) (c .before .before .before .before .before .before .args .seats)) (length (c .before .before .before .before .before .before .args .work .now)) (c .before .before .before .before .before .before .args .d) (c .before .before .before .before .before .before .args .table .now) (sym (c .before .before .before .refusal-of .ensures) ∙ c .before .before .if1 .left), part-room (gameOf (c .before .before .before .before .before .before .args .number) (c .before .before .before .before .before .before .args .seats)) (length (c .before .before .before .before .before .before .args .work .now)) (c .before .before .before .before .before .before .args .d) (c .before .before .before .before .before .before .args .table .now) (sym (c .before .before .before .refusal-of .ensures) ∙ c .before .before .if1 .left) _ (c .before .before .before .before .before .before .args .work .now) (c .before .nodes .ensures) refl)
+evaluate-requires c κs = (accepted-table (gameOf (c .before .before .before .before .before .before .args .number) (c .before .before .before .before .before .before .args .seats)) (length (c .before .before .before .before .before .before .args .work .now)) (c .before .before .before .before .before .before .args .d) (c .before .before .before .before .before .before .args .table .now) (sym (c .before .before .before .evaluation-refusal .ensures) ∙ c .before .before .if1 .left), part-room (gameOf (c .before .before .before .before .before .before .args .number) (c .before .before .before .before .before .before .args .seats)) (length (c .before .before .before .before .before .before .args .work .now)) (c .before .before .before .before .before .before .args .d) (c .before .before .before .before .before .before .args .table .now) (sym (c .before .before .before .evaluation-refusal .ensures) ∙ c .before .before .if1 .left) _ (c .before .before .before .before .before .before .args .work .now) (c .before .nodes .ensures) refl)
 
 same-length : tie.Need-same-length
 same-length c = search needs
 
 returns-2 : tie.Need-returns-2
 returns-2 c = (
-  valued _ _ (gameOf (c .before .before .before .before .before .before .before .before .before .args .number) (c .before .before .before .before .before .before .before .before .before .args .seats)) (c .before .before .before .before .before .before .before .before .before .args .d) (c .before .before .before .before .before .before .before .before .before .args .table .now) (c .before .before .before .before .before .before .refusal-of .ensures) _ (c .before .before .before .before .before .if1 .left) (c .before .before .evaluate .ensures),
-  rest-left _ _ (gameOf (c .before .before .before .before .before .before .before .before .before .args .number) (c .before .before .before .before .before .before .before .before .before .args .seats)) (c .before .before .before .before .before .before .before .before .before .args .work .now) (c .before .before .evaluate .last .1 .0) (c .before .before .before .before .before .if1 .left) (accepted-game (gameOf (c .before .before .before .before .before .before .before .before .before .args .number) (c .before .before .before .before .before .before .before .before .before .args .seats)) (length (c .before .before .before .before .before .before .before .before .before .args .work .now)) (c .before .before .before .before .before .before .before .before .before .args .d) (c .before .before .before .before .before .before .before .before .before .args .table .now) (sym (c .before .before .before .before .before .before .refusal-of .ensures) ∙ c .before .before .before .before .before .if1 .left) .seats) (c .before .before .before .before .nodes .ensures) (nodes-room (gameOf (c .before .before .before .before .before .before .before .before .before .args .number) (c .before .before .before .before .before .before .before .before .before .args .seats)) (length (c .before .before .before .before .before .before .before .before .before .args .work .now)) (c .before .before .before .before .before .before .before .before .before .args .d) (c .before .before .before .before .before .before .before .before .before .args .table .now) (sym (c .before .before .before .before .before .before .refusal-of .ensures) ∙ c .before .before .before .before .before .if1 .left) _ (c .before .before .before .before .nodes .ensures)) (c .before .before .evaluate .kept .1 .0),
+  valued _ _ (gameOf (c .before .before .before .before .before .before .before .before .before .args .number) (c .before .before .before .before .before .before .before .before .before .args .seats)) (c .before .before .before .before .before .before .before .before .before .args .d) (c .before .before .before .before .before .before .before .before .before .args .table .now) (c .before .before .before .before .before .before .evaluation-refusal .ensures) _ (c .before .before .before .before .before .if1 .left) (c .before .before .evaluate .ensures),
+  rest-left _ _ (gameOf (c .before .before .before .before .before .before .before .before .before .args .number) (c .before .before .before .before .before .before .before .before .before .args .seats)) (c .before .before .before .before .before .before .before .before .before .args .work .now) (c .before .before .evaluate .last .1 .0) (c .before .before .before .before .before .if1 .left) (accepted-game (gameOf (c .before .before .before .before .before .before .before .before .before .args .number) (c .before .before .before .before .before .before .before .before .before .args .seats)) (length (c .before .before .before .before .before .before .before .before .before .args .work .now)) (c .before .before .before .before .before .before .before .before .before .args .d) (c .before .before .before .before .before .before .before .before .before .args .table .now) (sym (c .before .before .before .before .before .before .evaluation-refusal .ensures) ∙ c .before .before .before .before .before .if1 .left) .seats) (c .before .before .before .before .nodes .ensures) (nodes-room (gameOf (c .before .before .before .before .before .before .before .before .before .args .number) (c .before .before .before .before .before .before .before .before .before .args .seats)) (length (c .before .before .before .before .before .before .before .before .before .args .work .now)) (c .before .before .before .before .before .before .before .before .before .args .d) (c .before .before .before .before .before .before .before .before .before .args .table .now) (sym (c .before .before .before .before .before .before .evaluation-refusal .ensures) ∙ c .before .before .before .before .before .if1 .left) _ (c .before .before .before .before .nodes .ensures)) (c .before .before .evaluate .kept .1 .0),
 )
 
 pub worths-spec : {M : Type 1} → statement M
 worths-spec =
     tie.close
     (tie.spec
-    refusal-of-requires
+    evaluation-refusal-requires
     returns
     nodes-requires
     mul-words

@@ -3,8 +3,8 @@ use mathlib.Core.Path.{sym, _∙_}
 use Rattle.tables.specs.Checks.{tree-checks}
 use Rattle.tables.proofs.Order.{first-refused, tree-known, tree-passed}
 use borrow.Author.Needs.{needs}
-use Rattle.worths.proofs.refusal_of.Statement.{statement}
-use Rattle.worths.proofs.refusal_of.Tie as tie
+use Rattle.whole.proofs.evaluation_refusal.Statement.{statement}
+use Rattle.whole.proofs.evaluation_refusal.Tie as tie
 
 tree-refusal-requires : tie.Need-tree-refusal-requires
 tree-refusal-requires c κs = search needs
@@ -18,6 +18,6 @@ table-refusal-requires c κs = tree-known (c .before .before .before .args .g) (
 returns-2 : tie.Need-returns-2
 returns-2 c = c .table-refusal .ensures ∙ sym (tree-passed (c .before .before .before .before .args .g) (c .before .before .before .before .args .words) _ (sym (c .before .before .tree-refusal .ensures) ∙ c .before .if1 .left))
 
-pub refusal-of-spec : {M : Type 1} → statement M
-refusal-of-spec =
+pub evaluation-refusal-spec : {M : Type 1} → statement M
+evaluation-refusal-spec =
     tie.close (tie.spec tree-refusal-requires returns table-refusal-requires returns-2)

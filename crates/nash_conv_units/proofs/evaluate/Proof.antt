@@ -1,0 +1,76 @@
+-- The sum is NashConv over the seats passed. Assumes nothing.
+use mathlib.Core.Path.{_≡_, refl, _∙_}
+use Prim.Native.Nat.{_-_, _≤_}
+use native.Mathlib.Omega.{arith}
+use lib.IntN.{pos}
+use lib.ListN.{length}
+use denote.Ref.{now}
+use Rattle.game.specs.Table.{nashConv}
+use Rattle.tables.specs.Games.{treeOf}
+use Rattle.tables.specs.Facts.{rootUnits}
+use Rattle.stored.specs.Stored.{Stored}
+use Rattle.nash_conv_units.proofs.Seats.{few-seats, seat-worth, no-seats, one-seat-more, sum-fits, all-seats}
+use borrow.Author.Needs.{needs}
+use Rattle.nash_conv_units.proofs.evaluate.Statement.{statement}
+use Rattle.nash_conv_units.proofs.evaluate.Tie as tie
+
+abbrev Inv-loop : tie.InvT-loop
+Inv-loop g words₀ d table worths seats sum₀ seat₀ words sum seat = (seat ≤ g .seats) × (pos sum ≡ nashConv (treeOf g) d (rootUnits g d) table seat) × Stored g words × (length words ≡ length words₀)
+
+abbrev μ-loop : tie.MeasureT-loop
+μ-loop g words₀ d table worths seats sum₀ seat₀ words sum seat = g .seats - seat
+
+store-requires : tie.Need-store-requires Inv-loop μ-loop
+store-requires c κs = record { known = c .before .before .before .pre .0 .game .known; seats = c .before .before .before .pre .0 .game .seats; small = c .before .before .before .pre .0 .game .small; words = c .before .before .before .pre .1 }
+
+table-worths-requires : tie.Need-table-worths-requires Inv-loop μ-loop
+table-worths-requires c κs = (c .before .before .before .store .ensures, c .before .before .before .before .before .before .before .pre .0)
+
+loop-holds : tie.Need-loop-holds Inv-loop μ-loop
+loop-holds c = (search needs, no-seats (c .before .before .before .before .before .before .before .before .args .g) (c .before .before .before .before .before .before .before .before .args .d) (now (c .before .before .before .before .before .before .before .before .args .table)) (c .before .before .before .before .before .before .before .before .pre .0), c .before .before .before .before .store .ensures, refl)
+
+mul-seat-excess : tie.Need-mul-seat-excess Inv-loop μ-loop
+mul-seat-excess c = record { fits = omega (arith, few-seats (c .before .before .before .before .before .before .before .before .before .before .before .args .g) (c .before .before .before .before .before .before .before .before .before .before .before .args .d) (now (c .before .before .before .before .before .before .before .before .before .before .before .args .table)) (c .before .before .before .before .before .before .before .before .before .before .before .pre .0), c .before .loop-test .taken) }
+
+array-copy-out-seat-excess : tie.Need-array-copy-out-seat-excess Inv-loop μ-loop
+array-copy-out-seat-excess c = omega (arith, few-seats (c .before .before .before .before .before .before .before .before .before .before .before .args .g) (c .before .before .before .before .before .before .before .before .before .before .before .args .d) (now (c .before .before .before .before .before .before .before .before .before .before .before .args .table)) (c .before .before .before .before .before .before .before .before .before .before .before .pre .0), c .before .loop-test .taken)
+
+seat-excess-requires : tie.Need-seat-excess-requires Inv-loop μ-loop
+seat-excess-requires c κs = (c .before .before .before .loop .inv .2, c .before .before .before .before .before .before .before .before .before .before .before .before .pre .0, c .before .before .loop-test .taken, omega (arith, c .before .before .before .before .before .before .before .before .before .before .before .before .pre .1, c .before .before .before .loop .inv .3, c .before .before .before .before .before .before .before .before .store .kept .1 .0), seat-worth (c .before .before .before .before .before .before .before .before .before .before .before .before .args .g) (c .before .before .before .before .before .before .before .before .before .before .before .before .args .d) (now (c .before .before .before .before .before .before .before .before .before .before .before .before .args .table)) (c .before .before .before .before .before .before .before .before .before .before .before .before .pre .0) (c .before .before .before .before .table-worths .result) (c .before .before .before .loop .seat) (c .before .before .before .before .table-worths .ensures) (c .before .before .loop-test .taken))
+
+add-sum : tie.Need-add-sum Inv-loop μ-loop
+add-sum c = sum-fits (c .before .before .before .before .before .before .before .before .before .before .before .before .before .before .before .args .g) (c .before .before .before .before .before .before .before .before .before .before .before .before .before .before .before .args .d) (now (c .before .before .before .before .before .before .before .before .before .before .before .before .before .before .before .args .table)) (c .before .before .before .before .before .before .before .before .before .before .before .before .before .before .before .pre .0) (c .before .before .before .before .before .before .loop .seat) (c .before .before .before .before .before .before .loop .sum) (c .before .before .seat-excess .result) (c .before .before .before .before .before .before .loop .inv .1) (c .before .before .seat-excess .ensures .0) (c .before .before .before .before .before .loop-test .taken)
+
+add-seat : tie.Need-add-seat Inv-loop μ-loop
+add-seat c = record { fits = omega (arith, few-seats (c .before .before .before .before .before .before .before .before .before .before .before .before .before .before .before .args .g) (c .before .before .before .before .before .before .before .before .before .before .before .before .before .before .before .args .d) (now (c .before .before .before .before .before .before .before .before .before .before .before .before .before .before .before .args .table)) (c .before .before .before .before .before .before .before .before .before .before .before .before .before .before .before .pre .0), c .before .before .before .before .before .loop-test .taken) }
+
+loop-less : tie.Need-loop-less Inv-loop μ-loop
+loop-less c = omega (arith, c .before .before .before .before .before .loop-test .taken)
+
+loop-again : tie.Need-loop-again Inv-loop μ-loop
+loop-again c = (omega (arith, c .before .before .before .before .before .loop-test .taken), one-seat-more (c .before .before .before .before .before .before .before .before .before .before .before .before .before .before .before .args .g) (c .before .before .before .before .before .before .before .before .before .before .before .before .before .before .before .args .d) (now (c .before .before .before .before .before .before .before .before .before .before .before .before .before .before .before .args .table)) (c .before .before .before .before .before .before .before .before .before .before .before .before .before .before .before .pre .0) (c .before .before .before .before .before .before .loop .seat) (c .before .before .before .before .before .before .loop .sum) (c .before .before .seat-excess .result) (c .before .before .before .before .before .before .loop .inv .1) (c .before .before .seat-excess .ensures .0), c .before .before .seat-excess .ensures .1, c .before .before .seat-excess .kept .1 .0 ∙ c .before .before .before .before .before .before .loop .inv .3)
+
+same-length : tie.Need-same-length Inv-loop μ-loop
+same-length c = search needs
+
+returns : tie.Need-returns Inv-loop μ-loop
+returns c = all-seats (c .before .before .before .before .before .before .before .before .before .before .args .g) (c .before .before .before .before .before .before .before .before .before .before .args .d) (now (c .before .before .before .before .before .before .before .before .before .before .args .table)) (c .before .before .before .before .before .before .before .before .before .before .pre .0) (c .before .loop .seat) (c .before .loop .sum) (c .before .loop .inv .0) (c .loop-test .left) (c .before .loop .inv .1)
+
+pub evaluate-spec : {M : Type 1} → statement M
+evaluate-spec =
+    tie.close
+    (tie.spec
+    Inv-loop
+    μ-loop
+    store-requires
+    table-worths-requires
+    loop-holds
+    mul-seat-excess
+    array-copy-out-seat-excess
+    seat-excess-requires
+    add-sum
+    add-seat
+    loop-less
+    loop-again
+    same-length
+    returns)

@@ -1,0 +1,2 @@
+-- NashConv of a table (document 01, "Whole units"): what the call answers.
+pub mod Calls
