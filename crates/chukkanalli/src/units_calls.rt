@@ -9,7 +9,7 @@ ghost use Rattle.whole.specs.Memory.{Left};
 ghost use Rattle.worths.specs.Calls as Worths;
 ghost use Rattle.best_reply.specs.Calls as Reply;
 ghost use Rattle.nash_conv_units.specs.Calls as Conv;
-ghost use Rattle.whole.specs.Accepted.{evaluation-refusal};
+ghost use Rattle.whole.specs.Checks.{evaluation-refusal};
 
 // What a table is worth to each seat.
 #[no_mangle]
