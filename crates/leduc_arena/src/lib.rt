@@ -4,6 +4,7 @@ mod words;
 
 use arena::words::put;
 use leduc_positions::LeducState;
+use leduc_positions::state::card_due;
 use moves::is_end;
 use moves::is_move;
 use moves::moved;
@@ -15,7 +16,7 @@ ghost use lib.ListN.{length};
 ghost use Rattle.game.specs.Sets.{size, sizes};
 ghost use Rattle.arena.specs.Built.{Built, Row, Room};
 ghost use Rattle.leduc_rules.specs.Stakes.{ante, raise₁, raise₂};
-ghost use Rattle.leduc_tree.specs.Tree.{leducTree};
+ghost use Rattle.leduc_tree.specs.Tree.{due, leducTree};
 ghost use Rattle.leduc_arena.specs.Codes.{codeOf};
 ghost use Rattle.leduc_arena.specs.Layout.{positionOf, treeAt, childrenTo, childAt, Going, Moving};
 
@@ -43,22 +44,30 @@ fn children(w: &mut [u64], at: usize, state: LeducState, left: usize) -> usize
     requires { ⌜ Room at (now w) (sizes (childrenTo (positionOf state) left 6)) ⌝ }
     ensures { λ r. ⌜ Row 2 codeOf at (now (w .entry)) (now (w .exit)) (childrenTo (positionOf state) left 6) r ⌝ }
 {
+    let card = card_due(state);
     let mut next = at;
     let mut x = 0;
     while x < leduc_betting::DECK {
-        next = child(w, next, state, left, x);
+        next = child(w, next, state, left, x, card);
         x += 1;
     }
     next
 }
 
-// Lays out the tree below x, if that is a move.
-fn child(w: &mut [u64], at: usize, state: LeducState, left: usize, x: u8) -> usize
-    requires { ⌜ Moving state left × (x < 6) ⌝ }
+// Lays out the tree below x, if that is a move, where it is known whether a card is due.
+fn child(
+    w: &mut [u64],
+    at: usize,
+    state: LeducState,
+    left: usize,
+    x: u8,
+    card: bool,
+) -> usize
+    requires { ⌜ Moving state left × (x < 6) × (card ≡ due (positionOf state)) ⌝ }
     requires { ⌜ Room at (now w) (sizes (childAt (positionOf state) left x)) ⌝ }
     ensures { λ r. ⌜ Row 2 codeOf at (now (w .entry)) (now (w .exit)) (childAt (positionOf state) left x) r ⌝ }
 {
-    if is_move(state, x as usize) {
+    if is_move(state, x as usize, card) {
         return tree(w, at, moved(state, x), left);
     }
     at

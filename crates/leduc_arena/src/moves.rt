@@ -63,12 +63,12 @@ fn is_choice(state: LeducState, action: usize) -> bool
     is_legal(&all[..acted1], action)
 }
 
-// Whether x is a move.
-pub fn is_move(state: LeducState, x: usize) -> bool
-    requires { ⌜ (state .dealt ≤ 2) × (state .acted1 ≤ 4) × (state .acted2 ≤ 4) ⌝ }
+// Whether x is a move, where it is known whether a card is due.
+pub fn is_move(state: LeducState, x: usize, card: bool) -> bool
+    requires { ⌜ (state .dealt ≤ 2) × (state .acted1 ≤ 4) × (state .acted2 ≤ 4) × (card ≡ due (positionOf state)) ⌝ }
     ensures { λ r. ⌜ r ≡ isMove (positionOf state) x ⌝ }
 {
-    if card_due(state) {
+    if card {
         return is_left(state, x);
     }
     is_choice(state, x)

@@ -1,4 +1,3 @@
--- A tree, the trees below its moves, and the tree below one move: what is still to come falls at each call. Assumes nothing.
 use denote.Ref.{now}
 use mathlib.Core.Path.{_≡_, sym, _∙_, subst}
 use Prim.Native.Nat.{_+_, _*_, _-_, _≤_}
@@ -28,6 +27,7 @@ use Rattle.leduc_arena.proofs.moves.is_move.Reads as is-move-reads
 use Rattle.leduc_arena.proofs.moves.moved.Reads as moved-reads
 use Rattle.leduc_arena.proofs.words.end_word.Reads as end-word-reads
 use Rattle.leduc_arena.proofs.words.node_word.Reads as node-word-reads
+use Rattle.leduc_positions.proofs.state.card_due.Reads as card-due-reads
 use Rattle.leduc_arena.proofs.+child+children+tree.{statement}
 use Rattle.leduc_arena.proofs.+child+children+tree.Tie.{close}
 
@@ -59,6 +59,7 @@ tree-at t = and 1 tree-kinds.ps (is 1 tree-kinds.ps μ-tree t) tree.Pre
 abbrev tree-below : ℕ → In 1 tree-kinds.ps
 tree-below t = and 1 tree-kinds.ps (falls 1 tree-kinds.ps _<_ μ-tree t) tree.Pre
 
+-- src/lib.rt:70:8
 child-is-move-requires : (t : ℕ) → child-lts.Need-is-move-requires (
   is-move-reads.Asked,
   is-move-reads.Learnt,
@@ -67,8 +68,9 @@ child-is-move-requires : (t : ℕ) → child-lts.Need-is-move-requires (
   tree-below t,
   tree.Post,
 ) (child-at t) child.Post
-child-is-move-requires t c κs = short _ _ (c .before .pre .1 .0 .0 .going)
+child-is-move-requires t c κs = (short _ _ (c .before .pre .1 .0 .0 .going) .0, short _ _ (c .before .pre .1 .0 .0 .going) .1, short _ _ (c .before .pre .1 .0 .0 .going) .2, c .before .pre .1 .0 .2)
 
+-- src/lib.rt:71:28
 child-moved-requires : (t : ℕ) → child-lts.Need-moved-requires (
   is-move-reads.Asked,
   is-move-reads.Learnt,
@@ -79,6 +81,7 @@ child-moved-requires : (t : ℕ) → child-lts.Need-moved-requires (
 ) (child-at t) child.Post
 child-moved-requires t c κs = (short _ _ (c .before .before .before .before .pre .1 .0 .0 .going), room-left _ _ (c .before .before .before .before .pre .1 .0 .0))
 
+-- src/lib.rt:71:9
 child-tree-requires : (t : ℕ) → child-lts.Need-tree-requires (
   is-move-reads.Asked,
   is-move-reads.Learnt,
@@ -93,6 +96,7 @@ child-tree-requires t c κs =
     let f = sym (c .before .before .before .is-move .ensures) ∙ c .before .before .if1 .taken in
     (omega (arith, c .before .before .before .before .before .pre .0), (following.move-goes _ _ _ _ m e f, following.move-room _ _ _ _ m e f _ _ (c .before .before .before .before .before .pre .1 .1)))
 
+-- src/lib.rt:71:9
 child-same-length : (t : ℕ) → child-lts.Need-same-length (
   is-move-reads.Asked,
   is-move-reads.Learnt,
@@ -103,6 +107,7 @@ child-same-length : (t : ℕ) → child-lts.Need-same-length (
 ) (child-at t) child.Post
 child-same-length t c = search needs
 
+-- src/lib.rt:71:9
 child-returns : (t : ℕ) → child-lts.Need-returns (
   is-move-reads.Asked,
   is-move-reads.Learnt,
@@ -115,6 +120,7 @@ child-returns t c =
     let f = sym (c .before .before .before .before .before .before .is-move .ensures) ∙ c .before .before .before .before .before .if1 .taken in
     following.move-row _ _ _ _ (c .before .before .before .before .before .before .before .before .pre .1 .0 .0) (c .before .before .before .moved .ensures) f _ _ _ _ (c .before .before .tree .ensures)
 
+-- src/lib.rt:58:1
 child-returns-2 : (t : ℕ) → child-lts.Need-returns-2 (
   is-move-reads.Asked,
   is-move-reads.Learnt,
@@ -126,86 +132,89 @@ child-returns-2 : (t : ℕ) → child-lts.Need-returns-2 (
 child-returns-2 t c = rw (following.child-none (positionOf (c .before .before .before .args .state)) (c .before .before .before .args .left) (c .before .before .before .args .x) (sym (c .before .is-move .ensures) ∙ c .if1 .left)) (row-none _ _ _ _)
 
 abbrev children-Inv-loop : children-lts.InvT-loop
-children-Inv-loop w₀ at state left next₀ x₀ w next x = Row 2 codeOf at w₀ w (childrenTo (positionOf state) left x) next × (x ≤ 6)
+children-Inv-loop w₀ at state left card next₀ x₀ w next x = Row 2 codeOf at w₀ w (childrenTo (positionOf state) left x) next × (x ≤ 6)
 
 abbrev children-μ-loop : children-lts.MeasureT-loop
-children-μ-loop w₀ at state left next₀ x₀ w next x = 6 - x
+children-μ-loop w₀ at state left card next₀ x₀ w next x = 6 - x
 
-children-loop-holds :
-    (t : ℕ) →
-    children-lts.Need-loop-holds
-    (child-below t, child.Post)
-    (children-at t)
-    children.Post
-    children-Inv-loop
-    children-μ-loop
-children-loop-holds t c = (following.row-start (positionOf (c .before .args .state)) (c .before .args .left) (c .before .args .at) (now (c .before .args .w)) (c .before .pre .1 .1), omega arith)
+-- src/lib.rt:47:9
+children-card-due-requires : (t : ℕ) → children-lts.Need-card-due-requires (
+  card-due-reads.Asked,
+  card-due-reads.Learnt,
+  child-below t,
+  child.Post,
+) (children-at t) children.Post children-Inv-loop children-μ-loop
+children-card-due-requires t c κs = short _ _ (c .before .pre .1 .0 .going)
 
-children-child-requires :
-    (t : ℕ) →
-    children-lts.Need-child-requires
-    (child-below t, child.Post)
-    (children-at t)
-    children.Post
-    children-Inv-loop
-    children-μ-loop
+-- src/lib.rt:50:5
+children-loop-holds : (t : ℕ) → children-lts.Need-loop-holds (
+  card-due-reads.Asked,
+  card-due-reads.Learnt,
+  child-below t,
+  child.Post,
+) (children-at t) children.Post children-Inv-loop children-μ-loop
+children-loop-holds t c = (following.row-start (positionOf (c .before .before .args .state)) (c .before .before .args .left) (c .before .before .args .at) (now (c .before .before .args .w)) (c .before .before .pre .1 .1), omega arith)
+
+-- src/lib.rt:51:9
+children-child-requires : (t : ℕ) → children-lts.Need-child-requires (
+  card-due-reads.Asked,
+  card-due-reads.Learnt,
+  child-below t,
+  child.Post,
+) (children-at t) children.Post children-Inv-loop children-μ-loop
 children-child-requires t c κs =
     let i = c .before .before .loop .inv in
-    (omega (arith, c .before .before .before .before .pre .0), ((c .before .before .before .before .pre .1 .0, c .before .loop-test .taken), following.child-room _ _ _ _ (c .before .before .before .before .pre .1 .1) _ _ _ (c .before .loop-test .taken) (i .0)))
+    (omega (arith, c .before .before .before .before .before .pre .0), ((c .before .before .before .before .before .pre .1 .0, c .before .loop-test .taken, c .before .before .before .card-due .ensures), following.child-room _ _ _ _ (c .before .before .before .before .before .pre .1 .1) _ _ _ (c .before .loop-test .taken) (i .0)))
 
-children-add-x :
-    (t : ℕ) →
-    children-lts.Need-add-x
-    (child-below t, child.Post)
-    (children-at t)
-    children.Post
-    children-Inv-loop
-    children-μ-loop
+-- src/lib.rt:52:9
+children-add-x : (t : ℕ) → children-lts.Need-add-x (
+  card-due-reads.Asked,
+  card-due-reads.Learnt,
+  child-below t,
+  child.Post,
+) (children-at t) children.Post children-Inv-loop children-μ-loop
 children-add-x t c = omega (arith, c .before .before .before .before .loop-test .taken)
 
-children-loop-less :
-    (t : ℕ) →
-    children-lts.Need-loop-less
-    (child-below t, child.Post)
-    (children-at t)
-    children.Post
-    children-Inv-loop
-    children-μ-loop
+-- src/lib.rt:50:5
+children-loop-less : (t : ℕ) → children-lts.Need-loop-less (
+  card-due-reads.Asked,
+  card-due-reads.Learnt,
+  child-below t,
+  child.Post,
+) (children-at t) children.Post children-Inv-loop children-μ-loop
 children-loop-less t c = omega (arith, c .before .before .before .before .loop-test .taken)
 
-children-loop-again :
-    (t : ℕ) →
-    children-lts.Need-loop-again
-    (child-below t, child.Post)
-    (children-at t)
-    children.Post
-    children-Inv-loop
-    children-μ-loop
-children-loop-again t c = (following.row-on _ _ _ _ (c .before .before .before .before .before .before .before .pre .1 .1) _ _ _ (c .before .before .before .before .loop-test .taken) (c .before .before .before .before .before .loop .inv .0) _ _ (c .before .before .child .ensures), omega (arith, c .before .before .before .before .loop-test .taken))
+-- src/lib.rt:50:5
+children-loop-again : (t : ℕ) → children-lts.Need-loop-again (
+  card-due-reads.Asked,
+  card-due-reads.Learnt,
+  child-below t,
+  child.Post,
+) (children-at t) children.Post children-Inv-loop children-μ-loop
+children-loop-again t c = (following.row-on _ _ _ _ (c .before .before .before .before .before .before .before .before .pre .1 .1) _ _ _ (c .before .before .before .before .loop-test .taken) (c .before .before .before .before .before .loop .inv .0) _ _ (c .before .before .child .ensures), omega (arith, c .before .before .before .before .loop-test .taken))
 
-children-same-length :
-    (t : ℕ) →
-    children-lts.Need-same-length
-    (child-below t, child.Post)
-    (children-at t)
-    children.Post
-    children-Inv-loop
-    children-μ-loop
+-- src/lib.rt:42:1
+children-same-length : (t : ℕ) → children-lts.Need-same-length (
+  card-due-reads.Asked,
+  card-due-reads.Learnt,
+  child-below t,
+  child.Post,
+) (children-at t) children.Post children-Inv-loop children-μ-loop
 children-same-length t c = c .before .loop .inv .0 .kept .long
 
-children-returns :
-    (t : ℕ) →
-    children-lts.Need-returns
-    (child-below t, child.Post)
-    (children-at t)
-    children.Post
-    children-Inv-loop
-    children-μ-loop
+-- src/lib.rt:42:1
+children-returns : (t : ℕ) → children-lts.Need-returns (
+  card-due-reads.Asked,
+  card-due-reads.Learnt,
+  child-below t,
+  child.Post,
+) (children-at t) children.Post children-Inv-loop children-μ-loop
 children-returns t c =
     let i = c .before .loop .inv in
     let e : c .before .loop .x ≡ 6 = omega (arith, i .1, c .loop-test .left) in
-    subst (λ n. Row 2 codeOf (c .before .before .before .args .at) (now (c .before .before .before .args .w)) (c .before .loop .w) (childrenTo (positionOf (c .before .before .before .args .state)) (c .before .before .before .args .left) n) (c .before .loop .next)) e (i .0)
+    subst (λ n. Row 2 codeOf (c .before .before .before .before .args .at) (now (c .before .before .before .before .args .w)) (c .before .loop .w) (childrenTo (positionOf (c .before .before .before .before .args .state)) (c .before .before .before .before .args .left) n) (c .before .loop .next)) e (i .0)
 
+-- src/lib.rt:32:8
 tree-is-end-requires : (t : ℕ) → tree-lts.Need-is-end-requires (
   is-end-reads.Asked,
   is-end-reads.Learnt,
@@ -220,6 +229,7 @@ tree-is-end-requires : (t : ℕ) → tree-lts.Need-is-end-requires (
 ) (tree-at t) tree.Post
 tree-is-end-requires t c κs = short _ _ (c .before .pre .1 .0)
 
+-- src/lib.rt:33:20
 tree-end-word-requires : (t : ℕ) → tree-lts.Need-end-word-requires (
   is-end-reads.Asked,
   is-end-reads.Learnt,
@@ -236,6 +246,7 @@ tree-end-word-requires t c κs =
     let u = short _ _ (c .before .before .before .before .pre .1 .0) in
     (end-dealt _ _ (c .before .before .before .before .pre .1 .0) (sym (c .before .before .is-end .ensures) ∙ c .before .if1 .taken), u .1, u .2)
 
+-- src/lib.rt:33:9
 tree-put-requires : (t : ℕ) → tree-lts.Need-put-requires (
   is-end-reads.Asked,
   is-end-reads.Learnt,
@@ -250,6 +261,7 @@ tree-put-requires : (t : ℕ) → tree-lts.Need-put-requires (
 ) (tree-at t) tree.Post
 tree-put-requires t c κs = search needs
 
+-- src/lib.rt:34:16
 tree-add-result : (t : ℕ) → tree-lts.Need-add-result (
   is-end-reads.Asked,
   is-end-reads.Learnt,
@@ -264,6 +276,7 @@ tree-add-result : (t : ℕ) → tree-lts.Need-add-result (
 ) (tree-at t) tree.Post
 tree-add-result t c = record { fits = omega (arith, c .before .before .before .before .before .before .before .before .pre .1 .1 .places) }
 
+-- src/lib.rt:34:9
 tree-same-length : (t : ℕ) → tree-lts.Need-same-length (
   is-end-reads.Asked,
   is-end-reads.Learnt,
@@ -278,6 +291,7 @@ tree-same-length : (t : ℕ) → tree-lts.Need-same-length (
 ) (tree-at t) tree.Post
 tree-same-length t c = search needs
 
+-- src/lib.rt:34:9
 tree-returns : (t : ℕ) → tree-lts.Need-returns (
   is-end-reads.Asked,
   is-end-reads.Learnt,
@@ -292,6 +306,7 @@ tree-returns : (t : ℕ) → tree-lts.Need-returns (
 ) (tree-at t) tree.Post
 tree-returns t c = following.lays-end _ _ _ _ (c .before .before .before .before .before .before .before .before .pre .1 .0) (c .before .before .before .before .before .before .before .before .pre .1 .1) _ _ (sym (c .before .before .before .before .before .before .is-end .ensures) ∙ c .before .before .before .before .before .if1 .taken) (c .before .before .before .end-word .ensures) (c .before .before .put .ensures)
 
+-- src/lib.rt:36:28
 tree-add-children : (t : ℕ) → tree-lts.Need-add-children (
   is-end-reads.Asked,
   is-end-reads.Learnt,
@@ -306,6 +321,7 @@ tree-add-children : (t : ℕ) → tree-lts.Need-add-children (
 ) (tree-at t) tree.Post
 tree-add-children t c = record { fits = omega (arith, c .before .before .before .before .pre .1 .1 .places) }
 
+-- src/lib.rt:36:43
 tree-sub-children : (t : ℕ) → tree-lts.Need-sub-children (
   is-end-reads.Asked,
   is-end-reads.Learnt,
@@ -320,6 +336,7 @@ tree-sub-children : (t : ℕ) → tree-lts.Need-sub-children (
 ) (tree-at t) tree.Post
 tree-sub-children t c = omega (arith, following.some-left _ _ _ _ (c .before .before .before .before .pre .1 .0) (c .before .before .before .before .pre .1 .1) (sym (c .before .before .is-end .ensures) ∙ c .before .if1 .left))
 
+-- src/lib.rt:36:9
 tree-children-requires : (t : ℕ) → tree-lts.Need-children-requires (
   is-end-reads.Asked,
   is-end-reads.Learnt,
@@ -338,6 +355,7 @@ tree-children-requires t c κs =
     let e = sym (c .before .before .is-end .ensures) ∙ c .before .if1 .left in
     (omega (arith, c .before .before .before .before .pre .0, following.some-left _ _ _ _ p g e), (following.moving _ _ _ _ p g e, following.row-room _ _ _ _ p g e))
 
+-- src/lib.rt:37:33
 tree-sub-node-word : (t : ℕ) → tree-lts.Need-sub-node-word (
   is-end-reads.Asked,
   is-end-reads.Learnt,
@@ -352,6 +370,7 @@ tree-sub-node-word : (t : ℕ) → tree-lts.Need-sub-node-word (
 ) (tree-at t) tree.Post
 tree-sub-node-word t c = omega (arith, following.some-left _ _ _ _ (c .before .before .before .before .before .before .before .before .pre .1 .0) (c .before .before .before .before .before .before .before .before .pre .1 .1) (sym (c .before .before .before .before .before .before .is-end .ensures) ∙ c .before .before .before .before .before .if1 .left))
 
+-- src/lib.rt:37:16
 tree-node-word-requires : (t : ℕ) → tree-lts.Need-node-word-requires (
   is-end-reads.Asked,
   is-end-reads.Learnt,
@@ -370,6 +389,7 @@ tree-node-word-requires t c κs =
     let e = sym (c .before .before .before .before .before .before .is-end .ensures) ∙ c .before .before .before .before .before .if1 .left in
     (following.moving _ _ _ _ p g e, following.behind-few _ _ _ _ p g e _ _ (c .before .before .before .children .ensures))
 
+-- src/lib.rt:37:5
 tree-put-requires-2 : (t : ℕ) → tree-lts.Need-put-requires-2 (
   is-end-reads.Asked,
   is-end-reads.Learnt,
@@ -384,6 +404,7 @@ tree-put-requires-2 : (t : ℕ) → tree-lts.Need-put-requires-2 (
 ) (tree-at t) tree.Post
 tree-put-requires-2 t c κs = search needs
 
+-- src/lib.rt:27:1
 tree-same-length-2 : (t : ℕ) → tree-lts.Need-same-length-2 (
   is-end-reads.Asked,
   is-end-reads.Learnt,
@@ -398,6 +419,7 @@ tree-same-length-2 : (t : ℕ) → tree-lts.Need-same-length-2 (
 ) (tree-at t) tree.Post
 tree-same-length-2 t c = search needs
 
+-- src/lib.rt:27:1
 tree-returns-2 : (t : ℕ) → tree-lts.Need-returns-2 (
   is-end-reads.Asked,
   is-end-reads.Learnt,
@@ -429,12 +451,17 @@ pub +child+children+tree-spec : {M : Type 1} → statement M
     (child-same-length t)
     (child-returns t)
     (child-returns-2 t))
-    (λ t. children-lts.spec
-    (child-below t, child.Post)
+    (λ t. children-lts.spec (
+      card-due-reads.Asked,
+      card-due-reads.Learnt,
+      child-below t,
+      child.Post,
+    )
     (children-at t)
     children.Post
     children-Inv-loop
     children-μ-loop
+    (children-card-due-requires t)
     (children-loop-holds t)
     (children-child-requires t)
     (children-add-x t)
