@@ -21,8 +21,10 @@ use Rattle.leduc.specs.Calls as Leduc
 use Rattle.leduc_positions.specs.Positions.{legal-of}
 use Rattle.leduc.specs.Calls.{legal-refusal, listed, key-of, key-refusal, keyed, written}
 use Rattle.leduc_positions.specs.declared.LeducState.{LeducState}
+use Rattle.refusals.specs.Refusals.{first}
 use Rattle.game.specs.Table.{Table, nashConv}
 use Rattle.tables.specs.Games.{gameOf, treeOf}
+use Rattle.tables.specs.Checks.{tree-checks, parts-checks, table-checks}
 use Rattle.tables.specs.Facts.{rootUnits}
 use Rattle.tables.specs.declared.Game.{Game}
 use Rattle.worths.specs.Calls as Worths
@@ -115,9 +117,13 @@ worths-in r = take (r .count) (r .worths)
 abbrev pub value-in : ReplyAnswer → List ℤ
 value-in r = cond (eqb (r .refusal) 0) (r .value ∷ []) []
 
--- what a table with D parts in each set is worth to both seats
+-- what refuses a table with D parts in each set: 1 to 4, then 6 to 8
+abbrev pub table-refusal : (D : ℕ) → Table → ℕ
+table-refusal D table = first (tree-checks kuhn2-tables room ++ (parts-checks kuhn2-tables D ++ table-checks kuhn2-tables D table))
+
+-- what it is worth to both seats
 abbrev pub worths : (D : ℕ) → Table → List ℤ
-worths D table = worths-in (Worths.answer (Worths.worths-refusal kuhn2-tables room D table) kuhn2-tables D table)
+worths D table = worths-in (Worths.answer (table-refusal D table) kuhn2-tables D table)
 
 -- the refusal of the reply call, with an output of 24 bytes
 abbrev pub refused : (seat D : ℕ) → Table → ℕ
