@@ -13,7 +13,7 @@ ARCHIVE := target/staticlib/libchukkanalli.a
 .SILENT:
 .PHONY: run check test host-tests lists archive compare bench
 
-# Plays a hand through the proved calls.
+# Plays a hand, then replies to a table, through the proved calls.
 run:
 	mkdir -p build
 	test -x target/bin/sample || echo 'proving the calls first; build/run.log has what rt says' >&2

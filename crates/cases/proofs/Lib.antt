@@ -1,2 +1,3 @@
 -- What the worked cases show.
 pub mod Cases
+pub mod Tried

@@ -1,8 +1,10 @@
 -- Document 01's worked cases ("Holding the evaluator to its hand") as one list: what the definitions give, and what the paper says.
 use mathlib.Core.Path.{_≡_}
+use mathlib.Core.Bool.{cond}
 use mathlib.Core.List.{List, [], _∷_, _++_, map}
 use Prim.Native.Nat.{ℕ, _-_}
 use Prim.Native.String.{String}
+use lib.Dec.{eqb}
 use lib.IntN.{ℤ, pos, negℤ}
 use lib.ListN.{length, take, replicate}
 use Rattle.kuhn_rules.specs.Rules.{PASS, BET}
@@ -19,10 +21,20 @@ use Rattle.leduc.specs.Calls as Leduc
 use Rattle.leduc_positions.specs.Positions.{legal-of}
 use Rattle.leduc.specs.Calls.{legal-refusal, listed, key-of, key-refusal, keyed, written}
 use Rattle.leduc_positions.specs.declared.LeducState.{LeducState}
+use Rattle.refusals.specs.Refusals.{first}
+use Rattle.game.specs.Table.{Table, nashConv}
+use Rattle.tables.specs.Games.{gameOf, treeOf}
+use Rattle.tables.specs.Checks.{tree-checks, parts-checks, table-checks}
+use Rattle.tables.specs.Facts.{rootUnits}
+use Rattle.tables.specs.declared.Game.{Game}
+use Rattle.worths.specs.Calls as Worths
+use Rattle.worths.specs.declared.WorthsAnswer.{WorthsAnswer}
+use Rattle.best_reply.specs.Calls as Reply
+use Rattle.best_reply.specs.declared.ReplyAnswer.{ReplyAnswer}
 
 -- ---- what a case is
 
--- its letter, what the definitions give, what the paper says: payoffs, a refusal number, a legal list or a key, each as a list of whole numbers
+-- its letter, what the definitions give, what the paper says: payoffs, a refusal number, a legal list, a key, or what a table is worth, each as a list of whole numbers
 pub data Case : Type 0 where
   case : String → List ℤ → List ℤ → Case
 
@@ -89,6 +101,59 @@ paid-in h₁ h₂ = pos (contribution ante raise₁ raise₂ h₁ h₂ 0) ∷ po
 abbrev pub leduc-payoffs : LeducState → List ℤ
 leduc-payoffs s = take (Leduc.paid s .count) (Leduc.paid s .payoffs)
 
+-- ---- tables of Kuhn 2
+
+abbrev pub kuhn2-tables : Game
+kuhn2-tables = gameOf 0 2
+
+-- 12 words for each of its 58 nodes
+abbrev pub room : ℕ
+room = 696
+
+-- the worths of an answer, and its value: none, if the call was refused
+abbrev pub worths-in : WorthsAnswer → List ℤ
+worths-in r = take (r .count) (r .worths)
+
+abbrev pub value-in : ReplyAnswer → List ℤ
+value-in r = cond (eqb (r .refusal) 0) (r .value ∷ []) []
+
+-- what refuses a table with D parts in each set: 1 to 4, then 6 to 8
+abbrev pub table-refusal : (D : ℕ) → Table → ℕ
+table-refusal D table = first (tree-checks kuhn2-tables room ++ (parts-checks kuhn2-tables D ++ table-checks kuhn2-tables D table))
+
+-- what it is worth to both seats
+abbrev pub worths : (D : ℕ) → Table → List ℤ
+worths D table = worths-in (Worths.answer (table-refusal D table) kuhn2-tables D table)
+
+-- the refusal of the reply call, with an output of 24 bytes
+abbrev pub refused : (seat D : ℕ) → Table → ℕ
+refused seat D table = Reply.reply-refusal kuhn2-tables room seat D table 24
+
+-- a seat's best value, and what the call leaves in the output
+abbrev pub best : (seat D : ℕ) → Table → List ℤ
+best seat D table = value-in (Reply.answer (refused seat D table) kuhn2-tables seat D table)
+
+abbrev pub reply : (seat D : ℕ) → Table → List ℤ
+reply seat D table = bytes (Reply.written (refused seat D table) kuhn2-tables seat D table (replicate 24 0))
+
+abbrev pub conv : (D : ℕ) → Table → List ℤ
+conv D table = nashConv (treeOf kuhn2-tables) D (rootUnits kuhn2-tables D) table 2 ∷ []
+
+-- both worths, both best values, NashConv
+abbrev pub evaluated : (D : ℕ) → Table → List ℤ
+evaluated D table = worths D table ++ best 0 D table ++ best 1 D table ++ conv D table
+
+-- always PASS; and the same with BET as the hand's first action of seat 0 on 0 and 1, which are its first set and the seventh of all
+abbrev pub passes : Table
+passes = 1 ∷ 0 ∷ 1 ∷ 0 ∷ 1 ∷ 0 ∷ 1 ∷ 0 ∷ 1 ∷ 0 ∷ 1 ∷ 0 ∷ 1 ∷ 0 ∷ 1 ∷ 0 ∷ 1 ∷ 0 ∷ 1 ∷ 0 ∷ 1 ∷ 0 ∷ 1 ∷ 0 ∷ []
+
+abbrev pub bluffs : Table
+bluffs = 0 ∷ 1 ∷ 1 ∷ 0 ∷ 1 ∷ 0 ∷ 1 ∷ 0 ∷ 1 ∷ 0 ∷ 1 ∷ 0 ∷ 0 ∷ 1 ∷ 1 ∷ 0 ∷ 1 ∷ 0 ∷ 1 ∷ 0 ∷ 1 ∷ 0 ∷ 1 ∷ 0 ∷ []
+
+-- an equilibrium
+abbrev pub settled : Table
+settled = 3 ∷ 0 ∷ 3 ∷ 0 ∷ 3 ∷ 0 ∷ 2 ∷ 1 ∷ 0 ∷ 3 ∷ 0 ∷ 3 ∷ 3 ∷ 0 ∷ 2 ∷ 1 ∷ 2 ∷ 1 ∷ 3 ∷ 0 ∷ 3 ∷ 0 ∷ 0 ∷ 3 ∷ []
+
 -- ---- the cases
 
 abbrev pub cases : List Case
@@ -103,4 +168,6 @@ cases =
     ∷ case "h" (leduc-payoffs (leduc-at (0 ∷ 5 ∷ []) (Card 1) (CALL ∷ CALL ∷ []) (CALL ∷ CALL ∷ []))) (plus 1 ∷ minus 1 ∷ [])
     ∷ case "i" (paid-in (RAISE ∷ RAISE ∷ CALL ∷ []) (RAISE ∷ RAISE ∷ CALL ∷ []) ++ leduc-payoffs (leduc-at (0 ∷ 1 ∷ []) (Card 2) (RAISE ∷ RAISE ∷ CALL ∷ []) (RAISE ∷ RAISE ∷ CALL ∷ []))) (plus 13 ∷ plus 13 ∷ plus 0 ∷ plus 0 ∷ [])
     ∷ case "j" (leduc-key (leduc-at (0 ∷ 4 ∷ []) Hidden (RAISE ∷ []) []) 1) (bytes (1 ∷ 4 ∷ 255 ∷ 1 ∷ 2 ∷ 0 ∷ []))
+    ∷ case "k" (evaluated 1 passes ++ reply 0 1 passes) ((plus 0 ∷ plus 0 ∷ plus 6 ∷ plus 6 ∷ plus 12 ∷ []) ++ bytes bluffs)
+    ∷ case "l" (evaluated 3 settled) (minus 9 ∷ plus 9 ∷ minus 9 ∷ plus 9 ∷ plus 0 ∷ [])
     ∷ []

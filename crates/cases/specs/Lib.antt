@@ -1,2 +1,3 @@
--- Document 01's worked cases.
+-- Document 01's worked cases, and the reply theorem tried on a table of each game.
 pub mod Cases
+pub mod Tried

@@ -38,6 +38,13 @@ pub fn say_payoff(payoff: i64) {
     show(&out, line.at);
 }
 
+// A whole number, with its sign if it is below 0.
+pub fn say_whole(number: i64) {
+    let mut out = [0u8; 4096];
+    let line = replay::say_whole(&mut out, Line::new(true), number);
+    show(&out, line.at);
+}
+
 fn show(out: &[u8; 4096], at: usize) {
     say_front(out, at);
 }

@@ -2,8 +2,8 @@
 -- Assumes nothing.
 use Prim.Native.Nat.{_-_}
 use borrow.Author.Needs.{needs}
-use Rattle.sample.proofs.pay.Statement.{statement}
-use Rattle.sample.proofs.pay.Tie as tie
+use Rattle.sample.proofs.hand.pay.Statement.{statement}
+use Rattle.sample.proofs.hand.pay.Tie as tie
 
 abbrev Inv-loop : tie.InvT-loop
 Inv-loop payoffs seat₀ seat = Unit {0}

@@ -2,8 +2,8 @@
 -- Assumes nothing.
 use Prim.Native.Nat.{_-_}
 use borrow.Author.Needs.{needs}
-use Rattle.sample.proofs.say_legal.Statement.{statement}
-use Rattle.sample.proofs.say_legal.Tie as tie
+use Rattle.sample.proofs.hand.say_legal.Statement.{statement}
+use Rattle.sample.proofs.hand.say_legal.Tie as tie
 
 abbrev Inv-loop : tie.InvT-loop
 Inv-loop actions count i₀ i = Unit {0}
