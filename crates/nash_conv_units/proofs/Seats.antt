@@ -43,18 +43,30 @@ module _ (g : Game) (D : ℕ) (table : Table) (a : Accepted g D table) where
   fit : Games.Fit g
   fit = games-fit g (a .game .known) (a .game .seats)
 
-  most-few : most < 2 ^ 62
-  most-few =
-      let h = NatL.mul-le-mul-right (2 * most) (games-shaped g (a .game) .least) in
-      omega (arith, units-fit g D (a .game) (a .most) .conv)
+  pub two-seats : 2 ≤ g .seats
+  two-seats = games-shaped g (a .game) .least
 
   pub few-seats : g .seats ≤ 6
   few-seats = games-shaped g (a .game) .most
+
+  most-few : most < 2 ^ 62
+  most-few =
+      let h = NatL.mul-le-mul-right (2 * most) two-seats in
+      omega (arith, units-fit g D (a .game) (a .most) .conv)
 
   -- ---- one seat
   module _ (i : ℕ) (l : i < g .seats) where
     sizes : (natAbs (tableWorth T D U table i) ≤ most) × (natAbs (tableBest T D U table i) ≤ most)
     sizes = table-bounds T D U (largestPayoff g) i table (a .least) (fit .actions) (a .valid) (fit .pays i l)
+
+    -- its worth, from those of all
+    pub seat-worth : (worths : List ℤ) → worths ≡ worthsOf g D table → bits (getD worths i (pos 0)) ≡ tableWorth T D U table i
+    unfolding worthsOf
+    seat-worth worths e =
+        let q : getD worths i (pos 0) ≡ tableWorth T D U table i = ap (λ x. getD x i (pos 0)) e
+        ∙ getD-places 6 (λ j. cond (ltb j (g .seats)) (tableWorth T D U table j) (pos 0)) i (pos 0) (NatL.lt-of-lt-of-le l few-seats)
+        ∙ rw (lt-ltb i (g .seats) l) refl in
+        ap bits q ∙ bits-of-small (tableWorth T D U table i) (omega (arith, sizes .0, most-few))
 
     -- its worth and its best value, which no rival table beats: the table is a rival of itself
     module _ (w b v : ℤ) (p : w ≡ tableWorth T D U table i) (q : b ≡ v) (e : v ≡ tableBest T D U table i) where
@@ -77,15 +89,6 @@ module _ (g : Game) (D : ℕ) (table : Table) (a : Accepted g D table) where
       let h = conv-few k (omega arith) in
       let d = difference-size (tableWorth T D U table k) (tableBest T D U table k) most w b in
       omega (arith, size-of-sum (nashConv T D U table k) (tableBest T D U table k -ℤ tableWorth T D U table k), NatL.suc-mul k (2 * most))
-
-  -- the worth of a seat, from those of all
-  pub seat-worth : (worths : List ℤ) (k : ℕ) → worths ≡ worthsOf g D table → k < g .seats → bits (getD worths k (pos 0)) ≡ tableWorth T D U table k
-  unfolding worthsOf
-  seat-worth worths k e l =
-      let q : getD worths k (pos 0) ≡ tableWorth T D U table k = ap (λ x. getD x k (pos 0)) e
-      ∙ getD-places 6 (λ i. cond (ltb i (g .seats)) (tableWorth T D U table i) (pos 0)) k (pos 0) (NatL.lt-of-lt-of-le l few-seats)
-      ∙ rw (lt-ltb k (g .seats) l) refl in
-      ap bits q ∙ bits-of-small (tableWorth T D U table k) (omega (arith, sizes k l .0, most-few))
 
   pub no-seats : pos 0 ≡ nashConv T D U table 0
   unfolding nashConv

@@ -9,6 +9,7 @@ ghost use Rattle.game.specs.Table.{tableWorth, tableBest, nashConv};
 ghost use Rattle.tables.specs.Games.{gameOf, treeOf};
 ghost use Rattle.tables.specs.Facts.{nodesOf, rootUnits};
 ghost use Rattle.stored.specs.Stored.{Stored};
+ghost use Rattle.whole.specs.Worths.{worthsOf};
 ghost use Rattle.whole.specs.Memory.{Left};
 ghost use Rattle.whole.specs.Accepted.{Accepted};
 ghost use Rattle.whole.specs.Checks.{evaluation-refusal};
@@ -31,10 +32,18 @@ fn excess(best: i64, worth: i64) -> u64
 }
 
 // What a seat would gain by its best value over what the table is worth to it.
-fn seat_excess(g: Game, words: &mut [u64], seat: usize, d: usize, table: &[u8], worth: i64) -> u64
-    requires { ⌜ Stored g (now words) × Accepted g d (now table) × (seat < g .seats) × (12 * nodesOf g ≤ length (now words)) × (worth ≡ tableWorth (treeOf g) d (rootUnits g d) (now table) seat) ⌝ }
+fn seat_excess(
+    g: Game,
+    words: &mut [u64],
+    seat: usize,
+    d: usize,
+    table: &[u8],
+    worths: [i64; 6],
+) -> u64
+    requires { ⌜ Stored g (now words) × Accepted g d (now table) × (seat < g .seats) × (12 * nodesOf g ≤ length (now words)) × (worths ≡ worthsOf g d (now table)) ⌝ }
     ensures { λ r. ⌜ (pos r ≡ tableBest (treeOf g) d (rootUnits g d) (now (table .entry)) seat -ℤ tableWorth (treeOf g) d (rootUnits g d) (now (table .entry)) seat) × Stored g (now (words .exit)) ⌝ }
 {
+    let worth = worths[seat];
     let best = best::best_value(g, words, seat, d, table);
     excess(best, worth)
 }
@@ -50,7 +59,7 @@ fn evaluate(g: Game, words: &mut [u64], d: usize, table: &[u8]) -> u64
     let mut sum = 0;
     let mut seat = 0;
     while seat < seats {
-        sum += seat_excess(g, words, seat, d, table, worths[seat]);
+        sum += seat_excess(g, words, seat, d, table, worths);
         seat += 1;
     }
     sum

@@ -9,7 +9,7 @@ use Rattle.game.specs.Table.{nashConv}
 use Rattle.tables.specs.Games.{treeOf}
 use Rattle.tables.specs.Facts.{rootUnits}
 use Rattle.stored.specs.Stored.{Stored}
-use Rattle.nash_conv_units.proofs.Seats.{few-seats, seat-worth, no-seats, one-seat-more, sum-fits, all-seats}
+use Rattle.nash_conv_units.proofs.Seats.{two-seats, few-seats, no-seats, one-seat-more, sum-fits, all-seats}
 use borrow.Author.Needs.{needs}
 use Rattle.nash_conv_units.proofs.evaluate.Statement.{statement}
 use Rattle.nash_conv_units.proofs.evaluate.Tie as tie
@@ -29,26 +29,20 @@ table-worths-requires c κs = (c .before .before .before .store .ensures, c .bef
 loop-holds : tie.Need-loop-holds Inv-loop μ-loop
 loop-holds c = (search needs, no-seats (c .before .before .before .before .before .before .before .before .args .g) (c .before .before .before .before .before .before .before .before .args .d) (now (c .before .before .before .before .before .before .before .before .args .table)) (c .before .before .before .before .before .before .before .before .pre .0), c .before .before .before .before .store .ensures, refl)
 
-mul-seat-excess : tie.Need-mul-seat-excess Inv-loop μ-loop
-mul-seat-excess c = record { fits = omega (arith, few-seats (c .before .before .before .before .before .before .before .before .before .before .before .args .g) (c .before .before .before .before .before .before .before .before .before .before .before .args .d) (now (c .before .before .before .before .before .before .before .before .before .before .before .args .table)) (c .before .before .before .before .before .before .before .before .before .before .before .pre .0), c .before .loop-test .taken) }
-
-array-copy-out-seat-excess : tie.Need-array-copy-out-seat-excess Inv-loop μ-loop
-array-copy-out-seat-excess c = omega (arith, few-seats (c .before .before .before .before .before .before .before .before .before .before .before .args .g) (c .before .before .before .before .before .before .before .before .before .before .before .args .d) (now (c .before .before .before .before .before .before .before .before .before .before .before .args .table)) (c .before .before .before .before .before .before .before .before .before .before .before .pre .0), c .before .loop-test .taken)
-
 seat-excess-requires : tie.Need-seat-excess-requires Inv-loop μ-loop
-seat-excess-requires c κs = (c .before .before .before .loop .inv .2, c .before .before .before .before .before .before .before .before .before .before .before .before .pre .0, c .before .before .loop-test .taken, omega (arith, c .before .before .before .before .before .before .before .before .before .before .before .before .pre .1, c .before .before .before .loop .inv .3, c .before .before .before .before .before .before .before .before .store .kept .1 .0), seat-worth (c .before .before .before .before .before .before .before .before .before .before .before .before .args .g) (c .before .before .before .before .before .before .before .before .before .before .before .before .args .d) (now (c .before .before .before .before .before .before .before .before .before .before .before .before .args .table)) (c .before .before .before .before .before .before .before .before .before .before .before .before .pre .0) (c .before .before .before .before .table-worths .result) (c .before .before .before .loop .seat) (c .before .before .before .before .table-worths .ensures) (c .before .before .loop-test .taken))
+seat-excess-requires c κs = (c .before .before .loop .inv .2, c .before .before .before .before .before .before .before .before .before .before .before .pre .0, omega (arith, two-seats (c .before .before .before .before .before .before .before .before .before .before .before .args .g) (c .before .before .before .before .before .before .before .before .before .before .before .args .d) (now (c .before .before .before .before .before .before .before .before .before .before .before .args .table)) (c .before .before .before .before .before .before .before .before .before .before .before .pre .0), c .before .loop-test .taken), omega (arith, c .before .before .before .before .before .before .before .before .before .before .before .pre .1, c .before .before .loop .inv .3, c .before .before .before .before .before .before .before .store .kept .1 .0), c .before .before .before .table-worths .ensures)
 
 add-sum : tie.Need-add-sum Inv-loop μ-loop
-add-sum c = sum-fits (c .before .before .before .before .before .before .before .before .before .before .before .before .before .before .before .args .g) (c .before .before .before .before .before .before .before .before .before .before .before .before .before .before .before .args .d) (now (c .before .before .before .before .before .before .before .before .before .before .before .before .before .before .before .args .table)) (c .before .before .before .before .before .before .before .before .before .before .before .before .before .before .before .pre .0) (c .before .before .before .before .before .before .loop .seat) (c .before .before .before .before .before .before .loop .sum) (c .before .before .seat-excess .result) (c .before .before .before .before .before .before .loop .inv .1) (c .before .before .seat-excess .ensures .0) (c .before .before .before .before .before .loop-test .taken)
+add-sum c = sum-fits (c .before .before .before .before .before .before .before .before .before .before .before .before .before .before .args .g) (c .before .before .before .before .before .before .before .before .before .before .before .before .before .before .args .d) (now (c .before .before .before .before .before .before .before .before .before .before .before .before .before .before .args .table)) (c .before .before .before .before .before .before .before .before .before .before .before .before .before .before .pre .0) (c .before .before .before .before .before .loop .seat) (c .before .before .before .before .before .loop .sum) (c .before .before .seat-excess .result) (c .before .before .before .before .before .loop .inv .1) (c .before .before .seat-excess .ensures .0) (omega (arith, two-seats (c .before .before .before .before .before .before .before .before .before .before .before .before .before .before .args .g) (c .before .before .before .before .before .before .before .before .before .before .before .before .before .before .args .d) (now (c .before .before .before .before .before .before .before .before .before .before .before .before .before .before .args .table)) (c .before .before .before .before .before .before .before .before .before .before .before .before .before .before .pre .0), c .before .before .before .before .loop-test .taken))
 
 add-seat : tie.Need-add-seat Inv-loop μ-loop
-add-seat c = record { fits = omega (arith, few-seats (c .before .before .before .before .before .before .before .before .before .before .before .before .before .before .before .args .g) (c .before .before .before .before .before .before .before .before .before .before .before .before .before .before .before .args .d) (now (c .before .before .before .before .before .before .before .before .before .before .before .before .before .before .before .args .table)) (c .before .before .before .before .before .before .before .before .before .before .before .before .before .before .before .pre .0), c .before .before .before .before .before .loop-test .taken) }
+add-seat c = record { fits = omega (arith, few-seats (c .before .before .before .before .before .before .before .before .before .before .before .before .before .before .args .g) (c .before .before .before .before .before .before .before .before .before .before .before .before .before .before .args .d) (now (c .before .before .before .before .before .before .before .before .before .before .before .before .before .before .args .table)) (c .before .before .before .before .before .before .before .before .before .before .before .before .before .before .pre .0), c .before .before .before .before .loop-test .taken) }
 
 loop-less : tie.Need-loop-less Inv-loop μ-loop
-loop-less c = omega (arith, c .before .before .before .before .before .loop-test .taken)
+loop-less c = omega (arith, two-seats (c .before .before .before .before .before .before .before .before .before .before .before .before .before .before .args .g) (c .before .before .before .before .before .before .before .before .before .before .before .before .before .before .args .d) (now (c .before .before .before .before .before .before .before .before .before .before .before .before .before .before .args .table)) (c .before .before .before .before .before .before .before .before .before .before .before .before .before .before .pre .0), c .before .before .before .before .loop-test .taken)
 
 loop-again : tie.Need-loop-again Inv-loop μ-loop
-loop-again c = (omega (arith, c .before .before .before .before .before .loop-test .taken), one-seat-more (c .before .before .before .before .before .before .before .before .before .before .before .before .before .before .before .args .g) (c .before .before .before .before .before .before .before .before .before .before .before .before .before .before .before .args .d) (now (c .before .before .before .before .before .before .before .before .before .before .before .before .before .before .before .args .table)) (c .before .before .before .before .before .before .before .before .before .before .before .before .before .before .before .pre .0) (c .before .before .before .before .before .before .loop .seat) (c .before .before .before .before .before .before .loop .sum) (c .before .before .seat-excess .result) (c .before .before .before .before .before .before .loop .inv .1) (c .before .before .seat-excess .ensures .0), c .before .before .seat-excess .ensures .1, c .before .before .seat-excess .kept .1 .0 ∙ c .before .before .before .before .before .before .loop .inv .3)
+loop-again c = (omega (arith, two-seats (c .before .before .before .before .before .before .before .before .before .before .before .before .before .before .args .g) (c .before .before .before .before .before .before .before .before .before .before .before .before .before .before .args .d) (now (c .before .before .before .before .before .before .before .before .before .before .before .before .before .before .args .table)) (c .before .before .before .before .before .before .before .before .before .before .before .before .before .before .pre .0), c .before .before .before .before .loop-test .taken), one-seat-more (c .before .before .before .before .before .before .before .before .before .before .before .before .before .before .args .g) (c .before .before .before .before .before .before .before .before .before .before .before .before .before .before .args .d) (now (c .before .before .before .before .before .before .before .before .before .before .before .before .before .before .args .table)) (c .before .before .before .before .before .before .before .before .before .before .before .before .before .before .pre .0) (c .before .before .before .before .before .loop .seat) (c .before .before .before .before .before .loop .sum) (c .before .before .seat-excess .result) (c .before .before .before .before .before .loop .inv .1) (c .before .before .seat-excess .ensures .0), c .before .before .seat-excess .ensures .1, c .before .before .seat-excess .kept .1 .0 ∙ c .before .before .before .before .before .loop .inv .3)
 
 same-length : tie.Need-same-length Inv-loop μ-loop
 same-length c = search needs
@@ -65,8 +59,6 @@ evaluate-spec =
     store-requires
     table-worths-requires
     loop-holds
-    mul-seat-excess
-    array-copy-out-seat-excess
     seat-excess-requires
     add-sum
     add-seat
