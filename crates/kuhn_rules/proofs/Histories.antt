@@ -1,6 +1,6 @@
 -- Laws of the betting, over the front part of a history. Assumes nothing.
-use mathlib.Core.Path.{_≡_, refl, sym, ap, _∙_}
-use mathlib.Core.Bool.{Bool, true, false, cond}
+use mathlib.Core.Path.{_≡_, refl, sym, ap, _∙_, subst}
+use mathlib.Core.Bool.{Bool, true, false, not, cond}
 use mathlib.Core.List.{List, [], _∷_}
 use Prim.Native.Nat.{ℕ, zero, suc, _+_, _*_, _-_, _%_, _≤_, _<_}
 use native.Mathlib.Omega.{arith}
@@ -171,3 +171,20 @@ module _ (n : ℕ) (h : List ℕ) (one : 1 ≤ n) (e : overrun n h ≡ false) wh
 
   pub hand-lasts : Lasts
   hand-lasts = let (b, i, q, f) = opening h in by-opening b i q f (tested (ltb b (length h)))
+
+-- ---- who stands, once it is known whether any seat has bet
+-- by the place b of the first bet, or k where there is none
+pub unbet-is : (k b : ℕ) (l : List ℕ) → k ≤ length l → b ≤ k → Quiet l b → (b < k → getD l b 0 ≡ BET) → eqb b k ≡ not (bet-made (take k l))
+unbet-is k b l h m q f = at (tested (eqb b k))
+  where
+    at : Tested (eqb b k) → eqb b k ≡ not (bet-made (take k l))
+    at (holds t) = let e : b ≡ k = eqb-true b k t in rw (t, no-bet-made k l h (subst (Quiet l) e q)) refl
+    at (fails t) = let w : b < k = omega (arith, m, eqb-false b k t) in rw (t, bet-made-in k b l h q w (f w)) refl
+
+pub stands-quiet : (n : ℕ) (h : List ℕ) (p : ℕ) → true ≡ not (bet-made h) → stands n h p ≡ true
+unfolding stands or
+stands-quiet n h p e = rw (← e) refl
+
+pub stands-bet : (n : ℕ) (h : List ℕ) (p : ℕ) → false ≡ not (bet-made h) → stands n h p ≡ bets n h p
+unfolding stands or
+stands-bet n h p e = rw (← e) refl

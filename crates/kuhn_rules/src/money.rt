@@ -5,22 +5,30 @@ use crate::betting::bet_by;
 use crate::betting::first_bet;
 use crate::betting::wide;
 ghost use mathlib.Core.Path.{_≡_};
-ghost use mathlib.Core.Bool.{cond};
+ghost use mathlib.Core.Bool.{not, cond};
 ghost use mathlib.Core.Logic.{_⊎_};
 ghost use Prim.Native.Nat.{ℕ, _+_, _-_, _≤_, _<_};
 ghost use lib.IntN.{pos, negℤ};
 ghost use lib.ListN.{length, getD, take};
 ghost use Rattle.finite.specs.Finite.{sum};
-ghost use Rattle.kuhn_rules.specs.Rules.{stands, contribution, wins, payoff};
+ghost use Rattle.kuhn_rules.specs.Rules.{bet-made, stands, contribution, wins, payoff};
 ghost use Rattle.kuhn_rules.specs.Stakes.{ante, stake, payoffs-of};
 ghost use Rattle.kuhn_rules.specs.Highest.{Highest};
 
+// Whether no seat has bet.
+fn unbet(history: &[u8], acted: usize) -> bool
+    requires { ⌜ acted ≤ length (now history) ⌝ }
+    ensures { λ r. ⌜ r ≡ not (bet-made (take acted (now (history .entry)))) ⌝ }
+{
+    first_bet(history, acted) == acted
+}
+
 // Whether a seat stands: those who bet do, all if none did.
-fn standing(history: &[u8], acted: usize, n: usize, player: usize) -> bool
-    requires { ⌜ (acted ≤ length (now history)) × (1 ≤ n) ⌝ }
+fn standing(history: &[u8], acted: usize, n: usize, player: usize, quiet: bool) -> bool
+    requires { ⌜ (acted ≤ length (now history)) × (1 ≤ n) × (quiet ≡ not (bet-made (take acted (now history)))) ⌝ }
     ensures { λ r. ⌜ r ≡ stands n (take acted (now (history .entry))) player ⌝ }
 {
-    if first_bet(history, acted) == acted {
+    if quiet {
         return true;
     }
     bet_by(history, acted, n, player)
@@ -53,14 +61,14 @@ fn pot(history: &[u8], acted: usize, n: usize) -> u64
 }
 
 // The highest card among the seats that stand.
-fn highest(cards: &[u8], history: &[u8], acted: usize, n: usize) -> usize
-    requires { ⌜ (acted ≤ length (now history)) × (1 ≤ n) × (n ≤ length (now cards)) ⌝ }
+fn highest(cards: &[u8], history: &[u8], acted: usize, n: usize, quiet: bool) -> usize
+    requires { ⌜ (acted ≤ length (now history)) × (1 ≤ n) × (n ≤ length (now cards)) × (quiet ≡ not (bet-made (take acted (now history)))) ⌝ }
     ensures { λ r. ⌜ Highest n (take acted (now (history .entry))) (now (cards .entry)) n r ⌝ }
 {
     let mut top = 0;
     let mut player = 0;
     while player < n {
-        let card = shown(cards, history, acted, n, player);
+        let card = shown(cards, history, acted, n, player, quiet);
         top = larger(top, card);
         player += 1;
     }
@@ -68,11 +76,18 @@ fn highest(cards: &[u8], history: &[u8], acted: usize, n: usize) -> usize
 }
 
 // The card of a seat that stands; 0 of any other.
-fn shown(cards: &[u8], history: &[u8], acted: usize, n: usize, player: usize) -> usize
-    requires { ⌜ (acted ≤ length (now history)) × (1 ≤ n) × (player < length (now cards)) ⌝ }
+fn shown(
+    cards: &[u8],
+    history: &[u8],
+    acted: usize,
+    n: usize,
+    player: usize,
+    quiet: bool,
+) -> usize
+    requires { ⌜ (acted ≤ length (now history)) × (1 ≤ n) × (player < length (now cards)) × (quiet ≡ not (bet-made (take acted (now history)))) ⌝ }
     ensures { λ r. ⌜ r ≡ cond (stands n (take acted (now (history .entry))) player) (getD (now (cards .entry)) player 0) 0 ⌝ }
 {
-    if standing(history, acted, n, player) {
+    if standing(history, acted, n, player, quiet) {
         wide(cards[player])
     } else {
         0
@@ -86,12 +101,20 @@ fn larger(a: usize, b: usize) -> usize
 }
 
 // Whether a seat wins: it stands, and its card is the highest of those that stand.
-fn won(cards: &[u8], history: &[u8], acted: usize, n: usize, player: usize, top: usize) -> bool
-    requires { ⌜ (acted ≤ length (now history)) × (1 ≤ n) × (n ≤ length (now cards)) × (player < n) ⌝ }
+fn won(
+    cards: &[u8],
+    history: &[u8],
+    acted: usize,
+    n: usize,
+    player: usize,
+    top: usize,
+    quiet: bool,
+) -> bool
+    requires { ⌜ (acted ≤ length (now history)) × (1 ≤ n) × (n ≤ length (now cards)) × (player < n) × (quiet ≡ not (bet-made (take acted (now history)))) ⌝ }
     requires { ⌜ Highest n (take acted (now history)) (now cards) n top ⌝ }
     ensures { λ r. ⌜ r ≡ wins n (take n (now (cards .entry))) (take acted (now (history .entry))) player ⌝ }
 {
-    if standing(history, acted, n, player) {
+    if standing(history, acted, n, player, quiet) {
         wide(cards[player]) == top
     } else {
         false
@@ -116,12 +139,13 @@ pub fn payoffs(cards: &[u8], history: &[u8], acted: usize, n: usize) -> [i64; 10
     ensures { λ r. ⌜ r ≡ payoffs-of n (take n (now (cards .entry))) (take acted (now (history .entry))) ⌝ }
 {
     let total = pot(history, acted, n);
-    let top = highest(cards, history, acted, n);
+    let quiet = unbet(history, acted);
+    let top = highest(cards, history, acted, n, quiet);
     let mut out = [0i64; 10];
     let mut player = 0;
     while player < n {
         let mine = contributed(history, acted, n, player);
-        let winner = won(cards, history, acted, n, player, top);
+        let winner = won(cards, history, acted, n, player, top, quiet);
         let amount = share(total, mine, winner);
         out[player] = amount;
         player += 1;

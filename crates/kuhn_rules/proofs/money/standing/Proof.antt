@@ -1,25 +1,26 @@
--- Who stands, by the place of the first bet. Assumes nothing.
+use Rattle.kuhn_rules.proofs.Histories.{stands-quiet, stands-bet}
 use Prim.Native.Nat.{_<_}
 use mathlib.Core.Path.{sym, _∙_}
-use borrow.Author.Needs.{needs}
 use native.Mathlib.Omega.{arith}
 use Rattle.kuhn_rules.proofs.Histories.{all-stand, bettors-stand}
+use borrow.Author.Needs.{needs}
 use Rattle.kuhn_rules.proofs.money.standing.Statement.{statement}
 use Rattle.kuhn_rules.proofs.money.standing.Tie as tie
+use Rattle.kuhn_rules.proofs.money.standing.Reads as reads
+use Rattle.kuhn_rules.proofs.money.standing.Lts as lts
+use Rattle.kuhn_rules.proofs.betting.bet_by.Reads as bet-by-reads
 
-first-bet-requires : tie.Need-first-bet-requires
-first-bet-requires c κs = search needs
-
+-- src/money.rt:32:9
 returns : tie.Need-returns
-returns c = sym (all-stand _ _ _ _ (c .before .before .before .pre .0) (λ k w. c .before .first-bet .ensures .1 .0 k (omega arith)))
+returns c = sym (stands-quiet _ _ _ (sym (c .if1 .taken) ∙ c .before .before .pre .2))
 
+-- src/money.rt:34:5
 bet-by-requires : tie.Need-bet-by-requires
 bet-by-requires c κs = search needs
 
+-- src/money.rt:27:1
 returns-2 : tie.Need-returns-2
-returns-2 c =
-    let below : c .before .before .first-bet .result < c .before .before .before .before .args .acted = omega arith in
-    c .bet-by .ensures ∙ sym (bettors-stand _ _ _ _ _ (c .before .before .before .before .pre .0) (c .before .before .first-bet .ensures .1 .0) below (c .before .before .first-bet .ensures .1 .1 below))
+returns-2 c = c .bet-by .ensures ∙ sym (stands-bet _ _ _ (sym (c .before .if1 .left) ∙ c .before .before .before .pre .2))
 
 pub standing-spec : {M : Type 1} → statement M
-standing-spec = tie.close (tie.spec first-bet-requires returns bet-by-requires returns-2)
+standing-spec = tie.close (tie.spec returns bet-by-requires returns-2)
