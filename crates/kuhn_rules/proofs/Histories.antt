@@ -112,16 +112,6 @@ module _ (n a : ℕ) (l : List ℕ) (one : 1 ≤ n) (h : a ≤ length l) where
 
 -- ---- who stands
 
--- if none bet, all
-pub all-stand : (n k : ℕ) (l : List ℕ) (p : ℕ) → k ≤ length l → Quiet l k → stands n (take k l) p ≡ true
-unfolding stands or
-all-stand n k l p h q = rw (no-bet-made k l h q)
-
--- else those who bet
-pub bettors-stand : (n k b : ℕ) (l : List ℕ) (p : ℕ) → k ≤ length l → Quiet l b → b < k → getD l b 0 ≡ BET → stands n (take k l) p ≡ bets n (take k l) p
-unfolding stands or
-bettors-stand n k b l p h q w e = rw (bet-made-in k b l h q w e)
-
 -- ---- how long a hand lasts
 
 -- the place of the first bet, or the length where there is none

@@ -76,14 +76,7 @@ fn highest(cards: &[u8], history: &[u8], acted: usize, n: usize, quiet: bool) ->
 }
 
 // The card of a seat that stands; 0 of any other.
-fn shown(
-    cards: &[u8],
-    history: &[u8],
-    acted: usize,
-    n: usize,
-    player: usize,
-    quiet: bool,
-) -> usize
+fn shown(cards: &[u8], history: &[u8], acted: usize, n: usize, player: usize, quiet: bool) -> usize
     requires { ⌜ (acted ≤ length (now history)) × (1 ≤ n) × (player < length (now cards)) × (quiet ≡ not (bet-made (take acted (now history)))) ⌝ }
     ensures { λ r. ⌜ r ≡ cond (stands n (take acted (now (history .entry))) player) (getD (now (cards .entry)) player 0) 0 ⌝ }
 {

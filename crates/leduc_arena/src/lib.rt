@@ -55,14 +55,7 @@ fn children(w: &mut [u64], at: usize, state: LeducState, left: usize) -> usize
 }
 
 // Lays out the tree below x, if that is a move, where it is known whether a card is due.
-fn child(
-    w: &mut [u64],
-    at: usize,
-    state: LeducState,
-    left: usize,
-    x: u8,
-    card: bool,
-) -> usize
+fn child(w: &mut [u64], at: usize, state: LeducState, left: usize, x: u8, card: bool) -> usize
     requires { ⌜ Moving state left × (x < 6) × (card ≡ due (positionOf state)) ⌝ }
     requires { ⌜ Room at (now w) (sizes (childAt (positionOf state) left x)) ⌝ }
     ensures { λ r. ⌜ Row 2 codeOf at (now (w .entry)) (now (w .exit)) (childAt (positionOf state) left x) r ⌝ }

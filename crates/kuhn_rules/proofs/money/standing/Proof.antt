@@ -2,7 +2,6 @@ use Rattle.kuhn_rules.proofs.Histories.{stands-quiet, stands-bet}
 use Prim.Native.Nat.{_<_}
 use mathlib.Core.Path.{sym, _∙_}
 use native.Mathlib.Omega.{arith}
-use Rattle.kuhn_rules.proofs.Histories.{all-stand, bettors-stand}
 use borrow.Author.Needs.{needs}
 use Rattle.kuhn_rules.proofs.money.standing.Statement.{statement}
 use Rattle.kuhn_rules.proofs.money.standing.Tie as tie
