@@ -1,5 +1,5 @@
 -- What a call for NashConv answers, refused or accepted. Assumes nothing.
-use mathlib.Core.Path.{_≡_, sym, ap, ap₂, _∙_}
+use mathlib.Core.Path.{_≡_, ap, ap₂, _∙_}
 use Prim.Native.Nat.{ℕ, zero, suc}
 use native.Mathlib.Omega.{arith}
 use lib.IntN.{pos, natAbs}
@@ -7,7 +7,7 @@ use Rattle.game.specs.Table.{Table}
 use Rattle.tables.specs.declared.Game.{Game}
 use Rattle.tables.specs.Facts.{rootUnits}
 use Rattle.nash_conv_units.specs.declared.NashConvAnswer.{NashConvAnswer}
-use Rattle.nash_conv_units.specs.Calls.{nashConvOf, answer, Whole}
+use Rattle.nash_conv_units.specs.Calls.{nashConvOf, answer}
 
 abbrev given : (refusal conv units : ℕ) → NashConvAnswer
 given refusal conv units = record { refusal = refusal; «nash_conv» = conv; units = units }
