@@ -26,7 +26,7 @@ use Rattle.arena.specs.Held.{Says, Held}
 use Rattle.arena.specs.Index.{firstOf, laterIn, Indexed, Cleared, Kept}
 use Rattle.arena.proofs.Building.{held-same}
 use Rattle.arena.proofs.Numbering.{in-every, every-in}
-use Rattle.units.specs.Earned.{Readable}
+use Rattle.units.specs.Readable.{Readable}
 use Rattle.units.specs.Gain.{gain, setGain, topmost, Stocked}
 use Rattle.units.proofs.Gains.{gain-bound, set-gain-bound}
 use Rattle.units.proofs.Choices.{best-gains, gain-best}
