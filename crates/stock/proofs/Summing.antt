@@ -18,7 +18,7 @@ use Rattle.units.specs.Sums.{wrapped, Summed}
 use Rattle.units.proofs.Lifting.{lift-back}
 use Rattle.units.proofs.Passing.{share-few, quotient-few}
 use Rattle.units.proofs.Six.{wrapped-at, sum-wraps}
-use Rattle.stock.specs.Ends.{endGain, endGains}
+use Rattle.stock.specs.Ends.{endGain, endGains, WithNode}
 
 -- ---- one node's
 pub gain-none : (x y i : ℕ) → (kindOf x ≡ END → ⊥) → endGain x y i ≡ 0
@@ -52,14 +52,14 @@ module _ (w : List ℕ) (b i : ℕ) where
 
   gains-more : (a : ℕ) → endGains w b i 0 (a + 1) ≡ endGains w b i 0 a + at a
   unfolding endGains
-  gains-more a = gains-join 0 a 1 ∙ ap₂ (λ x y. endGains w b i 0 a + x) (NatL.add-zero (at (0 + a)) ∙ ap at (NatL.zero-add a)) refl
+  gains-more a = gains-join 0 a 1 ∙ ap (λ x. endGains w b i 0 a + x) (NatL.add-zero (at (0 + a)) ∙ ap at (NatL.zero-add a))
 
   -- ---- a tree whose units are stored for a seat that no word has
   module _ (D : ℕ) (s : Strategy) (fair : (j : ℕ) (k : Key) (a : ℕ) → s j k a ≤ D) (n : ℕ) (e : ℕ → Key → ℕ) (l : ℕ → ℕ → Key → ℕ) (seat : i < n) where
     -- an actor is below 8
     given-is : (x u j : ℕ) (k : Key) (a : ℕ) → actorOf x ≡ j → given D s 8 u j k a ≡ u * s j k a / D
     unfolding share
-    given-is x u j k a h = rw (ne-eqb j 8 (λ q. omega (arith, NatL.mod-lt (x / 4) {n = 8} (omega arith)))) refl
+    given-is x u j k a h = rw (ne-eqb j 8 (λ q. omega arith)) refl
 
     mutual
       unfolding Held Says Stocked size lifted endGains
@@ -101,6 +101,8 @@ reached-start w b r e i l = ap (λ z. getD z i 0) e ∙ none i l
     none (suc (suc (suc (suc (suc zero))))) h = refl
     none (suc (suc (suc (suc (suc (suc i)))))) h = absurd (omega arith)
 
-pub reached-more : (w : List ℕ) (b a : ℕ) (v r : List ℕ) → Reached w b a v
-    → ((f : ℕ → ℕ) → Summed f v → Summed (λ i. f i + endGain (getD w a 0) (getD w (b + a) 0 % 144115188075855872) i) r) → Reached w b (a + 1) r
-reached-more w b a v r h g i l = g (λ i. endGains w b i 0 a) h i l ∙ ap (λ z. z % 2 ^ 64) (sym (gains-more w b i a))
+pub reached-more : (w : List ℕ) (b a x y : ℕ) (v r : List ℕ) → Reached w b a v → x ≡ getD w a 0 → y ≡ getD w (b + a) 0 → WithNode x (y % 144115188075855872) v r → Reached w b (a + 1) r
+reached-more w b a x y v r h p q g i l = rw (p, q) at (g (λ i. endGains w b i 0 a) h i l) ∙ ap (λ z. z % 2 ^ 64) (sym (gains-more w b i a))
+
+pub reached-end : (w : List ℕ) (b a n : ℕ) (r : List ℕ) → a ≤ n → n ≤ a → Reached w b a r → Reached w b n r
+reached-end w b a n r p q h = let e : a ≡ n = omega arith in subst (λ x. Reached w b x r) e h

@@ -6,9 +6,9 @@ use units::sums::Sums;
 use units::sums::add;
 use units::sums::earned;
 use units::sums::none;
-ghost use Prim.Native.Nat.{ℕ, _+_, _≤_, _<_};
+ghost use Prim.Native.Nat.{_≤_, _<_};
 ghost use Rattle.units.specs.Sums.{Summed};
-ghost use Rattle.stock.specs.Ends.{endGain, endGains};
+ghost use Rattle.stock.specs.Ends.{endGains, WithNode};
 
 // Units are below this number, 2^57.
 const UNITS: u64 = 144115188075855872;
@@ -16,7 +16,7 @@ const UNITS: u64 = 144115188075855872;
 // The sums, and what y units of the node with word x are worth.
 fn with_node(sums: Sums, x: u64, y: u64) -> Sums
     requires { ⌜ y < 144115188075855872 ⌝ }
-    ensures { λ r. ⌜ (f : ℕ → ℕ) → Summed f (sums .of) → Summed (λ i. f i + endGain x y i) (r .of) ⌝ }
+    ensures { λ r. ⌜ WithNode x y (sums .of) (r .of) ⌝ }
 {
     if kind(x) != END {
         return sums;
