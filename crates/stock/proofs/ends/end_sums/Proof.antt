@@ -1,5 +1,5 @@
 use borrow.Author.Needs.{needs}
-use Prim.Native.Nat.{_+_, _-_, _%_, _≤_}
+use Prim.Native.Nat.{_-_, _≤_}
 use native.Mathlib.Omega.{arith}
 use Rattle.stock.proofs.Summing.{Reached, reached-start, reached-more, reached-end}
 use Rattle.stock.proofs.ends.end_sums.Statement.{statement}
@@ -16,43 +16,33 @@ Inv-loop w nodes units sums₀ a₀ sums a = (a ≤ nodes) × Reached w units a 
 abbrev μ-loop : tie.MeasureT-loop
 μ-loop w nodes units sums₀ a₀ sums a = nodes - a
 
--- src/ends.rt:32:9
 none-requires : tie.Need-none-requires Inv-loop μ-loop
 none-requires c κs = search needs
 
--- src/ends.rt:34:5
 loop-holds : tie.Need-loop-holds Inv-loop μ-loop
 loop-holds c = (omega arith, reached-start _ _ _ (c .none .ensures))
 
--- src/ends.rt:35:13
 word-requires : tie.Need-word-requires Inv-loop μ-loop
 word-requires c κs = search needs
 
--- src/ends.rt:36:43
 add-word : tie.Need-add-word Inv-loop μ-loop
 add-word c = record { fits = omega (arith, c .before .before .before .before .before .pre .0, c .before .before .before .before .before .pre .1, c .before .loop-test .taken) }
 
--- src/ends.rt:36:35
 word-requires-2 : tie.Need-word-requires-2 Inv-loop μ-loop
 word-requires-2 c κs = search needs
 
--- src/ends.rt:36:9
 with-node-requires : tie.Need-with-node-requires Inv-loop μ-loop
 with-node-requires c κs = omega arith
 
--- src/ends.rt:37:9
 add-a : tie.Need-add-a Inv-loop μ-loop
 add-a c = search needs
 
--- src/ends.rt:34:5
 loop-less : tie.Need-loop-less Inv-loop μ-loop
 loop-less c = omega (arith, c .before .before .before .loop-test .taken)
 
--- src/ends.rt:34:5
 loop-again : tie.Need-loop-again Inv-loop μ-loop
 loop-again c = (omega (arith, c .before .before .before .loop-test .taken), reached-more _ _ _ _ _ (c .before .before .before .before .loop .sums .of) (c .with-node .result .of) (c .before .before .before .before .loop .inv .1) (c .before .before .word .ensures) (c .before .word2 .ensures) (c .with-node .ensures))
 
--- src/ends.rt:28:1
 returns : tie.Need-returns Inv-loop μ-loop
 returns c = reached-end _ _ _ _ (c .before .loop .sums .of) (c .before .loop .inv .0) (omega (arith, c .loop-test .left)) (c .before .loop .inv .1)
 

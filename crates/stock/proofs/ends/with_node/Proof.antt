@@ -9,23 +9,18 @@ use Rattle.arena.proofs.words.kind.Reads as kind-reads
 use Rattle.units.proofs.sums.add.Reads as add-reads
 use Rattle.units.proofs.sums.earned.Reads as earned-reads
 
--- src/ends.rt:21:8
 kind-requires : tie.Need-kind-requires
 kind-requires c κs = search needs
 
--- src/ends.rt:22:9
 returns : tie.Need-returns
 returns c = λ f h. with-none (c .before .before .args .x) (c .before .before .args .y) f (c .before .before .args .sums .of) h (λ q. c .if1 .taken (c .before .kind .ensures ∙ q))
 
--- src/ends.rt:24:15
 earned-requires : tie.Need-earned-requires
 earned-requires c κs = search needs
 
--- src/ends.rt:24:5
 add-requires : tie.Need-add-requires
 add-requires c κs = search needs
 
--- src/ends.rt:17:1
 returns-2 : tie.Need-returns-2
 returns-2 c = λ f h. with-end (c .before .before .before .before .args .x) (c .before .before .before .before .args .y) f (c .before .before .before .before .args .sums .of) h _ _ (sym (c .before .before .before .kind .ensures) ∙ c .before .before .if1 .left) (c .before .earned .ensures) (c .add .ensures)
 
