@@ -20,14 +20,7 @@ pub struct ReplyAnswer {
 }
 
 // The best value of a seat against a table that is not refused, and its reply written to out, with the game's tree stored in the words for it.
-fn evaluate(
-    g: Game,
-    words: &mut [u64],
-    seat: usize,
-    d: usize,
-    table: &[u8],
-    out: &mut [u8],
-) -> i64
+fn evaluate(g: Game, words: &mut [u64], seat: usize, d: usize, table: &[u8], out: &mut [u8]) -> i64
     requires { ⌜ Accepted g d (now table) × (seat < g .seats) × (12 * nodesOf g ≤ length (now words)) ⌝ }
     ensures { λ r. ⌜ (r ≡ tableBest (treeOf g) d (rootUnits g d) (now (table .entry)) seat)
         × (now (out .exit) ≡ sets (now (out .entry)) 0 (replyTable (treeOf g) d (rootUnits g d) (now (table .entry)) seat))

@@ -82,4 +82,4 @@ module _ (g : Game) (D : ℕ) (table : Table) (a : Accepted g D table) (h E : �
           let s = o .is v (g .seats) T T (laterIn T) (λ b k. refl) readable (omega (arith, size-is, room .before)) (omega (arith, size-is, room .within, long)) .0 in
           f i (NatL.lt-of-lt-of-le l (games-shaped g (a .game) .most)) ∙ ap (λ m. endGains w (h + E) i 0 m % 2 ^ 64) (t ∙ sym size-is)
           ∙ ap (λ m. m % 2 ^ 64) (gains-lifted w (h + E) i D (strategyOf T table) (λ j k b. readable .few (firstEntry T j k + b)) (g .seats) (firstEntry T) (laterIn T) l 0 u T (j .1) (still-stored 8 v w x o .held) s
-              ∙ ap (λ m. lifted D (strategyOf T table) i m T) (j .0))
+          ∙ ap (λ m. lifted D (strategyOf T table) i m T) (j .0))

@@ -64,9 +64,13 @@ returns-2 c =
     let whole : toZ w64 (ofZ w64 (c .before .before .before .before .evaluate .result)) ≡ c .before .before .before .before .evaluate .result = search needs in
     let reply = subst (λ v. BestReply (gameOf (c .before .before .before .before .before .before .before .before .before .before .before .before .before .args .number) (c .before .before .before .before .before .before .before .before .before .before .before .before .before .args .seats)) (c .before .before .before .before .before .before .before .before .before .before .before .before .before .args .d) (c .before .before .before .before .before .before .before .before .before .before .before .before .before .args .seat) (now (c .before .before .before .before .before .before .before .before .before .before .before .before .before .args .table)) v (replyTable (treeOf (gameOf (c .before .before .before .before .before .before .before .before .before .before .before .before .before .args .number) (c .before .before .before .before .before .before .before .before .before .before .before .before .before .args .seats))) (c .before .before .before .before .before .before .before .before .before .before .before .before .before .args .d) (rootUnits (gameOf (c .before .before .before .before .before .before .before .before .before .before .before .before .before .args .number) (c .before .before .before .before .before .before .before .before .before .before .before .before .before .args .seats)) (c .before .before .before .before .before .before .before .before .before .before .before .before .before .args .d)) (now (c .before .before .before .before .before .before .before .before .before .before .before .before .before .args .table)) (c .before .before .before .before .before .before .before .before .before .before .before .before .before .args .seat))) (sym whole) (c .before .before .before .before .evaluate .ensures .2) in (
       outcome.answered _ _ (gameOf (c .before .before .before .before .before .before .before .before .before .before .before .before .before .args .number) (c .before .before .before .before .before .before .before .before .before .before .before .before .before .args .seats)) (c .before .before .before .before .before .before .before .before .before .before .before .before .before .args .seat) (c .before .before .before .before .before .before .before .before .before .before .before .before .before .args .d) (now (c .before .before .before .before .before .before .before .before .before .before .before .before .before .args .table)) (c .before .before .before .before .before .before .before .before .before .reply-refusal .ensures) _ (c .before .before .before .before .before .before .before .before .if1 .left) (whole ∙ c .before .before .before .before .evaluate .ensures .0),
-      (outcome.was-written _ (gameOf (c .before .before .before .before .before .before .before .before .before .before .before .before .before .args .number) (c .before .before .before .before .before .before .before .before .before .before .before .before .before .args .seats)) (c .before .before .before .before .before .before .before .before .before .before .before .before .before .args .seat) (c .before .before .before .before .before .before .before .before .before .before .before .before .before .args .d) (now (c .before .before .before .before .before .before .before .before .before .before .before .before .before .args .table)) (toZ w64 (ofZ w64 (c .before .before .before .before .evaluate .result))) (now (c .before .before .before .before .before .before .before .before .before .before .before .before .before .args .out)) (c .before .before .before .before .evaluate .last .1 .1 .1 .1 .1 .0) (c .before .before .before .before .before .before .before .before .if1 .left) (outcome.accepted-room (gameOf (c .before .before .before .before .before .before .before .before .before .before .before .before .before .args .number) (c .before .before .before .before .before .before .before .before .before .before .before .before .before .args .seats)) (length (now (c .before .before .before .before .before .before .before .before .before .before .before .before .before .args .work))) (c .before .before .before .before .before .before .before .before .before .before .before .before .before .args .seat) (c .before .before .before .before .before .before .before .before .before .before .before .before .before .args .d) (now (c .before .before .before .before .before .before .before .before .before .before .before .before .before .args .table)) (length (now (c .before .before .before .before .before .before .before .before .before .before .before .before .before .args .out))) (sym (c .before .before .before .before .before .before .before .before .before .reply-refusal .ensures) ∙ c .before .before .before .before .before .before .before .before .if1 .left)) (c .before .before .before .before .evaluate .ensures .1) reply,
-      (outcome.demanded _ (gameOf (c .before .before .before .before .before .before .before .before .before .before .before .before .before .args .number) (c .before .before .before .before .before .before .before .before .before .before .before .before .before .args .seats)) (c .before .before .before .before .before .before .before .before .before .before .before .before .before .args .seat) (c .before .before .before .before .before .before .before .before .before .before .before .before .before .args .d) (now (c .before .before .before .before .before .before .before .before .before .before .before .before .before .args .table)) (toZ w64 (ofZ w64 (c .before .before .before .before .evaluate .result))) (now (c .before .before .before .before .before .before .before .before .before .before .before .before .before .args .out)) (c .before .before .before .before .evaluate .last .1 .1 .1 .1 .1 .0) (c .before .before .before .before .before .before .before .before .if1 .left) (outcome.accepted-room (gameOf (c .before .before .before .before .before .before .before .before .before .before .before .before .before .args .number) (c .before .before .before .before .before .before .before .before .before .before .before .before .before .args .seats)) (length (now (c .before .before .before .before .before .before .before .before .before .before .before .before .before .args .work))) (c .before .before .before .before .before .before .before .before .before .before .before .before .before .args .seat) (c .before .before .before .before .before .before .before .before .before .before .before .before .before .args .d) (now (c .before .before .before .before .before .before .before .before .before .before .before .before .before .args .table)) (length (now (c .before .before .before .before .before .before .before .before .before .before .before .before .before .args .out))) (sym (c .before .before .before .before .before .before .before .before .before .reply-refusal .ensures) ∙ c .before .before .before .before .before .before .before .before .if1 .left)) (c .before .before .before .before .evaluate .ensures .1) reply,
-      rest-left _ _ (gameOf (c .before .before .before .before .before .before .before .before .before .before .before .before .before .args .number) (c .before .before .before .before .before .before .before .before .before .before .before .before .before .args .seats)) (now (c .before .before .before .before .before .before .before .before .before .before .before .before .before .args .work)) (c .before .before .before .before .evaluate .last .1 .0) (c .before .before .before .before .before .before .before .before .if1 .left) (outcome.accepted-game (gameOf (c .before .before .before .before .before .before .before .before .before .before .before .before .before .args .number) (c .before .before .before .before .before .before .before .before .before .before .before .before .before .args .seats)) (length (now (c .before .before .before .before .before .before .before .before .before .before .before .before .before .args .work))) (c .before .before .before .before .before .before .before .before .before .before .before .before .before .args .seat) (c .before .before .before .before .before .before .before .before .before .before .before .before .before .args .d) (now (c .before .before .before .before .before .before .before .before .before .before .before .before .before .args .table)) (length (now (c .before .before .before .before .before .before .before .before .before .before .before .before .before .args .out))) (sym (c .before .before .before .before .before .before .before .before .before .reply-refusal .ensures) ∙ c .before .before .before .before .before .before .before .before .if1 .left) .seats) (c .before .before .before .before .before .before .before .nodes .ensures) (outcome.nodes-room (gameOf (c .before .before .before .before .before .before .before .before .before .before .before .before .before .args .number) (c .before .before .before .before .before .before .before .before .before .before .before .before .before .args .seats)) (length (now (c .before .before .before .before .before .before .before .before .before .before .before .before .before .args .work))) (c .before .before .before .before .before .before .before .before .before .before .before .before .before .args .seat) (c .before .before .before .before .before .before .before .before .before .before .before .before .before .args .d) (now (c .before .before .before .before .before .before .before .before .before .before .before .before .before .args .table)) (length (now (c .before .before .before .before .before .before .before .before .before .before .before .before .before .args .out))) (sym (c .before .before .before .before .before .before .before .before .before .reply-refusal .ensures) ∙ c .before .before .before .before .before .before .before .before .if1 .left) _ (c .before .before .before .before .before .before .before .nodes .ensures)) (c .before .before .before .before .evaluate .kept .1 .0))),
+      (
+        outcome.was-written _ (gameOf (c .before .before .before .before .before .before .before .before .before .before .before .before .before .args .number) (c .before .before .before .before .before .before .before .before .before .before .before .before .before .args .seats)) (c .before .before .before .before .before .before .before .before .before .before .before .before .before .args .seat) (c .before .before .before .before .before .before .before .before .before .before .before .before .before .args .d) (now (c .before .before .before .before .before .before .before .before .before .before .before .before .before .args .table)) (toZ w64 (ofZ w64 (c .before .before .before .before .evaluate .result))) (now (c .before .before .before .before .before .before .before .before .before .before .before .before .before .args .out)) (c .before .before .before .before .evaluate .last .1 .1 .1 .1 .1 .0) (c .before .before .before .before .before .before .before .before .if1 .left) (outcome.accepted-room (gameOf (c .before .before .before .before .before .before .before .before .before .before .before .before .before .args .number) (c .before .before .before .before .before .before .before .before .before .before .before .before .before .args .seats)) (length (now (c .before .before .before .before .before .before .before .before .before .before .before .before .before .args .work))) (c .before .before .before .before .before .before .before .before .before .before .before .before .before .args .seat) (c .before .before .before .before .before .before .before .before .before .before .before .before .before .args .d) (now (c .before .before .before .before .before .before .before .before .before .before .before .before .before .args .table)) (length (now (c .before .before .before .before .before .before .before .before .before .before .before .before .before .args .out))) (sym (c .before .before .before .before .before .before .before .before .before .reply-refusal .ensures) ∙ c .before .before .before .before .before .before .before .before .if1 .left)) (c .before .before .before .before .evaluate .ensures .1) reply,
+        (
+          outcome.demanded _ (gameOf (c .before .before .before .before .before .before .before .before .before .before .before .before .before .args .number) (c .before .before .before .before .before .before .before .before .before .before .before .before .before .args .seats)) (c .before .before .before .before .before .before .before .before .before .before .before .before .before .args .seat) (c .before .before .before .before .before .before .before .before .before .before .before .before .before .args .d) (now (c .before .before .before .before .before .before .before .before .before .before .before .before .before .args .table)) (toZ w64 (ofZ w64 (c .before .before .before .before .evaluate .result))) (now (c .before .before .before .before .before .before .before .before .before .before .before .before .before .args .out)) (c .before .before .before .before .evaluate .last .1 .1 .1 .1 .1 .0) (c .before .before .before .before .before .before .before .before .if1 .left) (outcome.accepted-room (gameOf (c .before .before .before .before .before .before .before .before .before .before .before .before .before .args .number) (c .before .before .before .before .before .before .before .before .before .before .before .before .before .args .seats)) (length (now (c .before .before .before .before .before .before .before .before .before .before .before .before .before .args .work))) (c .before .before .before .before .before .before .before .before .before .before .before .before .before .args .seat) (c .before .before .before .before .before .before .before .before .before .before .before .before .before .args .d) (now (c .before .before .before .before .before .before .before .before .before .before .before .before .before .args .table)) (length (now (c .before .before .before .before .before .before .before .before .before .before .before .before .before .args .out))) (sym (c .before .before .before .before .before .before .before .before .before .reply-refusal .ensures) ∙ c .before .before .before .before .before .before .before .before .if1 .left)) (c .before .before .before .before .evaluate .ensures .1) reply,
+          rest-left _ _ (gameOf (c .before .before .before .before .before .before .before .before .before .before .before .before .before .args .number) (c .before .before .before .before .before .before .before .before .before .before .before .before .before .args .seats)) (now (c .before .before .before .before .before .before .before .before .before .before .before .before .before .args .work)) (c .before .before .before .before .evaluate .last .1 .0) (c .before .before .before .before .before .before .before .before .if1 .left) (outcome.accepted-game (gameOf (c .before .before .before .before .before .before .before .before .before .before .before .before .before .args .number) (c .before .before .before .before .before .before .before .before .before .before .before .before .before .args .seats)) (length (now (c .before .before .before .before .before .before .before .before .before .before .before .before .before .args .work))) (c .before .before .before .before .before .before .before .before .before .before .before .before .before .args .seat) (c .before .before .before .before .before .before .before .before .before .before .before .before .before .args .d) (now (c .before .before .before .before .before .before .before .before .before .before .before .before .before .args .table)) (length (now (c .before .before .before .before .before .before .before .before .before .before .before .before .before .args .out))) (sym (c .before .before .before .before .before .before .before .before .before .reply-refusal .ensures) ∙ c .before .before .before .before .before .before .before .before .if1 .left) .seats) (c .before .before .before .before .before .before .before .nodes .ensures) (outcome.nodes-room (gameOf (c .before .before .before .before .before .before .before .before .before .before .before .before .before .args .number) (c .before .before .before .before .before .before .before .before .before .before .before .before .before .args .seats)) (length (now (c .before .before .before .before .before .before .before .before .before .before .before .before .before .args .work))) (c .before .before .before .before .before .before .before .before .before .before .before .before .before .args .seat) (c .before .before .before .before .before .before .before .before .before .before .before .before .before .args .d) (now (c .before .before .before .before .before .before .before .before .before .before .before .before .before .args .table)) (length (now (c .before .before .before .before .before .before .before .before .before .before .before .before .before .args .out))) (sym (c .before .before .before .before .before .before .before .before .before .reply-refusal .ensures) ∙ c .before .before .before .before .before .before .before .before .if1 .left) _ (c .before .before .before .before .before .before .before .nodes .ensures)) (c .before .before .before .before .evaluate .kept .1 .0),
+        ),
+      ),
     )
 
 pub best-reply-spec : {M : Type 1} → statement M

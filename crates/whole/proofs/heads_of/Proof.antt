@@ -1,3 +1,4 @@
+-- Where the first members stand, by game number. Assumes nothing.
 use native.Mathlib.Omega.{arith}
 use Rattle.whole.proofs.Facts.{kuhn-two, kuhn-six}
 use Rattle.whole.proofs.Places as places

@@ -1,3 +1,4 @@
+-- An end adds to the sums, another node does not. Assumes nothing.
 use mathlib.Core.Path.{sym, _∙_}
 use Rattle.stock.proofs.Summing.{with-none, with-end}
 use borrow.Author.Needs.{needs}
