@@ -1,3 +1,2 @@
 -- Lemmas on the best value over a game's stored tree.
-pub mod Places
 pub mod Staging

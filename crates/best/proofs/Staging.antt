@@ -6,27 +6,25 @@ use Prim.Native.Nat.{ℕ, zero, suc, pred, _+_, _*_, _%_, _^_, _≤_, _<_}
 use native.Mathlib.Nat as NatL
 use native.Mathlib.Omega.{arith}
 use lib.IntN.{ℤ, pos, _+ℤ_, _-ℤ_}
-use mathlib.Core.Bool.{Bool, true, false, cond}
-use lib.Dec.{eqb, leb}
+use mathlib.Core.Bool.{cond}
+use lib.Dec.{eqb}
 use lib.ListN.{length, getD}
 use lib.Seq.{sets}
 use Rattle.game.specs.Tree.{Key, Strategy, Tree, end, chance, decide, Every, Pays, all, Valid}
 use Rattle.game.specs.Reply.{Choice, pure, replyTree, best, bestValue, reply}
-use Rattle.game.specs.Sets.{Decision, size, entries, firstEntry, setMembers, setCount}
+use Rattle.game.specs.Sets.{Decision, size, entries, firstEntry, setCount}
 use Rattle.game.specs.Table.{Table, strategyOf, tableOf, tableBest, replyTable}
 use Rattle.game.proofs.Entries.{entry-inside}
 use Rattle.game.proofs.Against.{every-both}
 use Rattle.game.proofs.TableTheorem.{table-valid}
 use Rattle.tables.specs.declared.Game.{Game}
-use Rattle.tables.specs.Games.{isKuhn, treeOf, C, m, largestPayoff}
+use Rattle.tables.specs.Games.{treeOf, C, m, largestPayoff}
 use Rattle.tables.specs.Facts.{nodesOf, entriesOf, setsOf, rootUnits}
 use Rattle.tables.proofs.Facts.{reply-best, games-fit, nodes-are, entries-are, counted-games}
 use Rattle.arena.specs.Words.{CHANCE, kindOf}
 use Rattle.arena.specs.Held.{Says, Held}
-use Rattle.arena.specs.Index.{firstOf, laterIn, Indexed, Cleared, Kept}
-use Rattle.arena.proofs.Building.{held-same}
-use Rattle.arena.proofs.Numbering.{in-every, every-in}
-use Rattle.units.specs.Earned.{Readable}
+use Rattle.arena.specs.Index.{laterIn, Indexed, Cleared, Kept}
+use Rattle.units.specs.Readable.{Readable}
 use Rattle.units.specs.Gain.{gain, setGain, topmost, Stocked}
 use Rattle.units.proofs.Gains.{gain-bound, set-gain-bound}
 use Rattle.units.proofs.Choices.{best-gains, gain-best}
@@ -39,18 +37,12 @@ use Rattle.stored.specs.Stored.{headsOf, Stored}
 use Rattle.whole.specs.Facts as Whole
 use Rattle.whole.specs.Accepted.{Accepted}
 use Rattle.whole.proofs.Facts.{games-shaped, units-fit, games-readable}
-use Rattle.whole.proofs.Lowering.{pays-more, back}
+use Rattle.whole.specs.Places.{unitsAt, keptAt}
+use Rattle.whole.proofs.Lowering.{pays-more, back, few-parts}
+use Rattle.whole.proofs.Places.{Roomy, roomy, Deals, root-deals}
+use Rattle.whole.proofs.Standing.{indexed-same}
 use Rattle.best.specs.Best.{Unbeaten, BestReply}
-use Rattle.best.specs.Staged.{unitsAt, keptAt, Staged}
-use Rattle.best.proofs.Places.{Roomy, roomy, Deals, root-deals}
-
--- ---- an index stands where its words do
-indexed-same : (n h : ℕ) (v w : List ℕ) (t : Tree) → Every (λ j k a. 1 ≤ a) t → size t ≤ h → ((p : ℕ) → p < h + entries t → getD w p 0 ≡ getD v p 0) → Indexed n h v t → Indexed n h w t
-indexed-same n h v w t some l e x = record {
-  held = held-same n (firstEntry t) (laterIn t) v w 0 t (x .held) (λ p a b. e p (omega arith));
-  heads = in-every (λ j k a. getD w (h + firstEntry t j k) 0 ≡ firstOf (setMembers t j k)) t
-      (λ d m. e (h + firstEntry t (d .0) (d .1)) (omega (arith, entry-inside t some d m)) ∙ every-in (λ j k a. getD v (h + firstEntry t j k) 0 ≡ firstOf (setMembers t j k)) t (x .heads) d m);
-}
+use Rattle.best.specs.Staged.{Staged}
 
 module _ (g : Game) (D i : ℕ) (table : Table) (a : Accepted g D table) (l : i < g .seats) where
   abbrev T : Tree
@@ -187,12 +179,7 @@ module _ (g : Game) (D i : ℕ) (table : Table) (a : Accepted g D table) (l : i 
       stored = indexed-same (g .seats) (headsOf g) z e T some (omega (arith, size-is, room .before)) (λ p j. found .0 .words p (omega (arith, entries-is))) indexed
 
   pub parts-few : D ≤ 64
-  parts-few = at (isKuhn g) (leb (g .seats) 4) (a .most)
-    where
-      at : (b c : Bool) → D ≤ cond b (cond c 64 16) 64 → D ≤ 64
-      at true true h = h
-      at true false h = omega arith
-      at false c h = h
+  parts-few = few-parts g D table a
 
   -- the same by the numbers in hand
   module _ (E h n : ℕ) (p : E ≡ entriesOf g) (q : h ≡ headsOf g) (t : n ≡ nodesOf g) where

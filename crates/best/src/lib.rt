@@ -5,6 +5,8 @@ use reply::values::value;
 use reply_table::write_reply;
 use stock::collect;
 use tables::Game;
+use whole::DEPTH;
+use whole::heads_of;
 use whole::root_units;
 use whole::worths::lowered;
 ghost use mathlib.Core.Path.{_≡_};
@@ -14,31 +16,10 @@ ghost use lib.Seq.{sets};
 ghost use Rattle.game.specs.Table.{tableBest, replyTable};
 ghost use Rattle.tables.specs.Games.{treeOf};
 ghost use Rattle.tables.specs.Facts.{nodesOf, rootUnits};
-ghost use Rattle.stored.specs.Stored.{headsOf, Stored};
-ghost use Rattle.whole.specs.Facts.{Known};
+ghost use Rattle.stored.specs.Stored.{Stored};
 ghost use Rattle.whole.specs.Accepted.{Accepted};
 ghost use Rattle.best.specs.Best.{Unbeaten, BestReply};
 ghost use Rattle.best.specs.Staged.{Staged};
-
-// Where the first members of the sets stand: for Kuhn with 2 to 6 seats, from place 2, and Leduc.
-const KUHN_HEADS: [usize; 7] = [0, 0, 82, 745, 8526, 119509, 1958356];
-
-const LEDUC_HEADS: usize = 19621;
-
-// The depth of a walk: no path of a game has more nodes.
-const DEPTH: usize = 32;
-
-// Where the first members of a game's sets stand.
-fn heads_of(g: Game) -> usize
-    requires { ⌜ Known g ⌝ }
-    ensures { λ r. ⌜ r ≡ headsOf g ⌝ }
-{
-    let seats = g.seats;
-    if g.number == Game::KUHN {
-        return KUHN_HEADS[seats];
-    }
-    LEDUC_HEADS
-}
 
 // The best value of a seat against a table that is not refused.
 pub fn best_value(g: Game, w: &mut [u64], seat: usize, d: usize, table: &[u8]) -> i64

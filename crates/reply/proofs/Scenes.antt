@@ -19,7 +19,7 @@ use Rattle.arena.specs.Index.{laterIn, Indexed}
 use Rattle.arena.proofs.Building.{size-some}
 use Rattle.arena.proofs.Numbering.{in-every, every-in}
 use Rattle.units.specs.Gain.{Member, given, gain, gainAll, gainPick, found, foundAll, Stocked, StockedAll}
-use Rattle.units.proofs.Adding.{share-few}
+use Rattle.units.proofs.Passing.{share-few}
 use Rattle.reply.specs.Valued.{placeOf, Scene, Known, Noted, Here, HereAll, gained, gainedAll}
 
 pub levels-some : (v : ℕ → Key → ℕ) (d : ℕ) (t : Tree) → Levels v d t → 0 < d

@@ -20,7 +20,7 @@ use Rattle.arena.specs.Walk.{Behind}
 use Rattle.arena.proofs.Building.{size-some, held-same, held-same-all}
 use Rattle.units.specs.Lifted.{lift}
 use Rattle.units.specs.Gain.{given, gain, gainAll, gainPick, Stocked, topmost}
-use Rattle.units.proofs.Adding.{lift-back}
+use Rattle.units.proofs.Lifting.{lift-back}
 use Rattle.units.proofs.Six.{product, sum-wraps}
 use Rattle.reply.specs.Valued.{Child, Walkable, Scene, Known, Noted, Here, HereAll, gained, gainedAll, behindAction, placeOf, Valued, ValuedAll, ValuedOwn, Chosen, Totalled}
 use Rattle.reply.proofs.Scenes.{levels-some, kids-chance, kids-decide, first, rest, pick-child, known-of}

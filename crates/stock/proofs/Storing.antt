@@ -18,10 +18,10 @@ use Rattle.arena.specs.Held.{Says, Held, HeldAll}
 use Rattle.arena.specs.Walk.{Behind, Fan}
 use Rattle.arena.specs.Index.{Kept}
 use Rattle.arena.proofs.Building.{size-some, held-same, held-same-all, kept-none, kept-join, kept-set}
-use Rattle.units.specs.Earned.{Readable, ReadableAll}
+use Rattle.units.specs.Readable.{Readable, ReadableAll}
 use Rattle.units.specs.Gain.{given, Stocked, StockedAll}
 use Rattle.units.proofs.Reading.{deep-some, chance-row, decide-row, first, rest, near}
-use Rattle.units.proofs.Adding.{walk-down, walk-along, walk-here}
+use Rattle.units.proofs.Passing.{walk-down, walk-along, walk-here}
 use Rattle.stock.specs.Collected.{Storable, Alike, Collected, CollectedAll, Each, Dealt, Moved, Shared}
 
 -- ---- words that stay

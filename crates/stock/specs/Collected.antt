@@ -8,7 +8,7 @@ use Rattle.game.specs.Sets.{size, sizes, firstEntry}
 use Rattle.game.specs.Table.{strategyOf}
 use Rattle.arena.specs.Words.{actorOf, actionsOf, setOf, nextOf}
 use Rattle.arena.specs.Index.{Kept}
-use Rattle.units.specs.Earned.{Entered, Readable, ReadableAll, Walkable}
+use Rattle.units.specs.Readable.{Entered, Readable, ReadableAll, Walkable}
 use Rattle.units.specs.Gain.{given, Stocked, StockedAll}
 
 -- a walk whose units stand from place b on

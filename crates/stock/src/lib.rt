@@ -1,4 +1,6 @@
 // The units of each node, for a seat that replies to a table: stored in work memory, behind the tree.
+pub mod ends;
+
 use arena::walk::behind;
 use arena::walk::fan;
 use arena::words::CHANCE;

@@ -1,6 +1,6 @@
 pub mod Six
 pub mod Reading
-pub mod Adding
+pub mod Passing
 pub mod Lifting
 pub mod Found
 pub mod Gains

@@ -1,10 +1,12 @@
 -- A lifted worth is the worth and 64 for each unit of the ends. Assumes nothing.
 use mathlib.Core.Path.{_≡_, refl, sym, ap, ap₂, _∙_}
-use Prim.Native.Nat.{ℕ, zero, suc, _+_, _*_, _/_, _≤_}
+use Prim.Native.Nat.{ℕ, zero, suc, _+_, _*_, _/_, _≤_, _<_}
 use native.Mathlib.Nat as NatL
 use native.Mathlib.Omega.{arith}
-use borrow.Author.Tests.{le-ltb}
-use lib.IntN.{ℤ, pos, negsuc, _+ℤ_, natAbs, +ℤ-assoc, +ℤ-comm}
+use borrow.Author.Tests.{le-ltb, ltb-true, ltb-false}
+use lib.Dec.{ltb}
+use lib.IntN.{ℤ, pos, negsuc, _+ℤ_, _-ℤ_, natAbs, +ℤ-assoc, +ℤ-comm}
+use Rattle.finite.proofs.Tests.{Tested, holds, fails, tested}
 use Rattle.game.specs.Sums.{_·_}
 use Rattle.game.specs.Tree.{Key, Tree, end, chance, decide, Trees, nil, cons, fan, Strategy, all, worth, worthAll, worthKids, units, unitsAll, unitsKids, Pays, PaysAll}
 use Rattle.game.proofs.Integers.{·-sum, +ℤ-left-comm}
@@ -13,6 +15,14 @@ use Rattle.units.specs.Lifted.{lift, lifted, liftedAll, liftedKids}
 lift-is : (z : ℤ) → natAbs z ≤ 60 → pos (lift z) ≡ z +ℤ pos 64
 lift-is (pos a) h = refl
 lift-is (negsuc a) h = sym (rw (le-ltb 64 (suc a) (omega arith)) refl)
+
+-- a byte is the lifted payoff that it stands for
+pub lift-back : (b : ℕ) → lift (pos b -ℤ pos 64) ≡ b
+lift-back b = at (tested (ltb b 64))
+  where
+    at : Tested (ltb b 64) → lift (pos b -ℤ pos 64) ≡ b
+    at (holds e) = let l : b < 64 = ltb-true b 64 e in rw e (omega arith)
+    at (fails e) = let l : 64 ≤ b = ltb-false b 64 e in rw e (omega arith)
 
 pub lift-times : (u : ℕ) (z : ℤ) → natAbs z ≤ 60 → pos (u * lift z) ≡ u · z +ℤ pos (64 * u)
 unfolding _·_

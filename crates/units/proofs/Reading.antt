@@ -7,7 +7,7 @@ use native.Mathlib.Omega.{arith}
 use Rattle.game.specs.Tree.{Key, Tree, end, chance, decide, Trees, cons, Every}
 use Rattle.game.specs.Sets.{size, firstEntry}
 use Rattle.arena.specs.Held.{Held, HeldAll}
-use Rattle.units.specs.Earned.{deep, deepAll, Readable, ReadableAll}
+use Rattle.units.specs.Readable.{deep, deepAll, Readable, ReadableAll}
 
 pub deep-some : (t : Tree) → 1 ≤ deep t
 unfolding deep

@@ -1,4 +1,3 @@
 // Whole units over a tree in work memory.
 pub mod shares;
 pub mod sums;
-pub mod worths;

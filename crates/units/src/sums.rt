@@ -5,7 +5,7 @@ ghost use mathlib.Core.Path.{_≡_};
 ghost use Prim.Native.Nat.{_+_, _*_, _<_};
 ghost use lib.ListN.{getD, replicate};
 ghost use Rattle.arena.specs.Words.{byteOf};
-ghost use Rattle.units.specs.Earned.{wrapped};
+ghost use Rattle.units.specs.Sums.{wrapped};
 
 pub struct Sums {
     pub of: [u64; 6],

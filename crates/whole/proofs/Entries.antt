@@ -16,7 +16,7 @@ use Rattle.game.specs.Table.{Table, addUp}
 use Rattle.game.proofs.Against.{every-both}
 use Rattle.game.proofs.Sets.{Stands, sets-stand, clash}
 use Rattle.game.proofs.Tables.{seats-at}
-use Rattle.units.specs.Earned.{Entered}
+use Rattle.units.specs.Readable.{Entered}
 
 -- ---- where they stand
 module _ (t : Tree) (h : SameActions t) (f : Every (λ j k n. (2 ≤ n) × (n ≤ 3)) t) where

@@ -4,4 +4,6 @@ pub mod Facts
 pub mod Powers
 pub mod Passed
 pub mod Lowering
+pub mod Places
+pub mod Standing
 pub mod Leaving

@@ -2,7 +2,7 @@
 use mathlib.Core.Path.{_≡_, refl, sym, ap, ap₂, _∙_, subst}
 use mathlib.Core.Bool.{Bool, true, false, cond}
 use mathlib.Core.List.{List}
-use Prim.Native.Nat.{ℕ, zero, suc, _+_, _-_, _*_, _^_, _≤_, _<_}
+use Prim.Native.Nat.{ℕ, zero, suc, _+_, _-_, _*_, _%_, _^_, _≤_, _<_}
 use native.Mathlib.Nat as NatL
 use native.Mathlib.Omega.{arith}
 use lib.Dec.{leb, ltb}
@@ -18,14 +18,11 @@ use Rattle.tables.specs.declared.Game.{Game}
 use Rattle.tables.specs.Games.{isKuhn, treeOf, C, m, largestPayoff}
 use Rattle.tables.specs.Facts.{rootUnits}
 use Rattle.tables.proofs.Facts.{games-fit}
-use Rattle.arena.specs.Index.{laterIn}
 use Rattle.units.specs.Lifted.{lifted}
-use Rattle.units.specs.Earned.{Earned}
 use Rattle.units.proofs.Lifting.{lifted-is}
-use Rattle.stored.specs.Stored.{Stored}
 use Rattle.whole.specs.Worths.{worthsOf, loweredOf}
 use Rattle.whole.specs.Accepted.{Accepted}
-use Rattle.whole.proofs.Facts.{games-shaped, units-fit, games-readable}
+use Rattle.whole.proofs.Facts.{games-shaped, units-fit}
 
 -- ---- a difference as a signed number
 pub minus-less : (s l : ℕ) → s < l → pos s -ℤ pos l ≡ negℤ (pos (l - s))
@@ -80,7 +77,7 @@ pub back : (z : ℤ) (l u : ℕ) → pos l ≡ z +ℤ pos u → pos l -ℤ pos u
 back z l u e = ap (λ x. x -ℤ pos u) e ∙ +ℤ-negℤ-cancel z (pos u)
 
 -- ---- the worths of a table that is not refused
-module _ (g : Game) (D : ℕ) (w : List ℕ) (table : Table) (s : Stored g w) (a : Accepted g D table) where
+module _ (g : Game) (D : ℕ) (table : Table) (a : Accepted g D table) where
   abbrev U : ℕ
   U = rootUnits g D
 
@@ -103,11 +100,10 @@ module _ (g : Game) (D : ℕ) (w : List ℕ) (table : Table) (s : Stored g w) (a
         let f = lifted-few (tableWorth (treeOf g) D U table i) (lift-of i) (64 * U) (U * 60) lift-is b in
         omega arith
 
-  module _ (r : List ℕ) (e : Earned w table D 0 U 32 r) (i : ℕ) (l : i < g .seats) where
-    -- the sum of a seat is its lifted worth
+  -- r has the lifted worth of each seat
+  module _ (r : List ℕ) (e : (i : ℕ) → i < g .seats → getD r i 0 ≡ lift-of i % 2 ^ 64) (i : ℕ) (l : i < g .seats) where
     sum-is : getD r i 0 ≡ lift-of i
-    sum-is = e (g .seats) (treeOf g) (treeOf g) (laterIn (treeOf g)) (games-readable g D w table (a .game) s (a .valid)) i (NatL.lt-of-lt-of-le l (games-shaped g (a .game) .most)) l (pays-sixty i l)
-        ∙ NatL.mod-eq-of-lt (small (lift-of i) U (units-fit g D (a .game) (a .most) .units) (lift-few i l))
+    sum-is = e i l ∙ NatL.mod-eq-of-lt (small (lift-of i) U (units-fit g D (a .game) (a .most) .units) (lift-few i l))
       where
         small : (x u : ℕ) → u < 144115188075855872 → x ≤ 124 * u → x < 2 ^ 64
         small x u h k = omega arith
@@ -119,19 +115,16 @@ module _ (g : Game) (D : ℕ) (w : List ℕ) (table : Table) (s : Stored g w) (a
     sum-worth = ap (λ x. pos x -ℤ pos (64 * U)) sum-is ∙ back (tableWorth (treeOf g) D U table i) (lift-of i) (64 * U) (lift-is i l)
 
   -- the same by the root's units in hand
-  module _ (u : ℕ) (q : u ≡ U) (r : List ℕ) (e : Earned w table D 0 u 32 r) where
-    from-root : Earned w table D 0 U 32 r
-    from-root = subst (λ x. Earned w table D 0 x 32 r) q e
-
+  module _ (u : ℕ) (q : u ≡ U) (r : List ℕ) (e : (i : ℕ) → i < g .seats → getD r i 0 ≡ lift-of i % 2 ^ 64) where
     pub sums-few : (i : ℕ) → i < g .seats → getD r i 0 ≤ 124 * u
-    sums-few i l = subst (λ x. getD r i 0 ≤ 124 * x) (sym q) (sum-few r from-root i l)
+    sums-few i l = subst (λ x. getD r i 0 ≤ 124 * x) (sym q) (sum-few r e i l)
 
     pub sums-worths : loweredOf r u (g .seats) ≡ worthsOf g D table
     unfolding loweredOf worthsOf
     sums-worths = ap (λ x. loweredOf r x (g .seats)) q ∙ places-same 6 _ _ (λ i h. at i (tested (ltb i (g .seats))))
       where
         at : (i : ℕ) → Tested (ltb i (g .seats)) → cond (ltb i (g .seats)) (pos (getD r i 0) -ℤ pos (64 * U)) (pos 0) ≡ cond (ltb i (g .seats)) (tableWorth (treeOf g) D U table i) (pos 0)
-        at i (holds t) = rw t (sum-worth r from-root i (ltb-true i (g .seats) t))
+        at i (holds t) = rw t (sum-worth r e i (ltb-true i (g .seats) t))
         at i (fails t) = rw t refl
 
   pub few-parts : D ≤ 64

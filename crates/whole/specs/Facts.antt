@@ -11,7 +11,7 @@ use Rattle.tables.specs.Games.{treeOf, mostParts, largestPayoff}
 use Rattle.tables.specs.Checks.{seats-out}
 use Rattle.tables.specs.Facts.{nodesOf, rootUnits}
 use Rattle.arena.specs.Index.{laterIn}
-use Rattle.units.specs.Earned.{Readable}
+use Rattle.units.specs.Readable.{Readable}
 use Rattle.stored.specs.Stored.{Stored}
 
 -- a game that numbers 1 to 3 let through

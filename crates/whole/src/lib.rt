@@ -1,4 +1,4 @@
-// Whole units by game number: what refuses a call, the units of a game's root, and what a table is worth.
+// Whole units by game number: what refuses a call, the units of a game's root, where those of each node stand in work memory, and what a table is worth.
 pub mod worths;
 
 use tables::Game;
@@ -6,6 +6,7 @@ ghost use mathlib.Core.Path.{_≡_};
 ghost use Prim.Native.Nat.{_*_, _^_, _≤_, _<_};
 ghost use Rattle.tables.specs.Games.{mostParts};
 ghost use Rattle.tables.specs.Facts.{rootUnits};
+ghost use Rattle.stored.specs.Stored.{headsOf};
 ghost use Rattle.whole.specs.Facts.{Known};
 ghost use Rattle.whole.specs.Checks.{evaluation-refusal};
 
@@ -27,6 +28,14 @@ const LEDUC_C: u64 = 120;
 
 // m of the units: the most actions in a hand of Leduc.
 const LEDUC_M: usize = 8;
+
+// Where the first members of the sets stand: for Kuhn with 2 to 6 seats, from place 2, and Leduc.
+const KUHN_HEADS: [usize; 7] = [0, 0, 82, 745, 8526, 119509, 1958356];
+
+const LEDUC_HEADS: usize = 19621;
+
+// The depth of a walk: no path of a game has more nodes.
+pub const DEPTH: usize = 32;
 
 // c × d^m, which is below 2^57.
 fn times_power(c: u64, d: usize, m: usize) -> u64
@@ -53,4 +62,16 @@ pub fn root_units(g: Game, d: usize) -> u64
         return times_power(KUHN_C[seats], d, 2 * seats - 1);
     }
     times_power(LEDUC_C, d, LEDUC_M)
+}
+
+// Where the first members of a game's sets stand.
+pub fn heads_of(g: Game) -> usize
+    requires { ⌜ Known g ⌝ }
+    ensures { λ r. ⌜ r ≡ headsOf g ⌝ }
+{
+    let seats = g.seats;
+    if g.number == Game::KUHN {
+        return KUHN_HEADS[seats];
+    }
+    LEDUC_HEADS
 }

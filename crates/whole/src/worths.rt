@@ -1,15 +1,22 @@
 // What a table is worth to each seat, from the game's tree in work memory.
+use crate::DEPTH;
+use crate::heads_of;
 use crate::root_units;
+use stock::collect;
+use stock::ends::end_sums;
 use tables::Game;
 use units::sums::Sums;
-use units::worths::lifted_worths;
 ghost use mathlib.Core.Path.{_≡_};
 ghost use Prim.Native.Nat.{ℕ, _*_, _≤_, _<_};
 ghost use lib.IntN.{pos, _-ℤ_};
-ghost use lib.ListN.{getD};
+ghost use lib.ListN.{length, getD};
+ghost use Rattle.tables.specs.Facts.{nodesOf};
 ghost use Rattle.stored.specs.Stored.{Stored};
 ghost use Rattle.whole.specs.Accepted.{Accepted};
 ghost use Rattle.whole.specs.Worths.{worthsOf, loweredOf};
+
+// No actor's number: its field holds 0 to 7.
+const NOBODY: usize = 8;
 
 // A sum of u units lifted by 64, as a worth.
 pub fn lowered(sum: u64, u: u64) -> i64
@@ -39,12 +46,14 @@ fn lowered_all(sums: Sums, u: u64, n: usize) -> [i64; 6]
     out
 }
 
-// The worths of a table that is not refused, where the game's tree is stored.
-pub fn table_worths(g: Game, w: &[u64], d: usize, table: &[u8]) -> [i64; 6]
-    requires { ⌜ Stored g (now w) × Accepted g d (now table) ⌝ }
-    ensures { λ r. ⌜ r ≡ worthsOf g d (now (table .entry)) ⌝ }
+// The worths of a table that is not refused, where the game's tree is stored. For nobody's reply the units of each node are those of the table.
+pub fn table_worths(g: Game, w: &mut [u64], d: usize, table: &[u8]) -> [i64; 6]
+    requires { ⌜ Stored g (now w) × Accepted g d (now table) × (12 * nodesOf g ≤ length (now w)) ⌝ }
+    ensures { λ r. ⌜ (r ≡ worthsOf g d (now (table .entry))) × Stored g (now (w .exit)) ⌝ }
 {
+    let units = heads_of(g) + g.entries();
     let u = root_units(g, d);
-    let sums = lifted_worths(w, table, u, d);
+    collect(w, table, 0, u, NOBODY, d, units, DEPTH);
+    let sums = end_sums(w, g.nodes(), units);
     lowered_all(sums, u, g.seats)
 }

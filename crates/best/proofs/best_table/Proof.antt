@@ -2,13 +2,13 @@ use denote.Ref.{now}
 use native.Mathlib.Omega.{arith}
 use mathlib.Core.Path.{refl}
 use Rattle.best.proofs.Staging as staging
-use Rattle.best.proofs.Places as places
+use Rattle.whole.proofs.Places as places
 use borrow.Author.Needs.{needs}
 use Rattle.best.proofs.best_table.Statement.{statement}
 use Rattle.best.proofs.best_table.Tie as tie
 use Rattle.best.proofs.best_table.Reads as reads
 use Rattle.best.proofs.best_table.Lts as lts
-use Rattle.best.proofs.heads_of.Reads as heads-of-reads
+use Rattle.whole.proofs.heads_of.Reads as heads-of-reads
 use Rattle.reply_table.proofs.write_reply.Reads as write-reply-reads
 use Rattle.tables.proofs.Game.entries.Reads as entries-reads
 use Rattle.tables.proofs.Game.nodes.Reads as nodes-reads

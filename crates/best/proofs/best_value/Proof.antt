@@ -5,14 +5,14 @@ use denote.Ref.{now}
 use native.Mathlib.Omega.{arith}
 use mathlib.Core.Path.{refl}
 use Rattle.best.proofs.Staging as staging
-use Rattle.best.proofs.Places as places
+use Rattle.whole.proofs.Places as places
 use borrow.Author.Needs.{needs}
 use Rattle.best.proofs.best_value.Statement.{statement}
 use Rattle.best.proofs.best_value.Tie as tie
 use Rattle.best.proofs.best_value.Reads as reads
 use Rattle.best.proofs.best_value.Lts as lts
 use Rattle.arena.proofs.index.clear.Reads as clear-reads
-use Rattle.best.proofs.heads_of.Reads as heads-of-reads
+use Rattle.whole.proofs.heads_of.Reads as heads-of-reads
 use Rattle.reply.proofs.values.value.Reads as value-reads
 use Rattle.stock.proofs.collect.Reads as collect-reads
 use Rattle.tables.proofs.Game.entries.Reads as entries-reads

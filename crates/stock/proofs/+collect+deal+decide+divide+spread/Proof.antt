@@ -5,7 +5,7 @@ use denote.Ref.{now}
 use mathlib.Core.Path.{_≡_, sym, _∙_}
 use native.Mathlib.Omega.{arith}
 use borrow.Author.Needs.{needs}
-use Rattle.units.proofs.Adding as adding
+use Rattle.units.proofs.Passing as passing
 use Rattle.stock.specs.Collected.{Storable, Each, Shared}
 use Rattle.stock.proofs.Storing as storing
 use Rattle.stock.proofs.collect.Reads as collect
@@ -411,7 +411,7 @@ deal-spread-requires : (t : ℕ) → deal-lts.Need-spread-requires (
   spread-below t,
   spread.Post,
 ) (deal-at t) deal.Post
-deal-spread-requires t c κs = (omega (arith, c .before .before .before .before .before .before .pre .0), storing.store-here _ _ _ _ _ _ (c .before .before .before .before .before .before .pre .1) (adding.quotient-few _ _ (c .before .before .before .before .before .before .pre .1 .walk .units)))
+deal-spread-requires t c κs = (omega (arith, c .before .before .before .before .before .before .pre .0), storing.store-here _ _ _ _ _ _ (c .before .before .before .before .before .before .pre .1) (passing.quotient-few _ _ (c .before .before .before .before .before .before .pre .1 .walk .units)))
 
 deal-same-length-2 : (t : ℕ) → deal-lts.Need-same-length-2 (
   fan-reads.Asked,
@@ -685,7 +685,7 @@ divide-share-requires : (t : ℕ) → divide-lts.Need-share-requires (
   behind-reads.Asked,
   behind-reads.Learnt,
 ) (divide-at t) divide.Post divide-Inv-loop divide-μ-loop
-divide-share-requires t c κs = (rw (adding.part-length (now (c .before .before .before .before .before .args .table)) (c .before .before .before .before .before .args .first) (c .before .before .before .before .before .args .end) (c .before .before .before .before .before .pre .1 .1) (c .before .before .before .before .before .pre .1 .2)) (c .before .loop-test .taken), c .before .before .before .before .before .pre .1 .0 .walk .units, c .before .before .before .before .before .pre .1 .0 .walk .least, c .before .before .before .before .before .pre .1 .0 .walk .most)
+divide-share-requires t c κs = (rw (passing.part-length (now (c .before .before .before .before .before .args .table)) (c .before .before .before .before .before .args .first) (c .before .before .before .before .before .args .end) (c .before .before .before .before .before .pre .1 .1) (c .before .before .before .before .before .pre .1 .2)) (c .before .loop-test .taken), c .before .before .before .before .before .pre .1 .0 .walk .units, c .before .before .before .before .before .pre .1 .0 .walk .least, c .before .before .before .before .before .pre .1 .0 .walk .most)
 
 divide-collect-requires : (t : ℕ) → divide-lts.Need-collect-requires (
   share-reads.Asked,
@@ -738,7 +738,7 @@ divide-loop-again : (t : ℕ) → divide-lts.Need-loop-again (
 divide-loop-again t c =
     let l = c .before .before .before .before .before .before .before .before .loop-test .taken in
     let b = c .behind .ensures in
-    (storing.shared-more _ _ _ _ _ _ _ _ _ _ _ _ _ _ _ _ (c .before .before .before .before .before .before .before .before .before .loop .inv .0) l (adding.part-shares (now (c .before .before .before .before .before .before .before .before .before .before .before .before .args .table)) (c .before .before .before .before .before .before .before .before .before .before .before .before .args .first) (c .before .before .before .before .before .before .before .before .before .before .before .before .args .end) (c .before .before .before .before .before .before .before .before .before .before .before .before .pre .1 .1) (c .before .before .before .before .before .before .before .before .before .before .before .before .pre .1 .2) (c .before .before .before .before .before .before .before .before .before .loop .action) (c .before .before .before .before .before .before .before .before .before .before .before .before .args .u) (c .before .before .before .before .before .before .share .result) (c .before .before .before .before .before .before .before .before .before .before .before .before .args .d) l (c .before .before .before .before .before .before .share .ensures .1)) (c .before .before .before .before .collect .ensures) b, storing.store-along _ _ _ _ _ _ _ (c .before .before .before .before .before .before .before .before .before .before .before .before .pre .1 .0) (b .near) (c .before .before .before .before .before .before .before .before .before .before .before .before .pre .1 .0 .walk .units), omega (arith, l))
+    (storing.shared-more _ _ _ _ _ _ _ _ _ _ _ _ _ _ _ _ (c .before .before .before .before .before .before .before .before .before .loop .inv .0) l (passing.part-shares (now (c .before .before .before .before .before .before .before .before .before .before .before .before .args .table)) (c .before .before .before .before .before .before .before .before .before .before .before .before .args .first) (c .before .before .before .before .before .before .before .before .before .before .before .before .args .end) (c .before .before .before .before .before .before .before .before .before .before .before .before .pre .1 .1) (c .before .before .before .before .before .before .before .before .before .before .before .before .pre .1 .2) (c .before .before .before .before .before .before .before .before .before .loop .action) (c .before .before .before .before .before .before .before .before .before .before .before .before .args .u) (c .before .before .before .before .before .before .share .result) (c .before .before .before .before .before .before .before .before .before .before .before .before .args .d) l (c .before .before .before .before .before .before .share .ensures .1)) (c .before .before .before .before .collect .ensures) b, storing.store-along _ _ _ _ _ _ _ (c .before .before .before .before .before .before .before .before .before .before .before .before .pre .1 .0) (b .near) (c .before .before .before .before .before .before .before .before .before .before .before .before .pre .1 .0 .walk .units), omega (arith, l))
 
 divide-same-length : (t : ℕ) → divide-lts.Need-same-length (
   share-reads.Asked,

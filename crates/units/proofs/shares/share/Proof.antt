@@ -2,7 +2,7 @@ use borrow.Author.Needs.{needs}
 use mathlib.Core.Path.{ap, _∙_}
 use Prim.Native.Nat.{_*_, _/_}
 use native.Mathlib.Omega.{arith}
-use Rattle.units.proofs.Adding.{share-few, product-few}
+use Rattle.units.proofs.Passing.{share-few, product-few}
 use Rattle.units.proofs.shares.share.Statement.{statement}
 use Rattle.units.proofs.shares.share.Tie as tie
 use Rattle.units.proofs.shares.share.Reads as reads

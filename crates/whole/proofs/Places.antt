@@ -19,9 +19,9 @@ use Rattle.tables.specs.declared.Game.{Game}
 use Rattle.tables.specs.Games.{isKuhn, treeOf}
 use Rattle.tables.specs.Facts.{nodesOf, entriesOf, setsOf}
 use Rattle.stored.specs.Stored.{headsOf}
 use Rattle.whole.specs.Facts.{Known}
+use Rattle.whole.specs.Places.{unitsAt, keptAt}
 use Rattle.whole.proofs.Facts.{kuhn-two, kuhn-six}
-use Rattle.best.specs.Staged.{unitsAt, keptAt}
 
 -- a chance node
 unfoldable pub Deals : Tree → Type 0

@@ -1,0 +1,37 @@
+-- What a walk passes on: units, and a set's own part of the table. Assumes nothing.
+use mathlib.Core.Path.{_≡_, _∙_}
+use mathlib.Core.List.{List}
+use Prim.Native.Nat.{ℕ, _+_, _-_, _*_, _/_, _^_, _≤_, _<_}
+use native.Mathlib.Nat as NatL
+use native.Mathlib.Omega.{arith}
+use lib.ListN.{length, getD, take, drop, length-drop}
+use lib.Seq.{length-take-le, getD-take, getD-drop}
+use Rattle.units.specs.Readable.{Walkable}
+
+-- ---- units
+pub share-few : (u p d : ℕ) → p ≤ d → u * p / d ≤ u
+share-few u p d h = NatL.div-le-of-le-mul d {m = u * p} {n = u} (rw (NatL.mul-comm d u) (NatL.mul-le-mul-left {m = p} {n = d} u h))
+
+pub product-few : (u p d : ℕ) → u < 144115188075855872 → p ≤ d → d ≤ 64 → u * p < 2 ^ 64
+product-few u p d h g m = let e : u * p ≤ u * 64 = NatL.mul-le-mul-left {m = p} {n = 64} u (omega arith) in omega arith
+
+pub quotient-few : (u c : ℕ) → u < 144115188075855872 → u / c < 144115188075855872
+quotient-few u c h = omega (arith, NatL.div-le-self u c)
+
+-- ---- one step down, and one along
+pub walk-down : (a u v D d : ℕ) → Walkable a u D d → (d ≡ 0 → ⊥) → v < 144115188075855872 → Walkable (a + 1) v D (d - 1)
+walk-down a u v D d h z g = record { place = omega (arith, h .place, z); shallow = omega (arith, h .shallow); units = g; least = h .least; most = h .most }
+
+pub walk-along : (a b u v D d : ℕ) → Walkable a u D d → b < 4194304 → v < 144115188075855872 → Walkable b v D d
+walk-along a b u v D d h l g = record { place = omega (arith, h .shallow); shallow = h .shallow; units = g; least = h .least; most = h .most }
+
+pub walk-here : (a u v D d : ℕ) → Walkable a u D d → v < 144115188075855872 → Walkable a v D d
+walk-here a u v D d h g = record { place = h .place; shallow = h .shallow; units = g; least = h .least; most = h .most }
+
+-- ---- the set's own part of the table
+module _ (table : List ℕ) (e z : ℕ) (h : e ≤ z) (g : z ≤ length table) where
+  pub part-length : length (take (z - e) (drop e table)) ≡ z - e
+  part-length = length-take-le (z - e) (drop e table) (omega (arith, length-drop e table))
+
+  pub part-shares : (c u v D : ℕ) → c < z - e → (getD (take (z - e) (drop e table)) c 0 ≤ D → v ≡ u * getD (take (z - e) (drop e table)) c 0 / D) → getD table (e + c) 0 ≤ D → v ≡ u * getD table (e + c) 0 / D
+  part-shares c u v D l q = rw (getD-take (z - e) (drop e table) c 0 l ∙ getD-drop e table c 0) at q
