@@ -24,31 +24,31 @@ store-requires : tie.Need-store-requires Inv-loop μ-loop
 store-requires c κs = record { known = c .before .before .before .pre .0 .game .known; seats = c .before .before .before .pre .0 .game .seats; small = c .before .before .before .pre .0 .game .small; words = c .before .before .before .pre .1 }
 
 table-worths-requires : tie.Need-table-worths-requires Inv-loop μ-loop
-table-worths-requires c κs = (c .before .before .before .store .ensures, c .before .before .before .before .before .before .before .pre .0)
+table-worths-requires c κs = (c .before .before .before .store .ensures, c .before .before .before .before .before .before .before .pre .0, omega (arith, c .before .before .before .before .before .before .before .pre .1, c .before .before .before .store .kept .1 .0))
 
 loop-holds : tie.Need-loop-holds Inv-loop μ-loop
-loop-holds c = (search needs, no-seats (c .before .before .before .before .before .before .before .before .args .g) (c .before .before .before .before .before .before .before .before .args .d) (now (c .before .before .before .before .before .before .before .before .args .table)) (c .before .before .before .before .before .before .before .before .pre .0), c .before .before .before .before .store .ensures, refl)
+loop-holds c = (search needs, no-seats (c .before .before .before .before .before .before .before .before .before .before .args .g) (c .before .before .before .before .before .before .before .before .before .before .args .d) (now (c .before .before .before .before .before .before .before .before .before .before .args .table)) (c .before .before .before .before .before .before .before .before .before .before .pre .0), c .before .before .table-worths .ensures .1, refl)
 
 seat-excess-requires : tie.Need-seat-excess-requires Inv-loop μ-loop
-seat-excess-requires c κs = (c .before .before .loop .inv .2, c .before .before .before .before .before .before .before .before .before .before .before .pre .0, omega (arith, two-seats (c .before .before .before .before .before .before .before .before .before .before .before .args .g) (c .before .before .before .before .before .before .before .before .before .before .before .args .d) (now (c .before .before .before .before .before .before .before .before .before .before .before .args .table)) (c .before .before .before .before .before .before .before .before .before .before .before .pre .0), c .before .loop-test .taken), omega (arith, c .before .before .before .before .before .before .before .before .before .before .before .pre .1, c .before .before .loop .inv .3, c .before .before .before .before .before .before .before .store .kept .1 .0), c .before .before .before .table-worths .ensures)
+seat-excess-requires c κs = (c .before .before .loop .inv .2, c .before .before .before .before .before .before .before .before .before .before .before .before .before .pre .0, omega (arith, two-seats (c .before .before .before .before .before .before .before .before .before .before .before .before .before .args .g) (c .before .before .before .before .before .before .before .before .before .before .before .before .before .args .d) (now (c .before .before .before .before .before .before .before .before .before .before .before .before .before .args .table)) (c .before .before .before .before .before .before .before .before .before .before .before .before .before .pre .0), c .before .loop-test .taken), omega (arith, c .before .before .before .before .before .before .before .before .before .before .before .before .before .pre .1, c .before .before .loop .inv .3, c .before .before .before .before .before .before .before .before .before .store .kept .1 .0, c .before .before .before .before .before .table-worths .kept .1 .0), c .before .before .before .before .before .table-worths .ensures .0)
 
 add-sum : tie.Need-add-sum Inv-loop μ-loop
-add-sum c = sum-fits (c .before .before .before .before .before .before .before .before .before .before .before .before .before .before .args .g) (c .before .before .before .before .before .before .before .before .before .before .before .before .before .before .args .d) (now (c .before .before .before .before .before .before .before .before .before .before .before .before .before .before .args .table)) (c .before .before .before .before .before .before .before .before .before .before .before .before .before .before .pre .0) (c .before .before .before .before .before .loop .seat) (c .before .before .before .before .before .loop .sum) (c .before .before .seat-excess .result) (c .before .before .before .before .before .loop .inv .1) (c .before .before .seat-excess .ensures .0) (omega (arith, two-seats (c .before .before .before .before .before .before .before .before .before .before .before .before .before .before .args .g) (c .before .before .before .before .before .before .before .before .before .before .before .before .before .before .args .d) (now (c .before .before .before .before .before .before .before .before .before .before .before .before .before .before .args .table)) (c .before .before .before .before .before .before .before .before .before .before .before .before .before .before .pre .0), c .before .before .before .before .loop-test .taken))
+add-sum c = sum-fits (c .before .before .before .before .before .before .before .before .before .before .before .before .before .before .before .before .args .g) (c .before .before .before .before .before .before .before .before .before .before .before .before .before .before .before .before .args .d) (now (c .before .before .before .before .before .before .before .before .before .before .before .before .before .before .before .before .args .table)) (c .before .before .before .before .before .before .before .before .before .before .before .before .before .before .before .before .pre .0) (c .before .before .before .before .before .loop .seat) (c .before .before .before .before .before .loop .sum) (c .before .before .seat-excess .result) (c .before .before .before .before .before .loop .inv .1) (c .before .before .seat-excess .ensures .0) (omega (arith, two-seats (c .before .before .before .before .before .before .before .before .before .before .before .before .before .before .before .before .args .g) (c .before .before .before .before .before .before .before .before .before .before .before .before .before .before .before .before .args .d) (now (c .before .before .before .before .before .before .before .before .before .before .before .before .before .before .before .before .args .table)) (c .before .before .before .before .before .before .before .before .before .before .before .before .before .before .before .before .pre .0), c .before .before .before .before .loop-test .taken))
 
 add-seat : tie.Need-add-seat Inv-loop μ-loop
-add-seat c = record { fits = omega (arith, few-seats (c .before .before .before .before .before .before .before .before .before .before .before .before .before .before .args .g) (c .before .before .before .before .before .before .before .before .before .before .before .before .before .before .args .d) (now (c .before .before .before .before .before .before .before .before .before .before .before .before .before .before .args .table)) (c .before .before .before .before .before .before .before .before .before .before .before .before .before .before .pre .0), c .before .before .before .before .loop-test .taken) }
+add-seat c = record { fits = omega (arith, few-seats (c .before .before .before .before .before .before .before .before .before .before .before .before .before .before .before .before .args .g) (c .before .before .before .before .before .before .before .before .before .before .before .before .before .before .before .before .args .d) (now (c .before .before .before .before .before .before .before .before .before .before .before .before .before .before .before .before .args .table)) (c .before .before .before .before .before .before .before .before .before .before .before .before .before .before .before .before .pre .0), c .before .before .before .before .loop-test .taken) }
 
 loop-less : tie.Need-loop-less Inv-loop μ-loop
-loop-less c = omega (arith, two-seats (c .before .before .before .before .before .before .before .before .before .before .before .before .before .before .args .g) (c .before .before .before .before .before .before .before .before .before .before .before .before .before .before .args .d) (now (c .before .before .before .before .before .before .before .before .before .before .before .before .before .before .args .table)) (c .before .before .before .before .before .before .before .before .before .before .before .before .before .before .pre .0), c .before .before .before .before .loop-test .taken)
+loop-less c = omega (arith, two-seats (c .before .before .before .before .before .before .before .before .before .before .before .before .before .before .before .before .args .g) (c .before .before .before .before .before .before .before .before .before .before .before .before .before .before .before .before .args .d) (now (c .before .before .before .before .before .before .before .before .before .before .before .before .before .before .before .before .args .table)) (c .before .before .before .before .before .before .before .before .before .before .before .before .before .before .before .before .pre .0), c .before .before .before .before .loop-test .taken)
 
 loop-again : tie.Need-loop-again Inv-loop μ-loop
-loop-again c = (omega (arith, two-seats (c .before .before .before .before .before .before .before .before .before .before .before .before .before .before .args .g) (c .before .before .before .before .before .before .before .before .before .before .before .before .before .before .args .d) (now (c .before .before .before .before .before .before .before .before .before .before .before .before .before .before .args .table)) (c .before .before .before .before .before .before .before .before .before .before .before .before .before .before .pre .0), c .before .before .before .before .loop-test .taken), one-seat-more (c .before .before .before .before .before .before .before .before .before .before .before .before .before .before .args .g) (c .before .before .before .before .before .before .before .before .before .before .before .before .before .before .args .d) (now (c .before .before .before .before .before .before .before .before .before .before .before .before .before .before .args .table)) (c .before .before .before .before .before .before .before .before .before .before .before .before .before .before .pre .0) (c .before .before .before .before .before .loop .seat) (c .before .before .before .before .before .loop .sum) (c .before .before .seat-excess .result) (c .before .before .before .before .before .loop .inv .1) (c .before .before .seat-excess .ensures .0), c .before .before .seat-excess .ensures .1, c .before .before .seat-excess .kept .1 .0 ∙ c .before .before .before .before .before .loop .inv .3)
+loop-again c = (omega (arith, two-seats (c .before .before .before .before .before .before .before .before .before .before .before .before .before .before .before .before .args .g) (c .before .before .before .before .before .before .before .before .before .before .before .before .before .before .before .before .args .d) (now (c .before .before .before .before .before .before .before .before .before .before .before .before .before .before .before .before .args .table)) (c .before .before .before .before .before .before .before .before .before .before .before .before .before .before .before .before .pre .0), c .before .before .before .before .loop-test .taken), one-seat-more (c .before .before .before .before .before .before .before .before .before .before .before .before .before .before .before .before .args .g) (c .before .before .before .before .before .before .before .before .before .before .before .before .before .before .before .before .args .d) (now (c .before .before .before .before .before .before .before .before .before .before .before .before .before .before .before .before .args .table)) (c .before .before .before .before .before .before .before .before .before .before .before .before .before .before .before .before .pre .0) (c .before .before .before .before .before .loop .seat) (c .before .before .before .before .before .loop .sum) (c .before .before .seat-excess .result) (c .before .before .before .before .before .loop .inv .1) (c .before .before .seat-excess .ensures .0), c .before .before .seat-excess .ensures .1, c .before .before .seat-excess .kept .1 .0 ∙ c .before .before .before .before .before .loop .inv .3)
 
 same-length : tie.Need-same-length Inv-loop μ-loop
 same-length c = search needs
 
 returns : tie.Need-returns Inv-loop μ-loop
-returns c = all-seats (c .before .before .before .before .before .before .before .before .before .before .args .g) (c .before .before .before .before .before .before .before .before .before .before .args .d) (now (c .before .before .before .before .before .before .before .before .before .before .args .table)) (c .before .before .before .before .before .before .before .before .before .before .pre .0) (c .before .loop .seat) (c .before .loop .sum) (c .before .loop .inv .0) (c .loop-test .left) (c .before .loop .inv .1)
+returns c = all-seats (c .before .before .before .before .before .before .before .before .before .before .before .before .args .g) (c .before .before .before .before .before .before .before .before .before .before .before .before .args .d) (now (c .before .before .before .before .before .before .before .before .before .before .before .before .args .table)) (c .before .before .before .before .before .before .before .before .before .before .before .before .pre .0) (c .before .loop .seat) (c .before .loop .sum) (c .before .loop .inv .0) (c .loop-test .left) (c .before .loop .inv .1)
 
 pub evaluate-spec : {M : Type 1} → statement M
 evaluate-spec =
