@@ -22,15 +22,16 @@ use Rattle.leduc_positions.specs.Positions.{legal-of}
 use Rattle.leduc.specs.Calls.{legal-refusal, listed, key-of, key-refusal, keyed, written}
 use Rattle.leduc_positions.specs.declared.LeducState.{LeducState}
 use Rattle.refusals.specs.Refusals.{first}
-use Rattle.game.specs.Table.{Table, nashConv}
-use Rattle.tables.specs.Games.{gameOf, treeOf}
-use Rattle.tables.specs.Checks.{tree-checks, parts-checks, table-checks}
-use Rattle.tables.specs.Facts.{rootUnits}
+use Rattle.game.specs.Table.{Table}
+use Rattle.tables.specs.Games.{gameOf}
 use Rattle.tables.specs.declared.Game.{Game}
 use Rattle.worths.specs.Calls as Worths
 use Rattle.worths.specs.declared.WorthsAnswer.{WorthsAnswer}
 use Rattle.best_reply.specs.Calls as Reply
 use Rattle.best_reply.specs.declared.ReplyAnswer.{ReplyAnswer}
+use Rattle.nash_conv_units.specs.Calls as Conv
+use Rattle.nash_conv_units.specs.declared.NashConvAnswer.{NashConvAnswer}
+use Rattle.whole.specs.Checks.{evaluation-refusal}
 
 -- ---- what a case is
 
@@ -110,16 +111,19 @@ kuhn2-tables = gameOf 0 2
 abbrev pub room : ℕ
 room = 696
 
--- the worths of an answer, and its value: none, if the call was refused
+-- the worths of an answer, its value, its NashConv: none, if the call was refused
 abbrev pub worths-in : WorthsAnswer → List ℤ
 worths-in r = take (r .count) (r .worths)
 
 abbrev pub value-in : ReplyAnswer → List ℤ
 value-in r = cond (eqb (r .refusal) 0) (r .value ∷ []) []
 
+abbrev pub conv-in : NashConvAnswer → List ℤ
+conv-in r = cond (eqb (r .refusal) 0) (pos (r .«nash_conv») ∷ []) []
+
 -- what refuses a table with D parts in each set: 1 to 4, then 6 to 8
 abbrev pub table-refusal : (D : ℕ) → Table → ℕ
-table-refusal D table = first (tree-checks kuhn2-tables room ++ (parts-checks kuhn2-tables D ++ table-checks kuhn2-tables D table))
+table-refusal D table = evaluation-refusal kuhn2-tables room D table
 
 -- what it is worth to both seats
 abbrev pub worths : (D : ℕ) → Table → List ℤ
@@ -137,7 +141,7 @@ abbrev pub reply : (seat D : ℕ) → Table → List ℤ
 reply seat D table = bytes (Reply.written (refused seat D table) kuhn2-tables seat D table (replicate 24 0))
 
 abbrev pub conv : (D : ℕ) → Table → List ℤ
-conv D table = nashConv (treeOf kuhn2-tables) D (rootUnits kuhn2-tables D) table 2 ∷ []
+conv D table = conv-in (Conv.answer (table-refusal D table) kuhn2-tables D table)
 
 -- both worths, both best values, NashConv
 abbrev pub evaluated : (D : ℕ) → Table → List ℤ

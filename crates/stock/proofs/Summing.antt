@@ -4,13 +4,12 @@ use mathlib.Core.List.{List}
 use Prim.Native.Nat.{ℕ, zero, suc, _+_, _*_, _/_, _%_, _^_, _≤_, _<_}
 use native.Mathlib.Nat as NatL
 use native.Mathlib.Omega.{arith}
-use lib.Dec.{eqb}
 use lib.ListN.{getD, replicate}
 use borrow.Author.Tests.{eq-eqb, ne-eqb}
 use Rattle.game.specs.Tree.{Key, Tree, end, chance, decide, Trees, nil, cons, fan, Strategy}
 use Rattle.game.specs.Reply.{share}
 use Rattle.game.specs.Sets.{size, sizes}
-use Rattle.arena.specs.Words.{END, kindOf, actorOf, byteOf, payoffOf}
+use Rattle.arena.specs.Words.{END, kindOf, actorOf, byteOf}
 use Rattle.arena.specs.Held.{Says, Held, HeldAll}
 use Rattle.units.specs.Lifted.{lift, lifted, liftedAll, liftedKids}
 use Rattle.units.specs.Gain.{given, Stocked, StockedAll}

@@ -28,7 +28,7 @@ use Rattle.whole.specs.Facts.{Known, Shaped, Games-shaped, Fits, Units-f
 use Rattle.whole.proofs.Entries.{entries-inside, all-entered, entries-few}
 
 -- what holds of each number from 2 to 6
-each-seats : (P : ℕ → Type 0) → P 2 → P 3 → P 4 → P 5 → P 6 → (n : ℕ) → 2 ≤ n → n ≤ 6 → P n
+pub each-seats : (P : ℕ → Type 0) → P 2 → P 3 → P 4 → P 5 → P 6 → (n : ℕ) → 2 ≤ n → n ≤ 6 → P n
 each-seats P a b c d e zero u v = absurd (omega arith)
 each-seats P a b c d e (suc zero) u v = absurd (omega arith)
 each-seats P a b c d e (suc (suc zero)) u v = a

@@ -21,24 +21,13 @@ use Rattle.tables.specs.Facts.{nodesOf, entriesOf, setsOf}
 use Rattle.stored.specs.Stored.{headsOf}
 use Rattle.whole.specs.Facts.{Known}
 use Rattle.whole.specs.Places.{unitsAt, keptAt}
-use Rattle.whole.proofs.Facts.{kuhn-two, kuhn-six}
+use Rattle.whole.proofs.Facts.{each-seats, kuhn-two, kuhn-six}
 
 -- a chance node
 unfoldable pub Deals : Tree → Type 0
 Deals (end p) = ⊥
 Deals (chance f) = Unit {0}
 Deals (decide j k f) = ⊥
-
--- Kuhn with 2 to 6 seats
-each-seats : (P : ℕ → Type 0) → P 2 → P 3 → P 4 → P 5 → P 6 → (n : ℕ) → 2 ≤ n → n ≤ 6 → P n
-each-seats P a b c d e zero l m = absurd (omega arith)
-each-seats P a b c d e (suc zero) l m = absurd (omega arith)
-each-seats P a b c d e (suc (suc zero)) l m = a
-each-seats P a b c d e (suc (suc (suc zero))) l m = b
-each-seats P a b c d e (suc (suc (suc (suc zero)))) l m = c
-each-seats P a b c d e (suc (suc (suc (suc (suc zero))))) l m = d
-each-seats P a b c d e (suc (suc (suc (suc (suc (suc zero)))))) l m = e
-each-seats P a b c d e (suc (suc (suc (suc (suc (suc (suc n))))))) l m = absurd (omega arith)
 
 -- everything has its room, in the words for the tree and in the numbers of places
 pub record Roomy (g : Game) : Type 0 where

@@ -1,11 +1,11 @@
 -- The units of each node behind a game's stored tree. Assumes nothing.
-use mathlib.Core.Path.{_≡_, refl, sym, ap, _∙_, subst}
+use mathlib.Core.Path.{_≡_, refl, sym, ap, _∙_}
 use mathlib.Core.List.{List}
 use Prim.Native.Nat.{ℕ, _+_, _*_, _%_, _^_, _≤_, _<_}
 use native.Mathlib.Nat as NatL
 use native.Mathlib.Omega.{arith}
 use lib.ListN.{length, getD}
-use Rattle.game.specs.Tree.{Key, Tree, Every}
+use Rattle.game.specs.Tree.{Tree, Every}
 use Rattle.game.specs.Sets.{size, entries, firstEntry, setMembers}
 use Rattle.game.specs.Table.{Table, strategyOf}
 use Rattle.game.proofs.Entries.{entry-inside}
@@ -25,7 +25,6 @@ use Rattle.stock.specs.Ends.{endGains}
 use Rattle.stock.proofs.Summing.{gains-lifted}
 use Rattle.stored.specs.Stored.{headsOf, Stored}
 use Rattle.whole.specs.Accepted.{Accepted}
-use Rattle.whole.specs.Places.{unitsAt}
 use Rattle.whole.proofs.Facts.{games-shaped, games-readable}
 use Rattle.whole.proofs.Lowering.{few-parts}
 use Rattle.whole.proofs.Places.{Roomy, roomy}
