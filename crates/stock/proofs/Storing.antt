@@ -143,6 +143,14 @@ module _ (table : List ℕ) (D i b a u d : ℕ) (old : List ℕ) where
     pub node-decides : (new : List ℕ) → (kindOf x ≡ END → ⊥) → (kindOf x ≡ CHANCE → ⊥) → CollectedAll (Moved table D i (a + 1) x u) table D i b (a + 1) (d - 1) mid new → Collected table D i b a u d old new
     node-decides new k o q = record { same = alike-join b old mid new put-alike (q .same); long = q .long ∙ put-long; is = λ w n T t l h. decides-is w n T l h t new k o q }
 
+  -- an end whose word is read before its units are stored
+  pub node-peeked : (mid : List ℕ) (x : ℕ) → mid ≡ set old (b + a) u → x ≡ getD old a 0 → kindOf x ≡ END → Collected table D i b a u d old mid
+  node-peeked mid x e y k = record {
+    same = put-alike mid (getD mid a 0) e refl;
+    long = put-long mid (getD mid a 0) e refl;
+    is = λ w n T t l h r m q. node-end mid (getD mid a 0) e refl (ap kindOf (ap (λ v. getD v a 0) e ∙ getD-set-other old (b + a) a u 0 (λ o. omega (arith, o, m, size-some t)) ∙ sym y) ∙ k) .is w n T t l h r m q;
+  }
+
 -- ---- a row by its units
 module _ (table : List ℕ) (D i b a u d : ℕ) (old : List ℕ) where
   none-stored : (T : Tree) (f : Trees) (g : ℕ → ℕ) → fan f ≡ 0 → StockedAll D (strategyOf T table) i b old a g 0 f × Kept (b + a) (b + (a + sizes f)) old old

@@ -96,6 +96,28 @@ fn decide(
     divide(w, table, a, first, end, u, seat, d, units, depth);
 }
 
+// The same of one tree of a row: an end at once, without a call.
+fn one(
+    w: &mut [u64],
+    table: &[u8],
+    a: usize,
+    u: u64,
+    seat: usize,
+    d: usize,
+    units: usize,
+    depth: usize,
+)
+    requires { ⌜ Storable a u d units depth ⌝ }
+    ensures { λ _. ⌜ Collected (now (table .entry)) d seat units a u depth (now (w .entry)) (now (w .exit)) ⌝ }
+{
+    let x = word(w, a);
+    if kind(x) == END {
+        put(w, units + a, u);
+        return;
+    }
+    collect(w, table, a, u, seat, d, units, depth);
+}
+
 // The same of the trees between places a and end, with u units each.
 fn spread(
     w: &mut [u64],
@@ -113,7 +135,7 @@ fn spread(
 {
     let mut at = a;
     while at < end {
-        collect(w, table, at, u, seat, d, units, depth);
+        one(w, table, at, u, seat, d, units, depth);
         let next = behind(w, at);
         if next <= at {
             return;
@@ -142,7 +164,7 @@ fn divide(
     let mut action = 0;
     while action < end - first {
         let part = share(&table[first..end], action, u, d);
-        collect(w, table, at, part, seat, d, units, depth);
+        one(w, table, at, part, seat, d, units, depth);
         at = behind(w, at);
         action += 1;
     }

@@ -1,6 +1,4 @@
 use Prim.Native.Nat.{ℕ, _+_, _-_, _*_, _≤_, _<_}
-use borrow.Fn.Kinds.{In}
-use borrow.Fn.PlainCycle.{Measures, is, falls, and}
 use denote.Ref.{now}
 use mathlib.Core.Path.{_≡_, sym, _∙_}
 use native.Mathlib.Omega.{arith}
@@ -8,21 +6,27 @@ use borrow.Author.Needs.{needs}
 use Rattle.units.proofs.Passing as passing
 use Rattle.stock.specs.Collected.{Storable, Each, Shared}
 use Rattle.stock.proofs.Storing as storing
+use Prim.Native.Nat.{ℕ, _<_}
+use borrow.Fn.Kinds.{In}
+use borrow.Fn.PlainCycle.{Measures, is, falls, and}
 use Rattle.stock.proofs.collect.Reads as collect
 use Rattle.stock.proofs.collect.Kinds as collect-kinds
-use Rattle.stock.proofs.+collect+deal+decide+divide+spread.Lts-collect as collect-lts
+use Rattle.stock.proofs.+collect+deal+decide+divide+one+spread.Lts-collect as collect-lts
 use Rattle.stock.proofs.deal.Reads as deal
 use Rattle.stock.proofs.deal.Kinds as deal-kinds
-use Rattle.stock.proofs.+collect+deal+decide+divide+spread.Lts-deal as deal-lts
+use Rattle.stock.proofs.+collect+deal+decide+divide+one+spread.Lts-deal as deal-lts
 use Rattle.stock.proofs.decide.Reads as decide
 use Rattle.stock.proofs.decide.Kinds as decide-kinds
-use Rattle.stock.proofs.+collect+deal+decide+divide+spread.Lts-decide as decide-lts
+use Rattle.stock.proofs.+collect+deal+decide+divide+one+spread.Lts-decide as decide-lts
 use Rattle.stock.proofs.divide.Reads as divide
 use Rattle.stock.proofs.divide.Kinds as divide-kinds
-use Rattle.stock.proofs.+collect+deal+decide+divide+spread.Lts-divide as divide-lts
+use Rattle.stock.proofs.+collect+deal+decide+divide+one+spread.Lts-divide as divide-lts
+use Rattle.stock.proofs.one.Reads as one
+use Rattle.stock.proofs.one.Kinds as one-kinds
+use Rattle.stock.proofs.+collect+deal+decide+divide+one+spread.Lts-one as one-lts
 use Rattle.stock.proofs.spread.Reads as spread
 use Rattle.stock.proofs.spread.Kinds as spread-kinds
-use Rattle.stock.proofs.+collect+deal+decide+divide+spread.Lts-spread as spread-lts
+use Rattle.stock.proofs.+collect+deal+decide+divide+one+spread.Lts-spread as spread-lts
 use Rattle.arena.proofs.walk.behind.Reads as behind-reads
 use Rattle.arena.proofs.walk.fan.Reads as fan-reads
 use Rattle.arena.proofs.words.actions.Reads as actions-reads
@@ -33,23 +37,26 @@ use Rattle.arena.proofs.words.put.Reads as put-reads
 use Rattle.arena.proofs.words.set.Reads as set-reads
 use Rattle.arena.proofs.words.word.Reads as word-reads
 use Rattle.units.proofs.shares.share.Reads as share-reads
-use Rattle.stock.proofs.+collect+deal+decide+divide+spread.{statement}
-use Rattle.stock.proofs.+collect+deal+decide+divide+spread.Tie.{close}
+use Rattle.stock.proofs.+collect+deal+decide+divide+one+spread.{statement}
+use Rattle.stock.proofs.+collect+deal+decide+divide+one+spread.Tie.{close}
 
 abbrev μ-collect : Measures 2 collect-kinds.ps ℕ
-μ-collect κs a = 3 * a .1 .1 .1 .1 .1 .1 .1 .0
+μ-collect κs a = 4 * a .1 .1 .1 .1 .1 .1 .1 .0
 
 abbrev μ-deal : Measures 2 deal-kinds.ps ℕ
-μ-deal κs a = 3 * a .1 .1 .1 .1 .1 .1 .1 .1 .0 + 2
+μ-deal κs a = 4 * a .1 .1 .1 .1 .1 .1 .1 .1 .0 + 3
 
 abbrev μ-decide : Measures 2 decide-kinds.ps ℕ
-μ-decide κs a = 3 * a .1 .1 .1 .1 .1 .1 .1 .1 .0 + 2
+μ-decide κs a = 4 * a .1 .1 .1 .1 .1 .1 .1 .1 .0 + 3
 
 abbrev μ-divide : Measures 2 divide-kinds.ps ℕ
-μ-divide κs a = 3 * a .1 .1 .1 .1 .1 .1 .1 .1 .1 .0 + 1
+μ-divide κs a = 4 * a .1 .1 .1 .1 .1 .1 .1 .1 .1 .0 + 2
+
+abbrev μ-one : Measures 2 one-kinds.ps ℕ
+μ-one κs a = 4 * a .1 .1 .1 .1 .1 .1 .1 .0 + 1
 
 abbrev μ-spread : Measures 2 spread-kinds.ps ℕ
-μ-spread κs a = 3 * a .1 .1 .1 .1 .1 .1 .1 .1 .0 + 1
+μ-spread κs a = 4 * a .1 .1 .1 .1 .1 .1 .1 .1 .0 + 2
 
 abbrev collect-at : ℕ → In 2 collect-kinds.ps
 collect-at t = and 2 collect-kinds.ps (is 2 collect-kinds.ps μ-collect t) collect.Pre
@@ -75,12 +82,19 @@ divide-at t = and 2 divide-kinds.ps (is 2 divide-kinds.ps μ-divide t) divide.Pr
 abbrev divide-below : ℕ → In 2 divide-kinds.ps
 divide-below t = and 2 divide-kinds.ps (falls 2 divide-kinds.ps _<_ μ-divide t) divide.Pre
 
+abbrev one-at : ℕ → In 2 one-kinds.ps
+one-at t = and 2 one-kinds.ps (is 2 one-kinds.ps μ-one t) one.Pre
+
+abbrev one-below : ℕ → In 2 one-kinds.ps
+one-below t = and 2 one-kinds.ps (falls 2 one-kinds.ps _<_ μ-one t) one.Pre
+
 abbrev spread-at : ℕ → In 2 spread-kinds.ps
 spread-at t = and 2 spread-kinds.ps (is 2 spread-kinds.ps μ-spread t) spread.Pre
 
 abbrev spread-below : ℕ → In 2 spread-kinds.ps
 spread-below t = and 2 spread-kinds.ps (falls 2 spread-kinds.ps _<_ μ-spread t) spread.Pre
 
+-- src/lib.rt:35:9
 collect-returns : (t : ℕ) → collect-lts.Need-returns (
   put-reads.Asked,
   put-reads.Learnt,
@@ -97,6 +111,7 @@ collect-returns : (t : ℕ) → collect-lts.Need-returns (
 ) (collect-at t) collect.Post
 collect-returns t c = storing.node-none _ _ _ _ _ _ _ _ (c .if1 .taken)
 
+-- src/lib.rt:37:12
 collect-add-put : (t : ℕ) → collect-lts.Need-add-put (
   put-reads.Asked,
   put-reads.Learnt,
@@ -113,6 +128,7 @@ collect-add-put : (t : ℕ) → collect-lts.Need-add-put (
 ) (collect-at t) collect.Post
 collect-add-put t c = record { fits = omega (arith, c .before .before .before .before .pre .1 .base, c .before .before .before .before .pre .1 .walk .place) }
 
+-- src/lib.rt:37:5
 collect-put-requires : (t : ℕ) → collect-lts.Need-put-requires (
   put-reads.Asked,
   put-reads.Learnt,
@@ -129,6 +145,7 @@ collect-put-requires : (t : ℕ) → collect-lts.Need-put-requires (
 ) (collect-at t) collect.Post
 collect-put-requires t c κs = search needs
 
+-- src/lib.rt:38:9
 collect-word-requires : (t : ℕ) → collect-lts.Need-word-requires (
   put-reads.Asked,
   put-reads.Learnt,
@@ -145,6 +162,7 @@ collect-word-requires : (t : ℕ) → collect-lts.Need-word-requires (
 ) (collect-at t) collect.Post
 collect-word-requires t c κs = search needs
 
+-- src/lib.rt:39:9
 collect-kind-requires : (t : ℕ) → collect-lts.Need-kind-requires (
   put-reads.Asked,
   put-reads.Learnt,
@@ -161,6 +179,7 @@ collect-kind-requires : (t : ℕ) → collect-lts.Need-kind-requires (
 ) (collect-at t) collect.Post
 collect-kind-requires t c κs = search needs
 
+-- src/lib.rt:41:9
 collect-same-length : (t : ℕ) → collect-lts.Need-same-length (
   put-reads.Asked,
   put-reads.Learnt,
@@ -177,6 +196,7 @@ collect-same-length : (t : ℕ) → collect-lts.Need-same-length (
 ) (collect-at t) collect.Post
 collect-same-length t c = search needs
 
+-- src/lib.rt:41:9
 collect-returns-2 : (t : ℕ) → collect-lts.Need-returns-2 (
   put-reads.Asked,
   put-reads.Learnt,
@@ -193,6 +213,7 @@ collect-returns-2 : (t : ℕ) → collect-lts.Need-returns-2 (
 ) (collect-at t) collect.Post
 collect-returns-2 t c = storing.node-end _ _ _ _ _ _ _ _ _ _ (c .before .before .before .before .before .before .put .ensures) (c .before .before .word .ensures) (sym (c .before .kind .ensures) ∙ c .if2 .taken)
 
+-- src/lib.rt:44:24
 collect-add-deal : (t : ℕ) → collect-lts.Need-add-deal (
   put-reads.Asked,
   put-reads.Learnt,
@@ -209,6 +230,7 @@ collect-add-deal : (t : ℕ) → collect-lts.Need-add-deal (
 ) (collect-at t) collect.Post
 collect-add-deal t c = record { fits = omega (arith, c .before .before .before .before .before .before .before .before .before .before .before .before .before .pre .1 .walk .place) }
 
+-- src/lib.rt:44:31
 collect-next-requires : (t : ℕ) → collect-lts.Need-next-requires (
   put-reads.Asked,
   put-reads.Learnt,
@@ -225,6 +247,7 @@ collect-next-requires : (t : ℕ) → collect-lts.Need-next-requires (
 ) (collect-at t) collect.Post
 collect-next-requires t c κs = search needs
 
+-- src/lib.rt:44:59
 collect-sub-deal : (t : ℕ) → collect-lts.Need-sub-deal (
   put-reads.Asked,
   put-reads.Learnt,
@@ -241,6 +264,7 @@ collect-sub-deal : (t : ℕ) → collect-lts.Need-sub-deal (
 ) (collect-at t) collect.Post
 collect-sub-deal t c = let z = c .before .before .before .before .before .before .before .before .before .before .before .if1 .left in omega (arith, z)
 
+-- src/lib.rt:44:9
 collect-deal-requires : (t : ℕ) → collect-lts.Need-deal-requires (
   put-reads.Asked,
   put-reads.Learnt,
@@ -259,6 +283,7 @@ collect-deal-requires t c κs =
     let z = c .before .before .before .before .before .before .before .before .before .before .before .if1 .left in
     (omega (arith, c .before .before .before .before .before .before .before .before .before .before .before .before .before .before .pre .0, z), storing.store-down _ _ _ _ _ (c .before .before .before .before .before .before .before .before .before .before .before .before .before .before .pre .1) z)
 
+-- src/lib.rt:45:9
 collect-same-length-2 : (t : ℕ) → collect-lts.Need-same-length-2 (
   put-reads.Asked,
   put-reads.Learnt,
@@ -275,6 +300,7 @@ collect-same-length-2 : (t : ℕ) → collect-lts.Need-same-length-2 (
 ) (collect-at t) collect.Post
 collect-same-length-2 t c = search needs
 
+-- src/lib.rt:45:9
 collect-returns-3 : (t : ℕ) → collect-lts.Need-returns-3 (
   put-reads.Asked,
   put-reads.Learnt,
@@ -291,6 +317,7 @@ collect-returns-3 : (t : ℕ) → collect-lts.Need-returns-3 (
 ) (collect-at t) collect.Post
 collect-returns-3 t c = storing.node-chance _ _ _ _ _ _ _ _ _ _ (c .before .before .before .before .before .before .before .before .before .before .before .before .put .ensures) (c .before .before .before .before .before .before .before .before .word .ensures) _ _ (sym (c .before .before .before .before .before .before .before .kind .ensures) ∙ c .before .before .before .before .before .if3 .taken) (c .before .before .before .next .ensures) (c .before .before .deal .ensures)
 
+-- src/lib.rt:47:22
 collect-add-decide : (t : ℕ) → collect-lts.Need-add-decide (
   put-reads.Asked,
   put-reads.Learnt,
@@ -307,6 +334,7 @@ collect-add-decide : (t : ℕ) → collect-lts.Need-add-decide (
 ) (collect-at t) collect.Post
 collect-add-decide t c = record { fits = omega (arith, c .before .before .before .before .before .before .before .before .before .before .before .before .before .pre .1 .walk .place) }
 
+-- src/lib.rt:47:51
 collect-sub-decide : (t : ℕ) → collect-lts.Need-sub-decide (
   put-reads.Asked,
   put-reads.Learnt,
@@ -323,6 +351,7 @@ collect-sub-decide : (t : ℕ) → collect-lts.Need-sub-decide (
 ) (collect-at t) collect.Post
 collect-sub-decide t c = let z = c .before .before .before .before .before .before .before .before .before .before .if1 .left in omega (arith, z)
 
+-- src/lib.rt:47:5
 collect-decide-requires : (t : ℕ) → collect-lts.Need-decide-requires (
   put-reads.Asked,
   put-reads.Learnt,
@@ -341,6 +370,7 @@ collect-decide-requires t c κs =
     let z = c .before .before .before .before .before .before .before .before .before .before .if1 .left in
     (omega (arith, c .before .before .before .before .before .before .before .before .before .before .before .before .before .pre .0, z), storing.store-down _ _ _ _ _ (c .before .before .before .before .before .before .before .before .before .before .before .before .before .pre .1) z)
 
+-- src/lib.rt:21:1
 collect-same-length-3 : (t : ℕ) → collect-lts.Need-same-length-3 (
   put-reads.Asked,
   put-reads.Learnt,
@@ -357,6 +387,7 @@ collect-same-length-3 : (t : ℕ) → collect-lts.Need-same-length-3 (
 ) (collect-at t) collect.Post
 collect-same-length-3 t c = search needs
 
+-- src/lib.rt:21:1
 collect-returns-4 : (t : ℕ) → collect-lts.Need-returns-4 (
   put-reads.Asked,
   put-reads.Learnt,
@@ -373,6 +404,7 @@ collect-returns-4 : (t : ℕ) → collect-lts.Need-returns-4 (
 ) (collect-at t) collect.Post
 collect-returns-4 t c = storing.node-decides _ _ _ _ _ _ _ _ _ _ (c .before .before .before .before .before .before .before .before .before .before .before .put .ensures) (c .before .before .before .before .before .before .before .word .ensures) _ (λ q. c .before .before .before .before .before .if2 .left (c .before .before .before .before .before .before .kind .ensures ∙ q)) (λ q. c .before .before .before .before .if3 .left (c .before .before .before .before .before .before .kind .ensures ∙ q)) (c .before .before .decide .ensures)
 
+-- src/lib.rt:65:9
 deal-fan-requires : (t : ℕ) → deal-lts.Need-fan-requires (
   fan-reads.Asked,
   fan-reads.Learnt,
@@ -381,6 +413,7 @@ deal-fan-requires : (t : ℕ) → deal-lts.Need-fan-requires (
 ) (deal-at t) deal.Post
 deal-fan-requires t c κs = omega (arith, c .before .before .before .pre .1 .walk .place)
 
+-- src/lib.rt:67:9
 deal-same-length : (t : ℕ) → deal-lts.Need-same-length (
   fan-reads.Asked,
   fan-reads.Learnt,
@@ -389,6 +422,7 @@ deal-same-length : (t : ℕ) → deal-lts.Need-same-length (
 ) (deal-at t) deal.Post
 deal-same-length t c = search needs
 
+-- src/lib.rt:67:9
 deal-returns : (t : ℕ) → deal-lts.Need-returns (
   fan-reads.Asked,
   fan-reads.Learnt,
@@ -397,6 +431,7 @@ deal-returns : (t : ℕ) → deal-lts.Need-returns (
 ) (deal-at t) deal.Post
 deal-returns t c = storing.deal-none _ _ _ _ _ _ _ _ _ _ (c .before .fan .ensures) (c .if1 .taken)
 
+-- src/lib.rt:69:30
 deal-div-spread : (t : ℕ) → deal-lts.Need-div-spread (
   fan-reads.Asked,
   fan-reads.Learnt,
@@ -405,6 +440,7 @@ deal-div-spread : (t : ℕ) → deal-lts.Need-div-spread (
 ) (deal-at t) deal.Post
 deal-div-spread t c = omega (arith, c .before .if1 .left)
 
+-- src/lib.rt:69:5
 deal-spread-requires : (t : ℕ) → deal-lts.Need-spread-requires (
   fan-reads.Asked,
   fan-reads.Learnt,
@@ -413,6 +449,7 @@ deal-spread-requires : (t : ℕ) → deal-lts.Need-spread-requires (
 ) (deal-at t) deal.Post
 deal-spread-requires t c κs = (omega (arith, c .before .before .before .before .before .before .pre .0), storing.store-here _ _ _ _ _ _ (c .before .before .before .before .before .before .pre .1) (passing.quotient-few _ _ (c .before .before .before .before .before .before .pre .1 .walk .units)))
 
+-- src/lib.rt:51:1
 deal-same-length-2 : (t : ℕ) → deal-lts.Need-same-length-2 (
   fan-reads.Asked,
   fan-reads.Learnt,
@@ -421,6 +458,7 @@ deal-same-length-2 : (t : ℕ) → deal-lts.Need-same-length-2 (
 ) (deal-at t) deal.Post
 deal-same-length-2 t c = search needs
 
+-- src/lib.rt:51:1
 deal-returns-2 : (t : ℕ) → deal-lts.Need-returns-2 (
   fan-reads.Asked,
   fan-reads.Learnt,
@@ -429,6 +467,7 @@ deal-returns-2 : (t : ℕ) → deal-lts.Need-returns-2 (
 ) (deal-at t) deal.Post
 deal-returns-2 t c = storing.deal-some _ _ _ _ _ _ _ _ _ _ (c .before .before .before .before .before .fan .ensures) _ (c .before .before .spread .ensures)
 
+-- src/lib.rt:87:8
 decide-actor-requires : (t : ℕ) → decide-lts.Need-actor-requires (
   actor-reads.Asked,
   actor-reads.Learnt,
@@ -445,6 +484,7 @@ decide-actor-requires : (t : ℕ) → decide-lts.Need-actor-requires (
 ) (decide-at t) decide.Post
 decide-actor-requires t c κs = search needs
 
+-- src/lib.rt:88:29
 decide-next-requires : (t : ℕ) → decide-lts.Need-next-requires (
   actor-reads.Asked,
   actor-reads.Learnt,
@@ -461,6 +501,7 @@ decide-next-requires : (t : ℕ) → decide-lts.Need-next-requires (
 ) (decide-at t) decide.Post
 decide-next-requires t c κs = search needs
 
+-- src/lib.rt:88:9
 decide-spread-requires : (t : ℕ) → decide-lts.Need-spread-requires (
   actor-reads.Asked,
   actor-reads.Learnt,
@@ -477,6 +518,7 @@ decide-spread-requires : (t : ℕ) → decide-lts.Need-spread-requires (
 ) (decide-at t) decide.Post
 decide-spread-requires t c κs = (omega (arith, c .before .before .before .before .before .before .pre .0), c .before .before .before .before .before .before .pre .1)
 
+-- src/lib.rt:89:9
 decide-same-length : (t : ℕ) → decide-lts.Need-same-length (
   actor-reads.Asked,
   actor-reads.Learnt,
@@ -493,6 +535,7 @@ decide-same-length : (t : ℕ) → decide-lts.Need-same-length (
 ) (decide-at t) decide.Post
 decide-same-length t c = search needs
 
+-- src/lib.rt:89:9
 decide-returns : (t : ℕ) → decide-lts.Need-returns (
   actor-reads.Asked,
   actor-reads.Learnt,
@@ -509,6 +552,7 @@ decide-returns : (t : ℕ) → decide-lts.Need-returns (
 ) (decide-at t) decide.Post
 decide-returns t c = storing.decide-own _ _ (c .before .before .before .before .before .before .before .before .before .args .seat) _ _ _ _ _ _ _ _ (sym (c .before .before .before .before .before .before .actor .ensures) ∙ c .before .before .before .before .before .if1 .taken) (c .before .before .before .next .ensures) (c .before .before .spread .ensures)
 
+-- src/lib.rt:91:9
 decide-set-requires : (t : ℕ) → decide-lts.Need-set-requires (
   actor-reads.Asked,
   actor-reads.Learnt,
@@ -525,6 +569,7 @@ decide-set-requires : (t : ℕ) → decide-lts.Need-set-requires (
 ) (decide-at t) decide.Post
 decide-set-requires t c κs = search needs
 
+-- src/lib.rt:92:23
 decide-actions-requires : (t : ℕ) → decide-lts.Need-actions-requires (
   actor-reads.Asked,
   actor-reads.Learnt,
@@ -541,6 +586,7 @@ decide-actions-requires : (t : ℕ) → decide-lts.Need-actions-requires (
 ) (decide-at t) decide.Post
 decide-actions-requires t c κs = search needs
 
+-- src/lib.rt:92:15
 decide-add-end : (t : ℕ) → decide-lts.Need-add-end (
   actor-reads.Asked,
   actor-reads.Learnt,
@@ -557,6 +603,7 @@ decide-add-end : (t : ℕ) → decide-lts.Need-add-end (
 ) (decide-at t) decide.Post
 decide-add-end t c = record { fits = omega (arith, c .before .set .ensures, c .actions .ensures) }
 
+-- src/lib.rt:94:9
 decide-returns-2 : (t : ℕ) → decide-lts.Need-returns-2 (
   actor-reads.Asked,
   actor-reads.Learnt,
@@ -573,6 +620,7 @@ decide-returns-2 : (t : ℕ) → decide-lts.Need-returns-2 (
 ) (decide-at t) decide.Post
 decide-returns-2 t c = storing.decide-none _ _ _ _ _ _ _ _ _ (omega (arith, c .before .before .set .ensures, c .before .actions .ensures, c .if2 .taken))
 
+-- src/lib.rt:96:5
 decide-divide-requires : (t : ℕ) → decide-lts.Need-divide-requires (
   actor-reads.Asked,
   actor-reads.Learnt,
@@ -589,6 +637,7 @@ decide-divide-requires : (t : ℕ) → decide-lts.Need-divide-requires (
 ) (decide-at t) decide.Post
 decide-divide-requires t c κs = (omega (arith, c .before .before .before .before .before .before .before .before .pre .0), (c .before .before .before .before .before .before .before .before .pre .1, omega arith, omega (arith, c .before .if2 .left)))
 
+-- src/lib.rt:73:1
 decide-same-length-2 : (t : ℕ) → decide-lts.Need-same-length-2 (
   actor-reads.Asked,
   actor-reads.Learnt,
@@ -605,6 +654,7 @@ decide-same-length-2 : (t : ℕ) → decide-lts.Need-same-length-2 (
 ) (decide-at t) decide.Post
 decide-same-length-2 t c = search needs
 
+-- src/lib.rt:73:1
 decide-returns-3 : (t : ℕ) → decide-lts.Need-returns-3 (
   actor-reads.Asked,
   actor-reads.Learnt,
@@ -627,138 +677,268 @@ divide-Inv-loop w₀ table a first end u seat d units depth at₀ action₀ w at
 abbrev divide-μ-loop : divide-lts.MeasureT-loop
 divide-μ-loop w₀ table a first end u seat d units depth at₀ action₀ w at action = end - first - action
 
+-- src/lib.rt:165:5
 divide-loop-holds : (t : ℕ) → divide-lts.Need-loop-holds (
   share-reads.Asked,
   share-reads.Learnt,
-  collect-below t,
-  collect.Post,
+  one-below t,
+  one.Post,
   behind-reads.Asked,
   behind-reads.Learnt,
 ) (divide-at t) divide.Post divide-Inv-loop divide-μ-loop
 divide-loop-holds t c = (storing.shared-start _ _ _ _ _ _ _ _ _ _, c .before .before .pre .1 .0, omega arith)
 
+-- src/lib.rt:165:20
 divide-sub-loop : (t : ℕ) → divide-lts.Need-sub-loop (
   share-reads.Asked,
   share-reads.Learnt,
-  collect-below t,
-  collect.Post,
+  one-below t,
+  one.Post,
   behind-reads.Asked,
   behind-reads.Learnt,
 ) (divide-at t) divide.Post divide-Inv-loop divide-μ-loop
 divide-sub-loop t c = c .before .before .before .pre .1 .1
 
+-- src/lib.rt:166:26
 divide-sub-share : (t : ℕ) → divide-lts.Need-sub-share (
   share-reads.Asked,
   share-reads.Learnt,
-  collect-below t,
-  collect.Post,
+  one-below t,
+  one.Post,
   behind-reads.Asked,
   behind-reads.Learnt,
 ) (divide-at t) divide.Post divide-Inv-loop divide-μ-loop
 divide-sub-share t c = c .before .before .before .before .pre .1 .1
 
+-- src/lib.rt:166:26
 divide-part-share-start : (t : ℕ) → divide-lts.Need-part-share-start (
   share-reads.Asked,
   share-reads.Learnt,
-  collect-below t,
-  collect.Post,
+  one-below t,
+  one.Post,
   behind-reads.Asked,
   behind-reads.Learnt,
 ) (divide-at t) divide.Post divide-Inv-loop divide-μ-loop
 divide-part-share-start t c = search needs
 
+-- src/lib.rt:166:26
 divide-part-share-end : (t : ℕ) → divide-lts.Need-part-share-end (
   share-reads.Asked,
   share-reads.Learnt,
-  collect-below t,
-  collect.Post,
+  one-below t,
+  one.Post,
   behind-reads.Asked,
   behind-reads.Learnt,
 ) (divide-at t) divide.Post divide-Inv-loop divide-μ-loop
 divide-part-share-end t c = search needs
 
+-- src/lib.rt:166:13
 divide-share-requires : (t : ℕ) → divide-lts.Need-share-requires (
   share-reads.Asked,
   share-reads.Learnt,
-  collect-below t,
-  collect.Post,
+  one-below t,
+  one.Post,
   behind-reads.Asked,
   behind-reads.Learnt,
 ) (divide-at t) divide.Post divide-Inv-loop divide-μ-loop
 divide-share-requires t c κs = (rw (passing.part-length (now (c .before .before .before .before .before .args .table)) (c .before .before .before .before .before .args .first) (c .before .before .before .before .before .args .end) (c .before .before .before .before .before .pre .1 .1) (c .before .before .before .before .before .pre .1 .2)) (c .before .loop-test .taken), c .before .before .before .before .before .pre .1 .0 .walk .units, c .before .before .before .before .before .pre .1 .0 .walk .least, c .before .before .before .before .before .pre .1 .0 .walk .most)
 
-divide-collect-requires : (t : ℕ) → divide-lts.Need-collect-requires (
+-- src/lib.rt:167:9
+divide-one-requires : (t : ℕ) → divide-lts.Need-one-requires (
   share-reads.Asked,
   share-reads.Learnt,
-  collect-below t,
-  collect.Post,
+  one-below t,
+  one.Post,
   behind-reads.Asked,
   behind-reads.Learnt,
 ) (divide-at t) divide.Post divide-Inv-loop divide-μ-loop
-divide-collect-requires t c κs = (omega (arith, c .before .before .before .before .before .before .before .pre .0), storing.store-here _ _ _ _ _ _ (c .before .before .before .before .loop .inv .1) (c .before .share .ensures .0))
+divide-one-requires t c κs = (omega (arith, c .before .before .before .before .before .before .before .pre .0), storing.store-here _ _ _ _ _ _ (c .before .before .before .before .loop .inv .1) (c .before .share .ensures .0))
 
+-- src/lib.rt:168:9
 divide-behind-requires : (t : ℕ) → divide-lts.Need-behind-requires (
   share-reads.Asked,
   share-reads.Learnt,
-  collect-below t,
-  collect.Post,
+  one-below t,
+  one.Post,
   behind-reads.Asked,
   behind-reads.Learnt,
 ) (divide-at t) divide.Post divide-Inv-loop divide-μ-loop
 divide-behind-requires t c κs = omega (arith, c .before .before .before .before .before .before .before .before .loop .inv .1 .walk .place)
 
+-- src/lib.rt:169:9
 divide-add-action : (t : ℕ) → divide-lts.Need-add-action (
   share-reads.Asked,
   share-reads.Learnt,
-  collect-below t,
-  collect.Post,
+  one-below t,
+  one.Post,
   behind-reads.Asked,
   behind-reads.Learnt,
 ) (divide-at t) divide.Post divide-Inv-loop divide-μ-loop
 divide-add-action t c = record { fits = omega (arith, c .before .before .before .before .before .before .before .before .loop-test .taken) }
 
+-- src/lib.rt:165:5
 divide-loop-less : (t : ℕ) → divide-lts.Need-loop-less (
   share-reads.Asked,
   share-reads.Learnt,
-  collect-below t,
-  collect.Post,
+  one-below t,
+  one.Post,
   behind-reads.Asked,
   behind-reads.Learnt,
 ) (divide-at t) divide.Post divide-Inv-loop divide-μ-loop
 divide-loop-less t c = omega (arith, c .before .before .before .before .before .before .before .before .loop-test .taken)
 
+-- src/lib.rt:165:5
 divide-loop-again : (t : ℕ) → divide-lts.Need-loop-again (
   share-reads.Asked,
   share-reads.Learnt,
-  collect-below t,
-  collect.Post,
+  one-below t,
+  one.Post,
   behind-reads.Asked,
   behind-reads.Learnt,
 ) (divide-at t) divide.Post divide-Inv-loop divide-μ-loop
 divide-loop-again t c =
     let l = c .before .before .before .before .before .before .before .before .loop-test .taken in
     let b = c .behind .ensures in
-    (storing.shared-more _ _ _ _ _ _ _ _ _ _ _ _ _ _ _ _ (c .before .before .before .before .before .before .before .before .before .loop .inv .0) l (passing.part-shares (now (c .before .before .before .before .before .before .before .before .before .before .before .before .args .table)) (c .before .before .before .before .before .before .before .before .before .before .before .before .args .first) (c .before .before .before .before .before .before .before .before .before .before .before .before .args .end) (c .before .before .before .before .before .before .before .before .before .before .before .before .pre .1 .1) (c .before .before .before .before .before .before .before .before .before .before .before .before .pre .1 .2) (c .before .before .before .before .before .before .before .before .before .loop .action) (c .before .before .before .before .before .before .before .before .before .before .before .before .args .u) (c .before .before .before .before .before .before .share .result) (c .before .before .before .before .before .before .before .before .before .before .before .before .args .d) l (c .before .before .before .before .before .before .share .ensures .1)) (c .before .before .before .before .collect .ensures) b, storing.store-along _ _ _ _ _ _ _ (c .before .before .before .before .before .before .before .before .before .before .before .before .pre .1 .0) (b .near) (c .before .before .before .before .before .before .before .before .before .before .before .before .pre .1 .0 .walk .units), omega (arith, l))
+    (storing.shared-more _ _ _ _ _ _ _ _ _ _ _ _ _ _ _ _ (c .before .before .before .before .before .before .before .before .before .loop .inv .0) l (passing.part-shares (now (c .before .before .before .before .before .before .before .before .before .before .before .before .args .table)) (c .before .before .before .before .before .before .before .before .before .before .before .before .args .first) (c .before .before .before .before .before .before .before .before .before .before .before .before .args .end) (c .before .before .before .before .before .before .before .before .before .before .before .before .pre .1 .1) (c .before .before .before .before .before .before .before .before .before .before .before .before .pre .1 .2) (c .before .before .before .before .before .before .before .before .before .loop .action) (c .before .before .before .before .before .before .before .before .before .before .before .before .args .u) (c .before .before .before .before .before .before .share .result) (c .before .before .before .before .before .before .before .before .before .before .before .before .args .d) l (c .before .before .before .before .before .before .share .ensures .1)) (c .before .before .before .before .one .ensures) b, storing.store-along _ _ _ _ _ _ _ (c .before .before .before .before .before .before .before .before .before .before .before .before .pre .1 .0) (b .near) (c .before .before .before .before .before .before .before .before .before .before .before .before .pre .1 .0 .walk .units), omega (arith, l))
 
+-- src/lib.rt:148:1
 divide-same-length : (t : ℕ) → divide-lts.Need-same-length (
   share-reads.Asked,
   share-reads.Learnt,
-  collect-below t,
-  collect.Post,
+  one-below t,
+  one.Post,
   behind-reads.Asked,
   behind-reads.Learnt,
 ) (divide-at t) divide.Post divide-Inv-loop divide-μ-loop
 divide-same-length t c = c .before .loop .inv .0 .long
 
+-- src/lib.rt:148:1
 divide-returns : (t : ℕ) → divide-lts.Need-returns (
   share-reads.Asked,
   share-reads.Learnt,
-  collect-below t,
-  collect.Post,
+  one-below t,
+  one.Post,
   behind-reads.Asked,
   behind-reads.Learnt,
 ) (divide-at t) divide.Post divide-Inv-loop divide-μ-loop
 divide-returns t c = storing.shared-end _ _ _ _ _ _ _ _ _ _ _ _ _ (c .before .loop .inv .0) (c .loop-test .left)
+
+-- src/lib.rt:113:9
+one-word-requires : (t : ℕ) → one-lts.Need-word-requires (
+  word-reads.Asked,
+  word-reads.Learnt,
+  kind-reads.Asked,
+  kind-reads.Learnt,
+  put-reads.Asked,
+  put-reads.Learnt,
+  collect-below t,
+  collect.Post,
+) (one-at t) one.Post
+one-word-requires t c κs = search needs
+
+-- src/lib.rt:114:8
+one-kind-requires : (t : ℕ) → one-lts.Need-kind-requires (
+  word-reads.Asked,
+  word-reads.Learnt,
+  kind-reads.Asked,
+  kind-reads.Learnt,
+  put-reads.Asked,
+  put-reads.Learnt,
+  collect-below t,
+  collect.Post,
+) (one-at t) one.Post
+one-kind-requires t c κs = search needs
+
+-- src/lib.rt:115:16
+one-add-put : (t : ℕ) → one-lts.Need-add-put (
+  word-reads.Asked,
+  word-reads.Learnt,
+  kind-reads.Asked,
+  kind-reads.Learnt,
+  put-reads.Asked,
+  put-reads.Learnt,
+  collect-below t,
+  collect.Post,
+) (one-at t) one.Post
+one-add-put t c = record { fits = omega (arith, c .before .before .before .before .before .before .before .pre .1 .base, c .before .before .before .before .before .before .before .pre .1 .walk .place) }
+
+-- src/lib.rt:115:9
+one-put-requires : (t : ℕ) → one-lts.Need-put-requires (
+  word-reads.Asked,
+  word-reads.Learnt,
+  kind-reads.Asked,
+  kind-reads.Learnt,
+  put-reads.Asked,
+  put-reads.Learnt,
+  collect-below t,
+  collect.Post,
+) (one-at t) one.Post
+one-put-requires t c κs = search needs
+
+-- src/lib.rt:116:9
+one-same-length : (t : ℕ) → one-lts.Need-same-length (
+  word-reads.Asked,
+  word-reads.Learnt,
+  kind-reads.Asked,
+  kind-reads.Learnt,
+  put-reads.Asked,
+  put-reads.Learnt,
+  collect-below t,
+  collect.Post,
+) (one-at t) one.Post
+one-same-length t c = search needs
+
+-- src/lib.rt:116:9
+one-returns : (t : ℕ) → one-lts.Need-returns (
+  word-reads.Asked,
+  word-reads.Learnt,
+  kind-reads.Asked,
+  kind-reads.Learnt,
+  put-reads.Asked,
+  put-reads.Learnt,
+  collect-below t,
+  collect.Post,
+) (one-at t) one.Post
+one-returns t c = storing.node-peeked (now (c .before .before .before .before .before .before .before .before .before .before .args .table)) (c .before .before .before .before .before .before .before .before .before .before .args .d) (c .before .before .before .before .before .before .before .before .before .before .args .seat) (c .before .before .before .before .before .before .before .before .before .before .args .units) (c .before .before .before .before .before .before .before .before .before .before .args .a) (c .before .before .before .before .before .before .before .before .before .before .args .u) (c .before .before .before .before .before .before .before .before .before .before .args .depth) (now (c .before .before .before .before .before .before .before .before .before .before .args .w)) (c .before .before .put .last .0) (c .before .before .before .before .before .before .word .result) (c .before .before .put .ensures) (c .before .before .before .before .before .before .word .ensures) (sym (c .before .before .before .before .before .kind .ensures) ∙ c .before .before .before .before .if1 .taken)
+
+-- src/lib.rt:118:5
+one-collect-requires : (t : ℕ) → one-lts.Need-collect-requires (
+  word-reads.Asked,
+  word-reads.Learnt,
+  kind-reads.Asked,
+  kind-reads.Learnt,
+  put-reads.Asked,
+  put-reads.Learnt,
+  collect-below t,
+  collect.Post,
+) (one-at t) one.Post
+one-collect-requires t c κs = (omega (arith, c .before .before .before .before .before .before .before .pre .0), c .before .before .before .before .before .before .before .pre .1)
+
+-- src/lib.rt:100:1
+one-same-length-2 : (t : ℕ) → one-lts.Need-same-length-2 (
+  word-reads.Asked,
+  word-reads.Learnt,
+  kind-reads.Asked,
+  kind-reads.Learnt,
+  put-reads.Asked,
+  put-reads.Learnt,
+  collect-below t,
+  collect.Post,
+) (one-at t) one.Post
+one-same-length-2 t c = search needs
+
+-- src/lib.rt:100:1
+one-returns-2 : (t : ℕ) → one-lts.Need-returns-2 (
+  word-reads.Asked,
+  word-reads.Learnt,
+  kind-reads.Asked,
+  kind-reads.Learnt,
+  put-reads.Asked,
+  put-reads.Learnt,
+  collect-below t,
+  collect.Post,
+) (one-at t) one.Post
+one-returns-2 t c = c .before .before .collect .ensures
 
 abbrev spread-Inv-loop : spread-lts.InvT-loop
 spread-Inv-loop w₀ table a end u seat d units depth at₀ w at = storing.SoFar table d seat units a depth w₀ (Each a end u) (λ c. Unit {0}) at w × Storable at u d units depth
@@ -766,81 +946,90 @@ spread-Inv-loop w₀ table a end u seat d units depth at₀ w at = storing.SoFar
 abbrev spread-μ-loop : spread-lts.MeasureT-loop
 spread-μ-loop w₀ table a end u seat d units depth at₀ w at = end - at
 
+-- src/lib.rt:137:5
 spread-loop-holds : (t : ℕ) → spread-lts.Need-loop-holds (
-  collect-below t,
-  collect.Post,
+  one-below t,
+  one.Post,
   behind-reads.Asked,
   behind-reads.Learnt,
 ) (spread-at t) spread.Post spread-Inv-loop spread-μ-loop
 spread-loop-holds t c = (storing.each-start _ _ _ _ _ _ _ _ _, c .before .before .pre .1)
 
-spread-collect-requires : (t : ℕ) → spread-lts.Need-collect-requires (
-  collect-below t,
-  collect.Post,
+-- src/lib.rt:138:9
+spread-one-requires : (t : ℕ) → spread-lts.Need-one-requires (
+  one-below t,
+  one.Post,
   behind-reads.Asked,
   behind-reads.Learnt,
 ) (spread-at t) spread.Post spread-Inv-loop spread-μ-loop
-spread-collect-requires t c κs = (omega (arith, c .before .before .before .before .before .pre .0), c .before .before .loop .inv .1)
+spread-one-requires t c κs = (omega (arith, c .before .before .before .before .before .pre .0), c .before .before .loop .inv .1)
 
+-- src/lib.rt:139:13
 spread-behind-requires : (t : ℕ) → spread-lts.Need-behind-requires (
-  collect-below t,
-  collect.Post,
+  one-below t,
+  one.Post,
   behind-reads.Asked,
   behind-reads.Learnt,
 ) (spread-at t) spread.Post spread-Inv-loop spread-μ-loop
 spread-behind-requires t c κs = omega (arith, c .before .before .before .before .before .before .loop .inv .1 .walk .place)
 
+-- src/lib.rt:141:13
 spread-same-length : (t : ℕ) → spread-lts.Need-same-length (
-  collect-below t,
-  collect.Post,
+  one-below t,
+  one.Post,
   behind-reads.Asked,
   behind-reads.Learnt,
 ) (spread-at t) spread.Post spread-Inv-loop spread-μ-loop
-spread-same-length t c = c .before .before .before .before .before .collect .ensures .long ∙ c .before .before .before .before .before .before .before .before .loop .inv .0 .long
+spread-same-length t c = c .before .before .before .before .before .one .ensures .long ∙ c .before .before .before .before .before .before .before .before .loop .inv .0 .long
 
+-- src/lib.rt:141:13
 spread-returns : (t : ℕ) → spread-lts.Need-returns (
-  collect-below t,
-  collect.Post,
+  one-below t,
+  one.Post,
   behind-reads.Asked,
   behind-reads.Learnt,
 ) (spread-at t) spread.Post spread-Inv-loop spread-μ-loop
-spread-returns t c = storing.each-stuck _ _ _ _ _ _ _ _ _ _ _ _ _ (c .before .before .before .before .before .before .before .before .loop .inv .0) (c .before .before .before .before .before .before .before .loop-test .taken) (c .before .before .before .before .before .collect .ensures) (c .before .behind .ensures) (c .if1 .taken)
+spread-returns t c = storing.each-stuck _ _ _ _ _ _ _ _ _ _ _ _ _ (c .before .before .before .before .before .before .before .before .loop .inv .0) (c .before .before .before .before .before .before .before .loop-test .taken) (c .before .before .before .before .before .one .ensures) (c .before .behind .ensures) (c .if1 .taken)
 
+-- src/lib.rt:137:5
 spread-loop-less : (t : ℕ) → spread-lts.Need-loop-less (
-  collect-below t,
-  collect.Post,
+  one-below t,
+  one.Post,
   behind-reads.Asked,
   behind-reads.Learnt,
 ) (spread-at t) spread.Post spread-Inv-loop spread-μ-loop
 spread-loop-less t c = omega (arith, c .if1 .left, c .before .before .before .before .before .before .before .loop-test .taken)
 
+-- src/lib.rt:137:5
 spread-loop-again : (t : ℕ) → spread-lts.Need-loop-again (
-  collect-below t,
-  collect.Post,
+  one-below t,
+  one.Post,
   behind-reads.Asked,
   behind-reads.Learnt,
 ) (spread-at t) spread.Post spread-Inv-loop spread-μ-loop
-spread-loop-again t c = (storing.each-more _ _ _ _ _ _ _ _ _ _ _ _ _ (c .before .before .before .before .before .before .before .before .loop .inv .0) (c .before .before .before .before .before .before .before .loop-test .taken) (c .before .before .before .before .before .collect .ensures) (c .before .behind .ensures), storing.store-along _ _ _ _ _ _ _ (c .before .before .before .before .before .before .before .before .before .before .before .pre .1) (c .before .behind .ensures .near) (c .before .before .before .before .before .before .before .before .before .before .before .pre .1 .walk .units))
+spread-loop-again t c = (storing.each-more _ _ _ _ _ _ _ _ _ _ _ _ _ (c .before .before .before .before .before .before .before .before .loop .inv .0) (c .before .before .before .before .before .before .before .loop-test .taken) (c .before .before .before .before .before .one .ensures) (c .before .behind .ensures), storing.store-along _ _ _ _ _ _ _ (c .before .before .before .before .before .before .before .before .before .before .before .pre .1) (c .before .behind .ensures .near) (c .before .before .before .before .before .before .before .before .before .before .before .pre .1 .walk .units))
 
+-- src/lib.rt:122:1
 spread-same-length-2 : (t : ℕ) → spread-lts.Need-same-length-2 (
-  collect-below t,
-  collect.Post,
+  one-below t,
+  one.Post,
   behind-reads.Asked,
   behind-reads.Learnt,
 ) (spread-at t) spread.Post spread-Inv-loop spread-μ-loop
 spread-same-length-2 t c = c .before .loop .inv .0 .long
 
+-- src/lib.rt:122:1
 spread-returns-2 : (t : ℕ) → spread-lts.Need-returns-2 (
-  collect-below t,
-  collect.Post,
+  one-below t,
+  one.Post,
   behind-reads.Asked,
   behind-reads.Learnt,
 ) (spread-at t) spread.Post spread-Inv-loop spread-μ-loop
 spread-returns-2 t c = storing.each-end _ _ _ _ _ _ _ _ _ _ _ (c .before .loop .inv .0) (c .loop-test .left)
 
-pub +collect+deal+decide+divide+spread-spec : {M : Type 1} → statement M
-+collect+deal+decide+divide+spread-spec =
-    close μ-collect μ-deal μ-decide μ-divide μ-spread (λ t. collect-lts.spec (
+pub +collect+deal+decide+divide+one+spread-spec : {M : Type 1} → statement M
++collect+deal+decide+divide+one+spread-spec =
+    close μ-collect μ-deal μ-decide μ-divide μ-one μ-spread (λ t. collect-lts.spec (
       put-reads.Asked,
       put-reads.Learnt,
       word-reads.Asked,
@@ -916,8 +1105,8 @@ pub +collect+deal+decide+divide+spread-spec : {M : Type 1} → statement M
     (λ t. divide-lts.spec (
       share-reads.Asked,
       share-reads.Learnt,
-      collect-below t,
-      collect.Post,
+      one-below t,
+      one.Post,
       behind-reads.Asked,
       behind-reads.Learnt,
     )
@@ -931,21 +1120,42 @@ pub +collect+deal+decide+divide+spread-spec : {M : Type 1} → statement M
     (divide-part-share-start t)
     (divide-part-share-end t)
     (divide-share-requires t)
-    (divide-collect-requires t)
+    (divide-one-requires t)
     (divide-behind-requires t)
     (divide-add-action t)
     (divide-loop-less t)
     (divide-loop-again t)
     (divide-same-length t)
     (divide-returns t))
+    (λ t. one-lts.spec (
+      word-reads.Asked,
+      word-reads.Learnt,
+      kind-reads.Asked,
+      kind-reads.Learnt,
+      put-reads.Asked,
+      put-reads.Learnt,
+      collect-below t,
+      collect.Post,
+    )
+    (one-at t)
+    one.Post
+    (one-word-requires t)
+    (one-kind-requires t)
+    (one-add-put t)
+    (one-put-requires t)
+    (one-same-length t)
+    (one-returns t)
+    (one-collect-requires t)
+    (one-same-length-2 t)
+    (one-returns-2 t))
     λ t. spread-lts.spec
-    (collect-below t, collect.Post, behind-reads.Asked, behind-reads.Learnt)
+    (one-below t, one.Post, behind-reads.Asked, behind-reads.Learnt)
     (spread-at t)
     spread.Post
     spread-Inv-loop
     spread-μ-loop
     (spread-loop-holds t)
-    (spread-collect-requires t)
+    (spread-one-requires t)
     (spread-behind-requires t)
     (spread-same-length t)
     (spread-returns t)
