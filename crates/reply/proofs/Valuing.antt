@@ -41,7 +41,7 @@ module _ (i d h b k a : ℕ) (old : List ℕ) where
     says : (S : Scene i h b k) → Noted S old → (t : Tree) (u y : ℕ) → Here S y a u t → x ≡ getD (S .words) a 0
     says S m t u y g = e ∙ seen S m t u y g
 
-    pub value-end : (y l v : ℕ) → kindOf x ≡ END → y ≡ getD old (b + a) 0 → (l ≡ byteOf x i) × (l < 128) → v ≡ y % 144115188075855872 * l → Valued i d h b k a old old v
+    value-end : (y l v : ℕ) → kindOf x ≡ END → y ≡ getD old (b + a) 0 → (l ≡ byteOf x i) × (l < 128) → v ≡ y % 144115188075855872 * l → Valued i d h b k a old old v
     unfolding Held Says Stocked gain
     value-end y l v z q p o S m (end f) u lev le g = (m, o ∙ ap (λ j. j * l) units ∙ product u l (byteOf x i) (g .small) p ∙ ap (λ j. u * j % 2 ^ 64) byte)
       where
@@ -52,6 +52,9 @@ module _ (i d h b k a : ℕ) (old : List ℕ) where
         byte = sym (lift-back (byteOf x i)) ∙ ap lift (ap (λ j. payoffOf j i) (says S m (end f) u lev g) ∙ g .held .1 i (S .seat))
     value-end y l v z q p o S m (chance f) u lev le g = absurd (omega (arith, g .held .0 .0, ap kindOf (says S m (chance f) u lev g)))
     value-end y l v z q p o S m (decide j n f) u lev le g = absurd (omega (arith, z, g .held .0 .0, ap kindOf (says S m (decide j n f) u lev g)))
+
+    pub value-ended : (v : ℕ) → kindOf x ≡ END → v ≡ getD old (b + a) 0 % 144115188075855872 * byteOf x i → Valued i d h b k a old old v
+    value-ended v z o = value-end (getD old (b + a) 0) (byteOf x i) v z refl (refl, NatL.mod-lt _ (omega arith)) o
 
     module _ (new : List ℕ) (r : ℕ) where
       -- a chance node

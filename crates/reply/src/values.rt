@@ -17,11 +17,22 @@ use arena::words::put;
 use arena::words::set;
 use arena::words::word;
 use std::num::wrapping_add_u64;
-ghost use Prim.Native.Nat.{_+_};
+ghost use mathlib.Core.Path.{_≡_};
+ghost use Prim.Native.Nat.{_+_, _*_, _%_, _<_};
+ghost use lib.ListN.{getD};
+ghost use Rattle.arena.specs.Words.{byteOf};
 ghost use Rattle.reply.specs.Valued.{Walkable, Valued, ValuedAll, ValuedOwn, Totalled, Chosen};
 
 // Units are below this number, 2^57.
 const UNITS: u64 = 144115188075855872;
+
+// The lifted value of the end at place a with word x.
+fn ended(w: &[u64], a: usize, x: u64, seat: usize, units: usize) -> u64
+    requires { ⌜ (seat < 6) × (units + a < 33554432) ⌝ }
+    ensures { λ r. ⌜ r ≡ getD (now (w .entry)) (units + a) 0 % 144115188075855872 * byteOf x seat ⌝ }
+{
+    word(w, units + a) % UNITS * lifted(x, seat)
+}
 
 // The lifted value of the tree at place a for a seat, modulo 2^64.
 pub fn value(
@@ -42,7 +53,7 @@ pub fn value(
     let x = word(w, a);
     let sort = kind(x);
     if sort == END {
-        return word(w, units + a) % UNITS * lifted(x, seat);
+        return ended(w, a, x, seat, units);
     }
     if sort != DECISION {
         return row(w, a + 1, next(x), seat, depth - 1, heads, units, kept);
@@ -51,6 +62,26 @@ pub fn value(
         return row(w, a + 1, next(x), seat, depth - 1, heads, units, kept);
     }
     own(w, a, x, seat, depth - 1, heads, units, kept)
+}
+
+// The same of a child: an end at once, without a call.
+fn below(
+    w: &mut [u64],
+    a: usize,
+    seat: usize,
+    depth: usize,
+    heads: usize,
+    units: usize,
+    kept: usize,
+) -> u64
+    requires { ⌜ Walkable a seat depth heads units kept ⌝ }
+    ensures { λ r. ⌜ Valued seat depth heads units kept a (now (w .entry)) (now (w .exit)) r ⌝ }
+{
+    let x = word(w, a);
+    if kind(x) == END {
+        return ended(w, a, x, seat, units);
+    }
+    value(w, a, seat, depth, heads, units, kept)
 }
 
 // The sum of the values of the trees between places a and end.
@@ -70,7 +101,7 @@ fn row(
     let mut sum = 0;
     let mut at = a;
     while at < end {
-        let one = value(w, at, seat, depth, heads, units, kept);
+        let one = below(w, at, seat, depth, heads, units, kept);
         sum = wrapping_add_u64(sum, one);
         let next = behind(w, at);
         if next <= at {
@@ -97,7 +128,7 @@ fn own(
 {
     let choice = choose(w, set(x), actions(x), seat, depth, heads, units, kept);
     let at = child(w, a, choice);
-    value(w, at, seat, depth, heads, units, kept)
+    below(w, at, seat, depth, heads, units, kept)
 }
 
 // The choice of the set whose first entry is given, with so many actions: the lowest with the greatest sum over its members.
@@ -149,7 +180,7 @@ fn total(
     let mut at = (word(w, heads + first) % 2097152) as usize;
     while 0 < at {
         let place = child(w, at, action);
-        let one = value(w, place, seat, depth, heads, units, kept);
+        let one = below(w, place, seat, depth, heads, units, kept);
         sum = wrapping_add_u64(sum, one);
         let next = later(word(w, at));
         if next <= at {

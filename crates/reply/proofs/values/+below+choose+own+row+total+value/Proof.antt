@@ -11,25 +11,28 @@ use Prim.Native.Nat.{_+_, _*_, _-_, _≤_}
 use borrow.Author.Needs.{needs}
 use Rattle.reply.proofs.Valuing as valuing
 use Rattle.reply.proofs.Choosing as choosing
+use Rattle.arena.proofs.payoffs.lifted.Reads as lifted-reads
 use Prim.Native.Nat.{ℕ, _<_}
 use borrow.Fn.Kinds.{In}
 use borrow.Fn.PlainCycle.{Measures, is, falls, and}
+use Rattle.reply.proofs.values.below.Reads as below
+use Rattle.reply.proofs.values.below.Kinds as below-kinds
+use Rattle.reply.proofs.values.+below+choose+own+row+total+value.Lts-below as below-lts
 use Rattle.reply.proofs.values.choose.Reads as choose
 use Rattle.reply.proofs.values.choose.Kinds as choose-kinds
-use Rattle.reply.proofs.values.+choose+own+row+total+value.Lts-choose as choose-lts
+use Rattle.reply.proofs.values.+below+choose+own+row+total+value.Lts-choose as choose-lts
 use Rattle.reply.proofs.values.own.Reads as own
 use Rattle.reply.proofs.values.own.Kinds as own-kinds
-use Rattle.reply.proofs.values.+choose+own+row+total+value.Lts-own as own-lts
+use Rattle.reply.proofs.values.+below+choose+own+row+total+value.Lts-own as own-lts
 use Rattle.reply.proofs.values.row.Reads as row
 use Rattle.reply.proofs.values.row.Kinds as row-kinds
-use Rattle.reply.proofs.values.+choose+own+row+total+value.Lts-row as row-lts
+use Rattle.reply.proofs.values.+below+choose+own+row+total+value.Lts-row as row-lts
 use Rattle.reply.proofs.values.total.Reads as total
 use Rattle.reply.proofs.values.total.Kinds as total-kinds
-use Rattle.reply.proofs.values.+choose+own+row+total+value.Lts-total as total-lts
+use Rattle.reply.proofs.values.+below+choose+own+row+total+value.Lts-total as total-lts
 use Rattle.reply.proofs.values.value.Reads as value
 use Rattle.reply.proofs.values.value.Kinds as value-kinds
-use Rattle.reply.proofs.values.+choose+own+row+total+value.Lts-value as value-lts
-use Rattle.arena.proofs.payoffs.lifted.Reads as lifted-reads
+use Rattle.reply.proofs.values.+below+choose+own+row+total+value.Lts-value as value-lts
 use Rattle.arena.proofs.walk.behind.Reads as behind-reads
 use Rattle.arena.proofs.words.actions.Reads as actions-reads
 use Rattle.arena.proofs.words.actor.Reads as actor-reads
@@ -42,24 +45,34 @@ use Rattle.arena.proofs.words.word.Reads as word-reads
 use Rattle.reply.proofs.pick.child.Reads as child-reads
 use Rattle.reply.proofs.pick.of_three.Reads as of-three-reads
 use Rattle.reply.proofs.pick.of_two.Reads as of-two-reads
+use Rattle.reply.proofs.values.ended.Reads as ended-reads
 use Rattle.std.proofs.num.wrapping_add_u64.Reads as wrapping-add-u64-reads
-use Rattle.reply.proofs.values.+choose+own+row+total+value.{statement}
-use Rattle.reply.proofs.values.+choose+own+row+total+value.Tie.{close}
+use Rattle.reply.proofs.values.+below+choose+own+row+total+value.{statement}
+use Rattle.reply.proofs.values.+below+choose+own+row+total+value.Tie.{close}
+
+abbrev μ-below : Measures 1 below-kinds.ps ℕ
+μ-below κs a = 5 * a .1 .1 .1 .0 + 1
 
 abbrev μ-choose : Measures 1 choose-kinds.ps ℕ
-μ-choose κs a = 4 * a .1 .1 .1 .1 .0 + 2
+μ-choose κs a = 5 * a .1 .1 .1 .1 .0 + 3
 
 abbrev μ-own : Measures 1 own-kinds.ps ℕ
-μ-own κs a = 4 * a .1 .1 .1 .1 .0 + 3
+μ-own κs a = 5 * a .1 .1 .1 .1 .0 + 4
 
 abbrev μ-row : Measures 1 row-kinds.ps ℕ
-μ-row κs a = 4 * a .1 .1 .1 .1 .0 + 1
+μ-row κs a = 5 * a .1 .1 .1 .1 .0 + 2
 
 abbrev μ-total : Measures 1 total-kinds.ps ℕ
-μ-total κs a = 4 * a .1 .1 .1 .1 .0 + 1
+μ-total κs a = 5 * a .1 .1 .1 .1 .0 + 2
 
 abbrev μ-value : Measures 1 value-kinds.ps ℕ
-μ-value κs a = 4 * a .1 .1 .1 .0
+μ-value κs a = 5 * a .1 .1 .1 .0
+
+abbrev below-at : ℕ → In 1 below-kinds.ps
+below-at t = and 1 below-kinds.ps (is 1 below-kinds.ps μ-below t) below.Pre
+
+abbrev below-below : ℕ → In 1 below-kinds.ps
+below-below t = and 1 below-kinds.ps (falls 1 below-kinds.ps _<_ μ-below t) below.Pre
 
 abbrev choose-at : ℕ → In 1 choose-kinds.ps
 choose-at t = and 1 choose-kinds.ps (is 1 choose-kinds.ps μ-choose t) choose.Pre
@@ -91,7 +104,111 @@ value-at t = and 1 value-kinds.ps (is 1 value-kinds.ps μ-value t) value.Pre
 abbrev value-below : ℕ → In 1 value-kinds.ps
 value-below t = and 1 value-kinds.ps (falls 1 value-kinds.ps _<_ μ-value t) value.Pre
 
--- src/values.rt:117:25
+-- src/values.rt:80:9
+below-word-requires : (t : ℕ) → below-lts.Need-word-requires (
+  word-reads.Asked,
+  word-reads.Learnt,
+  kind-reads.Asked,
+  kind-reads.Learnt,
+  ended-reads.Asked,
+  ended-reads.Learnt,
+  value-below t,
+  value.Post,
+) (below-at t) below.Post
+below-word-requires t c κs = search needs
+
+-- src/values.rt:81:8
+below-kind-requires : (t : ℕ) → below-lts.Need-kind-requires (
+  word-reads.Asked,
+  word-reads.Learnt,
+  kind-reads.Asked,
+  kind-reads.Learnt,
+  ended-reads.Asked,
+  ended-reads.Learnt,
+  value-below t,
+  value.Post,
+) (below-at t) below.Post
+below-kind-requires t c κs = search needs
+
+-- src/values.rt:82:9
+below-ended-requires : (t : ℕ) → below-lts.Need-ended-requires (
+  word-reads.Asked,
+  word-reads.Learnt,
+  kind-reads.Asked,
+  kind-reads.Learnt,
+  ended-reads.Asked,
+  ended-reads.Learnt,
+  value-below t,
+  value.Post,
+) (below-at t) below.Post
+below-ended-requires t c κs = (c .before .before .before .before .before .before .pre .1 .seat, omega (arith, c .before .before .before .before .before .before .pre .1 .place, c .before .before .before .before .before .before .pre .1 .units))
+
+-- src/values.rt:82:9
+below-same-length : (t : ℕ) → below-lts.Need-same-length (
+  word-reads.Asked,
+  word-reads.Learnt,
+  kind-reads.Asked,
+  kind-reads.Learnt,
+  ended-reads.Asked,
+  ended-reads.Learnt,
+  value-below t,
+  value.Post,
+) (below-at t) below.Post
+below-same-length t c = search needs
+
+-- src/values.rt:82:9
+below-returns : (t : ℕ) → below-lts.Need-returns (
+  word-reads.Asked,
+  word-reads.Learnt,
+  kind-reads.Asked,
+  kind-reads.Learnt,
+  ended-reads.Asked,
+  ended-reads.Learnt,
+  value-below t,
+  value.Post,
+) (below-at t) below.Post
+below-returns t c = valuing.value-ended (c .before .before .before .before .before .before .before .args .seat) (c .before .before .before .before .before .before .before .args .depth) (c .before .before .before .before .before .before .before .args .heads) (c .before .before .before .before .before .before .before .args .units) (c .before .before .before .before .before .before .before .args .kept) (c .before .before .before .before .before .before .before .args .a) (now (c .before .before .before .before .before .before .before .args .w)) (c .before .before .before .before .word .result) (c .before .before .before .before .word .ensures) _ (sym (c .before .before .before .kind .ensures) ∙ c .before .before .if1 .taken) (c .ended .ensures)
+
+-- src/values.rt:84:5
+below-value-requires : (t : ℕ) → below-lts.Need-value-requires (
+  word-reads.Asked,
+  word-reads.Learnt,
+  kind-reads.Asked,
+  kind-reads.Learnt,
+  ended-reads.Asked,
+  ended-reads.Learnt,
+  value-below t,
+  value.Post,
+) (below-at t) below.Post
+below-value-requires t c κs = (omega (arith, c .before .before .before .before .before .before .pre .0), c .before .before .before .before .before .before .pre .1)
+
+-- src/values.rt:68:1
+below-same-length-2 : (t : ℕ) → below-lts.Need-same-length-2 (
+  word-reads.Asked,
+  word-reads.Learnt,
+  kind-reads.Asked,
+  kind-reads.Learnt,
+  ended-reads.Asked,
+  ended-reads.Learnt,
+  value-below t,
+  value.Post,
+) (below-at t) below.Post
+below-same-length-2 t c = search needs
+
+-- src/values.rt:68:1
+below-returns-2 : (t : ℕ) → below-lts.Need-returns-2 (
+  word-reads.Asked,
+  word-reads.Learnt,
+  kind-reads.Asked,
+  kind-reads.Learnt,
+  ended-reads.Asked,
+  ended-reads.Learnt,
+  value-below t,
+  value.Post,
+) (below-at t) below.Post
+below-returns-2 t c = c .before .before .value .ensures
+
+-- src/values.rt:148:25
 choose-add-word : (t : ℕ) → choose-lts.Need-add-word (
   word-reads.Asked,
   word-reads.Learnt,
@@ -106,7 +223,7 @@ choose-add-word : (t : ℕ) → choose-lts.Need-add-word (
 ) (choose-at t) choose.Post
 choose-add-word t c = record { fits = omega (arith, c .before .before .pre .1 .kept, c .before .before .pre .1 .place) }
 
--- src/values.rt:117:9
+-- src/values.rt:148:9
 choose-word-requires : (t : ℕ) → choose-lts.Need-word-requires (
   word-reads.Asked,
   word-reads.Learnt,
@@ -121,7 +238,7 @@ choose-word-requires : (t : ℕ) → choose-lts.Need-word-requires (
 ) (choose-at t) choose.Post
 choose-word-requires t c κs = search needs
 
--- src/values.rt:119:16
+-- src/values.rt:150:16
 choose-sub-result : (t : ℕ) → choose-lts.Need-sub-result (
   word-reads.Asked,
   word-reads.Learnt,
@@ -136,7 +253,7 @@ choose-sub-result : (t : ℕ) → choose-lts.Need-sub-result (
 ) (choose-at t) choose.Post
 choose-sub-result t c = omega (arith, c .if1 .taken)
 
--- src/values.rt:119:9
+-- src/values.rt:150:9
 choose-same-length : (t : ℕ) → choose-lts.Need-same-length (
   word-reads.Asked,
   word-reads.Learnt,
@@ -151,7 +268,7 @@ choose-same-length : (t : ℕ) → choose-lts.Need-same-length (
 ) (choose-at t) choose.Post
 choose-same-length t c = search needs
 
--- src/values.rt:119:9
+-- src/values.rt:150:9
 choose-returns : (t : ℕ) → choose-lts.Need-returns (
   word-reads.Asked,
   word-reads.Learnt,
@@ -166,7 +283,7 @@ choose-returns : (t : ℕ) → choose-lts.Need-returns (
 ) (choose-at t) choose.Post
 choose-returns t c = choosing.chosen-known (c .before .before .before .before .args .seat) (c .before .before .before .before .args .depth) (c .before .before .before .before .args .heads) (c .before .before .before .before .args .units) (c .before .before .before .before .args .kept) (c .before .before .before .before .args .first) (c .before .before .before .before .args .count) (now (c .before .before .before .before .args .w)) (c .before .word .result) _ (c .before .word .ensures) (c .if1 .taken) refl
 
--- src/values.rt:121:9
+-- src/values.rt:152:9
 choose-total-requires : (t : ℕ) → choose-lts.Need-total-requires (
   word-reads.Asked,
   word-reads.Learnt,
@@ -181,7 +298,7 @@ choose-total-requires : (t : ℕ) → choose-lts.Need-total-requires (
 ) (choose-at t) choose.Post
 choose-total-requires t c κs = (omega (arith, c .before .before .before .before .before .pre .0), c .before .before .before .before .before .pre .1)
 
--- src/values.rt:122:9
+-- src/values.rt:153:9
 choose-total-requires-2 : (t : ℕ) → choose-lts.Need-total-requires-2 (
   word-reads.Asked,
   word-reads.Learnt,
@@ -196,7 +313,7 @@ choose-total-requires-2 : (t : ℕ) → choose-lts.Need-total-requires-2 (
 ) (choose-at t) choose.Post
 choose-total-requires-2 t c κs = (omega (arith, c .before .before .before .before .before .before .before .before .before .pre .0), c .before .before .before .before .before .before .before .before .before .pre .1)
 
--- src/values.rt:124:13
+-- src/values.rt:155:13
 choose-of-two-requires : (t : ℕ) → choose-lts.Need-of-two-requires (
   word-reads.Asked,
   word-reads.Learnt,
@@ -211,7 +328,7 @@ choose-of-two-requires : (t : ℕ) → choose-lts.Need-of-two-requires (
 ) (choose-at t) choose.Post
 choose-of-two-requires t c κs = search needs
 
--- src/values.rt:125:16
+-- src/values.rt:156:16
 choose-add-put : (t : ℕ) → choose-lts.Need-add-put (
   word-reads.Asked,
   word-reads.Learnt,
@@ -226,7 +343,7 @@ choose-add-put : (t : ℕ) → choose-lts.Need-add-put (
 ) (choose-at t) choose.Post
 choose-add-put t c = record { fits = omega (arith, c .before .before .before .before .before .before .before .before .before .before .before .before .before .before .before .pre .1 .kept, c .before .before .before .before .before .before .before .before .before .before .before .before .before .before .before .pre .1 .place) }
 
--- src/values.rt:125:30
+-- src/values.rt:156:30
 choose-add-put-2 : (t : ℕ) → choose-lts.Need-add-put-2 (
   word-reads.Asked,
   word-reads.Learnt,
@@ -241,7 +358,7 @@ choose-add-put-2 : (t : ℕ) → choose-lts.Need-add-put-2 (
 ) (choose-at t) choose.Post
 choose-add-put-2 t c = record { fits = omega (arith, valuing.two-few (c .before .before .before .before .before .before .before .before .before .total .result) (c .before .before .before .before .before .total2 .result), c .before .of-two .ensures) }
 
--- src/values.rt:125:9
+-- src/values.rt:156:9
 choose-put-requires : (t : ℕ) → choose-lts.Need-put-requires (
   word-reads.Asked,
   word-reads.Learnt,
@@ -256,7 +373,7 @@ choose-put-requires : (t : ℕ) → choose-lts.Need-put-requires (
 ) (choose-at t) choose.Post
 choose-put-requires t c κs = search needs
 
--- src/values.rt:126:9
+-- src/values.rt:157:9
 choose-same-length-2 : (t : ℕ) → choose-lts.Need-same-length-2 (
   word-reads.Asked,
   word-reads.Learnt,
@@ -271,7 +388,7 @@ choose-same-length-2 : (t : ℕ) → choose-lts.Need-same-length-2 (
 ) (choose-at t) choose.Post
 choose-same-length-2 t c = search needs
 
--- src/values.rt:126:9
+-- src/values.rt:157:9
 choose-returns-2 : (t : ℕ) → choose-lts.Need-returns-2 (
   word-reads.Asked,
   word-reads.Learnt,
@@ -286,7 +403,7 @@ choose-returns-2 : (t : ℕ) → choose-lts.Need-returns-2 (
 ) (choose-at t) choose.Post
 choose-returns-2 t c = choosing.chosen-two (c .before .before .before .before .before .before .before .before .before .before .before .before .before .before .before .before .before .before .args .seat) (c .before .before .before .before .before .before .before .before .before .before .before .before .before .before .before .before .before .before .args .depth) (c .before .before .before .before .before .before .before .before .before .before .before .before .before .before .before .before .before .before .args .heads) (c .before .before .before .before .before .before .before .before .before .before .before .before .before .before .before .before .before .before .args .units) (c .before .before .before .before .before .before .before .before .before .before .before .before .before .before .before .before .before .before .args .kept) (c .before .before .before .before .before .before .before .before .before .before .before .before .before .before .before .before .before .before .args .first) (c .before .before .before .before .before .before .before .before .before .before .before .before .before .before .before .before .before .before .args .count) (now (c .before .before .before .before .before .before .before .before .before .before .before .before .before .before .before .before .before .before .args .w)) (c .before .before .before .before .before .before .before .before .before .before .before .before .total .last .0) (c .before .before .before .before .before .before .before .before .total2 .last .0) (c .before .before .put .last .0) (c .before .before .before .before .before .before .before .before .before .before .before .before .total .result) (c .before .before .before .before .before .before .before .before .total2 .result) (c .before .before .before .before .of-two .result) (c .before .before .before .before .before .before .before .before .before .before .before .before .total .ensures) (c .before .before .before .before .before .before .before .before .total2 .ensures) (c .before .before .before .before .before .if2 .taken) (c .before .before .before .before .of-two .ensures) (c .before .before .put .ensures)
 
--- src/values.rt:128:9
+-- src/values.rt:159:9
 choose-total-requires-3 : (t : ℕ) → choose-lts.Need-total-requires-3 (
   word-reads.Asked,
   word-reads.Learnt,
@@ -301,7 +418,7 @@ choose-total-requires-3 : (t : ℕ) → choose-lts.Need-total-requires-3 (
 ) (choose-at t) choose.Post
 choose-total-requires-3 t c κs = (omega (arith, c .before .before .before .before .before .before .before .before .before .before .before .before .before .before .pre .0), c .before .before .before .before .before .before .before .before .before .before .before .before .before .before .pre .1)
 
--- src/values.rt:129:9
+-- src/values.rt:160:9
 choose-of-three-requires : (t : ℕ) → choose-lts.Need-of-three-requires (
   word-reads.Asked,
   word-reads.Learnt,
@@ -316,7 +433,7 @@ choose-of-three-requires : (t : ℕ) → choose-lts.Need-of-three-requires (
 ) (choose-at t) choose.Post
 choose-of-three-requires t c κs = search needs
 
--- src/values.rt:130:12
+-- src/values.rt:161:12
 choose-add-put-3 : (t : ℕ) → choose-lts.Need-add-put-3 (
   word-reads.Asked,
   word-reads.Learnt,
@@ -331,7 +448,7 @@ choose-add-put-3 : (t : ℕ) → choose-lts.Need-add-put-3 (
 ) (choose-at t) choose.Post
 choose-add-put-3 t c = record { fits = omega (arith, c .before .before .before .before .before .before .before .before .before .before .before .before .before .before .before .before .before .before .before .pre .1 .kept, c .before .before .before .before .before .before .before .before .before .before .before .before .before .before .before .before .before .before .before .pre .1 .place) }
 
--- src/values.rt:130:26
+-- src/values.rt:161:26
 choose-add-put-4 : (t : ℕ) → choose-lts.Need-add-put-4 (
   word-reads.Asked,
   word-reads.Learnt,
@@ -346,7 +463,7 @@ choose-add-put-4 : (t : ℕ) → choose-lts.Need-add-put-4 (
 ) (choose-at t) choose.Post
 choose-add-put-4 t c = record { fits = omega (arith, valuing.three-few (c .before .before .before .before .before .before .before .before .before .before .before .before .before .total .result) (c .before .before .before .before .before .before .before .before .before .total2 .result) (c .before .before .before .before .total3 .result), c .before .of-three .ensures) }
 
--- src/values.rt:130:5
+-- src/values.rt:161:5
 choose-put-requires-2 : (t : ℕ) → choose-lts.Need-put-requires-2 (
   word-reads.Asked,
   word-reads.Learnt,
@@ -361,7 +478,7 @@ choose-put-requires-2 : (t : ℕ) → choose-lts.Need-put-requires-2 (
 ) (choose-at t) choose.Post
 choose-put-requires-2 t c κs = search needs
 
--- src/values.rt:104:1
+-- src/values.rt:135:1
 choose-same-length-3 : (t : ℕ) → choose-lts.Need-same-length-3 (
   word-reads.Asked,
   word-reads.Learnt,
@@ -376,7 +493,7 @@ choose-same-length-3 : (t : ℕ) → choose-lts.Need-same-length-3 (
 ) (choose-at t) choose.Post
 choose-same-length-3 t c = search needs
 
--- src/values.rt:104:1
+-- src/values.rt:135:1
 choose-returns-3 : (t : ℕ) → choose-lts.Need-returns-3 (
   word-reads.Asked,
   word-reads.Learnt,
@@ -391,7 +508,7 @@ choose-returns-3 : (t : ℕ) → choose-lts.Need-returns-3 (
 ) (choose-at t) choose.Post
 choose-returns-3 t c = choosing.chosen-three (c .before .before .before .before .before .before .before .before .before .before .before .before .before .before .before .before .before .before .before .before .before .before .args .seat) (c .before .before .before .before .before .before .before .before .before .before .before .before .before .before .before .before .before .before .before .before .before .before .args .depth) (c .before .before .before .before .before .before .before .before .before .before .before .before .before .before .before .before .before .before .before .before .before .before .args .heads) (c .before .before .before .before .before .before .before .before .before .before .before .before .before .before .before .before .before .before .before .before .before .before .args .units) (c .before .before .before .before .before .before .before .before .before .before .before .before .before .before .before .before .before .before .before .before .before .before .args .kept) (c .before .before .before .before .before .before .before .before .before .before .before .before .before .before .before .before .before .before .before .before .before .before .args .first) (c .before .before .before .before .before .before .before .before .before .before .before .before .before .before .before .before .before .before .before .before .before .before .args .count) (now (c .before .before .before .before .before .before .before .before .before .before .before .before .before .before .before .before .before .before .before .before .before .before .args .w)) (c .before .before .before .before .before .before .before .before .before .before .before .before .before .before .before .before .total .last .0) (c .before .before .before .before .before .before .before .before .before .before .before .before .total2 .last .0) (c .before .before .before .before .before .before .before .total3 .last .0) (c .before .before .put2 .last .0) (c .before .before .before .before .before .before .before .before .before .before .before .before .before .before .before .before .total .result) (c .before .before .before .before .before .before .before .before .before .before .before .before .total2 .result) (c .before .before .before .before .before .before .before .total3 .result) (c .before .before .before .before .of-three .result) (c .before .before .before .before .before .before .before .before .before .before .before .before .before .before .before .before .total .ensures) (c .before .before .before .before .before .before .before .before .before .before .before .before .total2 .ensures) (c .before .before .before .before .before .before .before .total3 .ensures) (c .before .before .before .before .before .before .before .before .before .if2 .left) (c .before .before .before .before .of-three .ensures) (c .before .before .put2 .ensures)
 
--- src/values.rt:98:28
+-- src/values.rt:129:28
 own-set-requires : (t : ℕ) → own-lts.Need-set-requires (
   set-reads.Asked,
   set-reads.Learnt,
@@ -401,12 +518,12 @@ own-set-requires : (t : ℕ) → own-lts.Need-set-requires (
   choose.Post,
   child-reads.Asked,
   child-reads.Learnt,
-  value-below t,
-  value.Post,
+  below-below t,
+  below.Post,
 ) (own-at t) own.Post
 own-set-requires t c κs = search needs
 
--- src/values.rt:98:36
+-- src/values.rt:129:36
 own-actions-requires : (t : ℕ) → own-lts.Need-actions-requires (
   set-reads.Asked,
   set-reads.Learnt,
@@ -416,12 +533,12 @@ own-actions-requires : (t : ℕ) → own-lts.Need-actions-requires (
   choose.Post,
   child-reads.Asked,
   child-reads.Learnt,
-  value-below t,
-  value.Post,
+  below-below t,
+  below.Post,
 ) (own-at t) own.Post
 own-actions-requires t c κs = search needs
 
--- src/values.rt:98:9
+-- src/values.rt:129:9
 own-choose-requires : (t : ℕ) → own-lts.Need-choose-requires (
   set-reads.Asked,
   set-reads.Learnt,
@@ -431,12 +548,12 @@ own-choose-requires : (t : ℕ) → own-lts.Need-choose-requires (
   choose.Post,
   child-reads.Asked,
   child-reads.Learnt,
-  value-below t,
-  value.Post,
+  below-below t,
+  below.Post,
 ) (own-at t) own.Post
 own-choose-requires t c κs = (omega (arith, c .before .before .before .before .pre .0), valuing.walk-at (c .before .before .before .before .args .a + 1) (c .before .before .before .before .args .seat) (c .before .before .before .before .args .depth) (c .before .before .before .before .args .heads) (c .before .before .before .before .args .units) (c .before .before .before .before .args .kept) (c .before .before .before .before .pre .1) (c .before .set .result) (c .before .before .before .before .args .depth) (omega arith) (omega (arith, c .before .set .ensures, c .before .before .before .before .pre .1 .shallow)))
 
--- src/values.rt:99:9
+-- src/values.rt:130:9
 own-child-requires : (t : ℕ) → own-lts.Need-child-requires (
   set-reads.Asked,
   set-reads.Learnt,
@@ -446,13 +563,13 @@ own-child-requires : (t : ℕ) → own-lts.Need-child-requires (
   choose.Post,
   child-reads.Asked,
   child-reads.Learnt,
-  value-below t,
-  value.Post,
+  below-below t,
+  below.Post,
 ) (own-at t) own.Post
 own-child-requires t c κs = omega (arith, c .before .before .before .before .before .before .before .before .pre .1 .place)
 
--- src/values.rt:100:5
-own-value-requires : (t : ℕ) → own-lts.Need-value-requires (
+-- src/values.rt:131:5
+own-below-requires : (t : ℕ) → own-lts.Need-below-requires (
   set-reads.Asked,
   set-reads.Learnt,
   actions-reads.Asked,
@@ -461,12 +578,12 @@ own-value-requires : (t : ℕ) → own-lts.Need-value-requires (
   choose.Post,
   child-reads.Asked,
   child-reads.Learnt,
-  value-below t,
-  value.Post,
+  below-below t,
+  below.Post,
 ) (own-at t) own.Post
-own-value-requires t c κs = (omega (arith, c .before .before .before .before .before .before .before .before .before .before .pre .0), valuing.walk-at (c .before .before .before .before .before .before .before .before .before .before .args .a + 1) (c .before .before .before .before .before .before .before .before .before .before .args .seat) (c .before .before .before .before .before .before .before .before .before .before .args .depth) (c .before .before .before .before .before .before .before .before .before .before .args .heads) (c .before .before .before .before .before .before .before .before .before .before .args .units) (c .before .before .before .before .before .before .before .before .before .before .args .kept) (c .before .before .before .before .before .before .before .before .before .before .pre .1) (c .before .child .result) (c .before .before .before .before .before .before .before .before .before .before .args .depth) (omega arith) (omega (arith, c .before .child .ensures .near, c .before .before .before .before .before .before .before .before .before .before .pre .1 .shallow)))
+own-below-requires t c κs = (omega (arith, c .before .before .before .before .before .before .before .before .before .before .pre .0), valuing.walk-at (c .before .before .before .before .before .before .before .before .before .before .args .a + 1) (c .before .before .before .before .before .before .before .before .before .before .args .seat) (c .before .before .before .before .before .before .before .before .before .before .args .depth) (c .before .before .before .before .before .before .before .before .before .before .args .heads) (c .before .before .before .before .before .before .before .before .before .before .args .units) (c .before .before .before .before .before .before .before .before .before .before .args .kept) (c .before .before .before .before .before .before .before .before .before .before .pre .1) (c .before .child .result) (c .before .before .before .before .before .before .before .before .before .before .args .depth) (omega arith) (omega (arith, c .before .child .ensures .near, c .before .before .before .before .before .before .before .before .before .before .pre .1 .shallow)))
 
--- src/values.rt:85:1
+-- src/values.rt:116:1
 own-same-length : (t : ℕ) → own-lts.Need-same-length (
   set-reads.Asked,
   set-reads.Learnt,
@@ -476,12 +593,12 @@ own-same-length : (t : ℕ) → own-lts.Need-same-length (
   choose.Post,
   child-reads.Asked,
   child-reads.Learnt,
-  value-below t,
-  value.Post,
+  below-below t,
+  below.Post,
 ) (own-at t) own.Post
 own-same-length t c = search needs
 
--- src/values.rt:85:1
+-- src/values.rt:116:1
 own-returns : (t : ℕ) → own-lts.Need-returns (
   set-reads.Asked,
   set-reads.Learnt,
@@ -491,10 +608,10 @@ own-returns : (t : ℕ) → own-lts.Need-returns (
   choose.Post,
   child-reads.Asked,
   child-reads.Learnt,
-  value-below t,
-  value.Post,
+  below-below t,
+  below.Post,
 ) (own-at t) own.Post
-own-returns t c = valuing.own-is (c .before .before .before .before .before .before .before .before .before .before .before .before .before .args .seat) (c .before .before .before .before .before .before .before .before .before .before .before .before .before .args .depth) (c .before .before .before .before .before .before .before .before .before .before .before .before .before .args .heads) (c .before .before .before .before .before .before .before .before .before .before .before .before .before .args .units) (c .before .before .before .before .before .before .before .before .before .before .before .before .before .args .kept) (c .before .before .before .before .before .before .before .before .before .before .before .before .before .args .a) (c .before .before .before .before .before .before .before .before .before .before .before .before .before .args .x) (now (c .before .before .before .before .before .before .before .before .before .before .before .before .before .args .w)) (c .before .before .before .before .before .before .before .before .choose .last .0) (c .before .before .value .last .0) (c .before .before .before .before .before .before .before .before .choose .result) (c .before .before .before .before .child .result) (c .before .before .value .result) (subst (λ e. Chosen (c .before .before .before .before .before .before .before .before .before .before .before .before .before .args .seat) (c .before .before .before .before .before .before .before .before .before .before .before .before .before .args .depth) (c .before .before .before .before .before .before .before .before .before .before .before .before .before .args .heads) (c .before .before .before .before .before .before .before .before .before .before .before .before .before .args .units) (c .before .before .before .before .before .before .before .before .before .before .before .before .before .args .kept) e (actionsOf (c .before .before .before .before .before .before .before .before .before .before .before .before .before .args .x)) (now (c .before .before .before .before .before .before .before .before .before .before .before .before .before .args .w)) (c .before .before .before .before .before .before .before .before .choose .last .0) (c .before .before .before .before .before .before .before .before .choose .result)) (c .before .before .before .before .before .before .before .before .before .before .set .ensures) (subst (λ n. Chosen (c .before .before .before .before .before .before .before .before .before .before .before .before .before .args .seat) (c .before .before .before .before .before .before .before .before .before .before .before .before .before .args .depth) (c .before .before .before .before .before .before .before .before .before .before .before .before .before .args .heads) (c .before .before .before .before .before .before .before .before .before .before .before .before .before .args .units) (c .before .before .before .before .before .before .before .before .before .before .before .before .before .args .kept) (c .before .before .before .before .before .before .before .before .before .before .set .result) n (now (c .before .before .before .before .before .before .before .before .before .before .before .before .before .args .w)) (c .before .before .before .before .before .before .before .before .choose .last .0) (c .before .before .before .before .before .before .before .before .choose .result)) (c .before .before .before .before .before .before .before .before .before .actions .ensures) (c .before .before .before .before .before .before .before .before .choose .ensures))) (c .before .before .before .before .child .ensures) (c .before .before .value .ensures)
+own-returns t c = valuing.own-is (c .before .before .before .before .before .before .before .before .before .before .before .before .before .args .seat) (c .before .before .before .before .before .before .before .before .before .before .before .before .before .args .depth) (c .before .before .before .before .before .before .before .before .before .before .before .before .before .args .heads) (c .before .before .before .before .before .before .before .before .before .before .before .before .before .args .units) (c .before .before .before .before .before .before .before .before .before .before .before .before .before .args .kept) (c .before .before .before .before .before .before .before .before .before .before .before .before .before .args .a) (c .before .before .before .before .before .before .before .before .before .before .before .before .before .args .x) (now (c .before .before .before .before .before .before .before .before .before .before .before .before .before .args .w)) (c .before .before .before .before .before .before .before .before .choose .last .0) (c .before .before .below .last .0) (c .before .before .before .before .before .before .before .before .choose .result) (c .before .before .before .before .child .result) (c .before .before .below .result) (subst (λ e. Chosen (c .before .before .before .before .before .before .before .before .before .before .before .before .before .args .seat) (c .before .before .before .before .before .before .before .before .before .before .before .before .before .args .depth) (c .before .before .before .before .before .before .before .before .before .before .before .before .before .args .heads) (c .before .before .before .before .before .before .before .before .before .before .before .before .before .args .units) (c .before .before .before .before .before .before .before .before .before .before .before .before .before .args .kept) e (actionsOf (c .before .before .before .before .before .before .before .before .before .before .before .before .before .args .x)) (now (c .before .before .before .before .before .before .before .before .before .before .before .before .before .args .w)) (c .before .before .before .before .before .before .before .before .choose .last .0) (c .before .before .before .before .before .before .before .before .choose .result)) (c .before .before .before .before .before .before .before .before .before .before .set .ensures) (subst (λ n. Chosen (c .before .before .before .before .before .before .before .before .before .before .before .before .before .args .seat) (c .before .before .before .before .before .before .before .before .before .before .before .before .before .args .depth) (c .before .before .before .before .before .before .before .before .before .before .before .before .before .args .heads) (c .before .before .before .before .before .before .before .before .before .before .before .before .before .args .units) (c .before .before .before .before .before .before .before .before .before .before .before .before .before .args .kept) (c .before .before .before .before .before .before .before .before .before .before .set .result) n (now (c .before .before .before .before .before .before .before .before .before .before .before .before .before .args .w)) (c .before .before .before .before .before .before .before .before .choose .last .0) (c .before .before .before .before .before .before .before .before .choose .result)) (c .before .before .before .before .before .before .before .before .before .actions .ensures) (c .before .before .before .before .before .before .before .before .choose .ensures))) (c .before .before .before .before .child .ensures) (c .before .before .below .ensures)
 
 abbrev row-Inv-loop : row-lts.InvT-loop
 row-Inv-loop w₀ a end seat depth heads units kept sum₀ at₀ w sum at = valuing.Along seat depth heads units kept a end w₀ w at sum × (at + depth < 8388608) × (length w ≡ length w₀)
@@ -502,10 +619,10 @@ row-Inv-loop w₀ a end seat depth heads units kept sum₀ at₀ w sum at = valu
 abbrev row-μ-loop : row-lts.MeasureT-loop
 row-μ-loop w₀ a end seat depth heads units kept sum₀ at₀ w sum at = end - at
 
--- src/values.rt:72:5
+-- src/values.rt:103:5
 row-loop-holds : (t : ℕ) → row-lts.Need-loop-holds (
-  value-below t,
-  value.Post,
+  below-below t,
+  below.Post,
   wrapping-add-u64-reads.Asked,
   wrapping-add-u64-reads.Learnt,
   behind-reads.Asked,
@@ -513,21 +630,21 @@ row-loop-holds : (t : ℕ) → row-lts.Need-loop-holds (
 ) (row-at t) row.Post row-Inv-loop row-μ-loop
 row-loop-holds t c = (valuing.along-start (c .before .args .seat) (c .before .args .depth) (c .before .args .heads) (c .before .args .units) (c .before .args .kept) (c .before .args .a) (c .before .args .end) (now (c .before .args .w)), c .before .pre .1 .place, refl)
 
--- src/values.rt:73:13
-row-value-requires : (t : ℕ) → row-lts.Need-value-requires (
-  value-below t,
-  value.Post,
+-- src/values.rt:104:13
+row-below-requires : (t : ℕ) → row-lts.Need-below-requires (
+  below-below t,
+  below.Post,
   wrapping-add-u64-reads.Asked,
   wrapping-add-u64-reads.Learnt,
   behind-reads.Asked,
   behind-reads.Learnt,
 ) (row-at t) row.Post row-Inv-loop row-μ-loop
-row-value-requires t c κs = (omega (arith, c .before .before .before .before .pre .0), valuing.walk-at (c .before .before .before .before .args .a) (c .before .before .before .before .args .seat) (c .before .before .before .before .args .depth) (c .before .before .before .before .args .heads) (c .before .before .before .before .args .units) (c .before .before .before .before .args .kept) (c .before .before .before .before .pre .1) (c .before .before .loop .at) (c .before .before .before .before .args .depth) (omega arith) (c .before .before .loop .inv .1))
+row-below-requires t c κs = (omega (arith, c .before .before .before .before .pre .0), valuing.walk-at (c .before .before .before .before .args .a) (c .before .before .before .before .args .seat) (c .before .before .before .before .args .depth) (c .before .before .before .before .args .heads) (c .before .before .before .before .args .units) (c .before .before .before .before .args .kept) (c .before .before .before .before .pre .1) (c .before .before .loop .at) (c .before .before .before .before .args .depth) (omega arith) (c .before .before .loop .inv .1))
 
--- src/values.rt:74:9
+-- src/values.rt:105:9
 row-wrapping-add-u64-requires : (t : ℕ) → row-lts.Need-wrapping-add-u64-requires (
-  value-below t,
-  value.Post,
+  below-below t,
+  below.Post,
   wrapping-add-u64-reads.Asked,
   wrapping-add-u64-reads.Learnt,
   behind-reads.Asked,
@@ -535,10 +652,10 @@ row-wrapping-add-u64-requires : (t : ℕ) → row-lts.Need-wrapping-add-u64-requ
 ) (row-at t) row.Post row-Inv-loop row-μ-loop
 row-wrapping-add-u64-requires t c κs = search needs
 
--- src/values.rt:75:13
+-- src/values.rt:106:13
 row-behind-requires : (t : ℕ) → row-lts.Need-behind-requires (
-  value-below t,
-  value.Post,
+  below-below t,
+  below.Post,
   wrapping-add-u64-reads.Asked,
   wrapping-add-u64-reads.Learnt,
   behind-reads.Asked,
@@ -546,10 +663,10 @@ row-behind-requires : (t : ℕ) → row-lts.Need-behind-requires (
 ) (row-at t) row.Post row-Inv-loop row-μ-loop
 row-behind-requires t c κs = omega (arith, c .before .before .before .before .before .before .before .loop .inv .1)
 
--- src/values.rt:77:13
+-- src/values.rt:108:13
 row-same-length : (t : ℕ) → row-lts.Need-same-length (
-  value-below t,
-  value.Post,
+  below-below t,
+  below.Post,
   wrapping-add-u64-reads.Asked,
   wrapping-add-u64-reads.Learnt,
   behind-reads.Asked,
@@ -557,21 +674,21 @@ row-same-length : (t : ℕ) → row-lts.Need-same-length (
 ) (row-at t) row.Post row-Inv-loop row-μ-loop
 row-same-length t c = search needs
 
--- src/values.rt:77:13
+-- src/values.rt:108:13
 row-returns : (t : ℕ) → row-lts.Need-returns (
-  value-below t,
-  value.Post,
+  below-below t,
+  below.Post,
   wrapping-add-u64-reads.Asked,
   wrapping-add-u64-reads.Learnt,
   behind-reads.Asked,
   behind-reads.Learnt,
 ) (row-at t) row.Post row-Inv-loop row-μ-loop
-row-returns t c = valuing.along-stuck (c .before .before .before .before .before .before .before .before .before .before .before .args .seat) (c .before .before .before .before .before .before .before .before .before .before .before .args .depth) (c .before .before .before .before .before .before .before .before .before .before .before .args .heads) (c .before .before .before .before .before .before .before .before .before .before .before .args .units) (c .before .before .before .before .before .before .before .before .before .before .before .args .kept) (c .before .before .before .before .before .before .before .before .before .before .before .args .a) (c .before .before .before .before .before .before .before .before .before .before .before .args .end) (now (c .before .before .before .before .before .before .before .before .before .before .before .args .w)) (c .before .before .before .before .before .before .before .before .before .loop .w) (c .before .before .before .before .before .before .value .last .0) (c .before .before .before .before .before .before .before .before .before .loop .at) (c .before .before .before .before .before .before .before .before .before .loop .sum) (c .before .before .before .before .before .before .value .result) (c .before .before .before .wrapping-add-u64 .result) (c .before .behind .result) (c .before .before .before .before .before .before .before .before .before .loop .inv .0) (c .before .before .before .before .before .before .before .before .loop-test .taken) (c .before .before .before .before .before .before .value .ensures) (c .before .behind .ensures) (c .if1 .taken)
+row-returns t c = valuing.along-stuck (c .before .before .before .before .before .before .before .before .before .before .before .args .seat) (c .before .before .before .before .before .before .before .before .before .before .before .args .depth) (c .before .before .before .before .before .before .before .before .before .before .before .args .heads) (c .before .before .before .before .before .before .before .before .before .before .before .args .units) (c .before .before .before .before .before .before .before .before .before .before .before .args .kept) (c .before .before .before .before .before .before .before .before .before .before .before .args .a) (c .before .before .before .before .before .before .before .before .before .before .before .args .end) (now (c .before .before .before .before .before .before .before .before .before .before .before .args .w)) (c .before .before .before .before .before .before .before .before .before .loop .w) (c .before .before .before .before .before .before .below .last .0) (c .before .before .before .before .before .before .before .before .before .loop .at) (c .before .before .before .before .before .before .before .before .before .loop .sum) (c .before .before .before .before .before .before .below .result) (c .before .before .before .wrapping-add-u64 .result) (c .before .behind .result) (c .before .before .before .before .before .before .before .before .before .loop .inv .0) (c .before .before .before .before .before .before .before .before .loop-test .taken) (c .before .before .before .before .before .before .below .ensures) (c .before .behind .ensures) (c .if1 .taken)
 
--- src/values.rt:72:5
+-- src/values.rt:103:5
 row-loop-less : (t : ℕ) → row-lts.Need-loop-less (
-  value-below t,
-  value.Post,
+  below-below t,
+  below.Post,
   wrapping-add-u64-reads.Asked,
   wrapping-add-u64-reads.Learnt,
   behind-reads.Asked,
@@ -579,21 +696,21 @@ row-loop-less : (t : ℕ) → row-lts.Need-loop-less (
 ) (row-at t) row.Post row-Inv-loop row-μ-loop
 row-loop-less t c = omega (arith, c .before .before .before .before .before .before .before .before .loop-test .taken, c .if1 .left)
 
--- src/values.rt:72:5
+-- src/values.rt:103:5
 row-loop-again : (t : ℕ) → row-lts.Need-loop-again (
-  value-below t,
-  value.Post,
+  below-below t,
+  below.Post,
   wrapping-add-u64-reads.Asked,
   wrapping-add-u64-reads.Learnt,
   behind-reads.Asked,
   behind-reads.Learnt,
 ) (row-at t) row.Post row-Inv-loop row-μ-loop
-row-loop-again t c = (valuing.along-more (c .before .before .before .before .before .before .before .before .before .before .before .args .seat) (c .before .before .before .before .before .before .before .before .before .before .before .args .depth) (c .before .before .before .before .before .before .before .before .before .before .before .args .heads) (c .before .before .before .before .before .before .before .before .before .before .before .args .units) (c .before .before .before .before .before .before .before .before .before .before .before .args .kept) (c .before .before .before .before .before .before .before .before .before .before .before .args .a) (c .before .before .before .before .before .before .before .before .before .before .before .args .end) (now (c .before .before .before .before .before .before .before .before .before .before .before .args .w)) (c .before .before .before .before .before .before .before .before .before .loop .w) (c .before .before .before .before .before .before .value .last .0) (c .before .before .before .before .before .before .before .before .before .loop .at) (c .before .before .before .before .before .before .before .before .before .loop .sum) (c .before .before .before .before .before .before .value .result) (c .before .before .before .wrapping-add-u64 .result) (c .before .behind .result) (c .before .before .before .before .before .before .before .before .before .loop .inv .0) (c .before .before .before .before .before .before .before .before .loop-test .taken) (c .before .before .before .before .before .before .value .ensures) (c .before .before .before .wrapping-add-u64 .ensures) (c .before .behind .ensures), omega (arith, c .before .behind .ensures .near, c .before .before .before .before .before .before .before .before .before .before .before .pre .1 .shallow), omega (arith, c .before .before .before .before .before .before .value .kept .0, c .before .before .before .before .before .before .before .before .before .loop .inv .2))
+row-loop-again t c = (valuing.along-more (c .before .before .before .before .before .before .before .before .before .before .before .args .seat) (c .before .before .before .before .before .before .before .before .before .before .before .args .depth) (c .before .before .before .before .before .before .before .before .before .before .before .args .heads) (c .before .before .before .before .before .before .before .before .before .before .before .args .units) (c .before .before .before .before .before .before .before .before .before .before .before .args .kept) (c .before .before .before .before .before .before .before .before .before .before .before .args .a) (c .before .before .before .before .before .before .before .before .before .before .before .args .end) (now (c .before .before .before .before .before .before .before .before .before .before .before .args .w)) (c .before .before .before .before .before .before .before .before .before .loop .w) (c .before .before .before .before .before .before .below .last .0) (c .before .before .before .before .before .before .before .before .before .loop .at) (c .before .before .before .before .before .before .before .before .before .loop .sum) (c .before .before .before .before .before .before .below .result) (c .before .before .before .wrapping-add-u64 .result) (c .before .behind .result) (c .before .before .before .before .before .before .before .before .before .loop .inv .0) (c .before .before .before .before .before .before .before .before .loop-test .taken) (c .before .before .before .before .before .before .below .ensures) (c .before .before .before .wrapping-add-u64 .ensures) (c .before .behind .ensures), omega (arith, c .before .behind .ensures .near, c .before .before .before .before .before .before .before .before .before .before .before .pre .1 .shallow), omega (arith, c .before .before .before .before .before .before .below .kept .0, c .before .before .before .before .before .before .before .before .before .loop .inv .2))
 
--- src/values.rt:57:1
+-- src/values.rt:88:1
 row-same-length-2 : (t : ℕ) → row-lts.Need-same-length-2 (
-  value-below t,
-  value.Post,
+  below-below t,
+  below.Post,
   wrapping-add-u64-reads.Asked,
   wrapping-add-u64-reads.Learnt,
   behind-reads.Asked,
@@ -601,10 +718,10 @@ row-same-length-2 : (t : ℕ) → row-lts.Need-same-length-2 (
 ) (row-at t) row.Post row-Inv-loop row-μ-loop
 row-same-length-2 t c = search needs
 
--- src/values.rt:57:1
+-- src/values.rt:88:1
 row-returns-2 : (t : ℕ) → row-lts.Need-returns-2 (
-  value-below t,
-  value.Post,
+  below-below t,
+  below.Post,
   wrapping-add-u64-reads.Asked,
   wrapping-add-u64-reads.Learnt,
   behind-reads.Asked,
@@ -618,14 +735,14 @@ total-Inv-loop w₀ first action seat depth heads units kept sum₀ at₀ w sum 
 abbrev total-μ-loop : total-lts.MeasureT-loop
 total-μ-loop w₀ first action seat depth heads units kept sum₀ at₀ w sum at = 2097152 - at
 
--- src/values.rt:149:27
+-- src/values.rt:180:27
 total-add-word : (t : ℕ) → total-lts.Need-add-word (
   word-reads.Asked,
   word-reads.Learnt,
   child-reads.Asked,
   child-reads.Learnt,
-  value-below t,
-  value.Post,
+  below-below t,
+  below.Post,
   wrapping-add-u64-reads.Asked,
   wrapping-add-u64-reads.Learnt,
   later-reads.Asked,
@@ -633,14 +750,14 @@ total-add-word : (t : ℕ) → total-lts.Need-add-word (
 ) (total-at t) total.Post total-Inv-loop total-μ-loop
 total-add-word t c = record { fits = omega (arith, c .before .before .pre .1 .heads, c .before .before .pre .1 .place) }
 
--- src/values.rt:149:19
+-- src/values.rt:180:19
 total-word-requires : (t : ℕ) → total-lts.Need-word-requires (
   word-reads.Asked,
   word-reads.Learnt,
   child-reads.Asked,
   child-reads.Learnt,
-  value-below t,
-  value.Post,
+  below-below t,
+  below.Post,
   wrapping-add-u64-reads.Asked,
   wrapping-add-u64-reads.Learnt,
   later-reads.Asked,
@@ -648,14 +765,14 @@ total-word-requires : (t : ℕ) → total-lts.Need-word-requires (
 ) (total-at t) total.Post total-Inv-loop total-μ-loop
 total-word-requires t c κs = search needs
 
--- src/values.rt:150:5
+-- src/values.rt:181:5
 total-loop-holds : (t : ℕ) → total-lts.Need-loop-holds (
   word-reads.Asked,
   word-reads.Learnt,
   child-reads.Asked,
   child-reads.Learnt,
-  value-below t,
-  value.Post,
+  below-below t,
+  below.Post,
   wrapping-add-u64-reads.Asked,
   wrapping-add-u64-reads.Learnt,
   later-reads.Asked,
@@ -663,14 +780,14 @@ total-loop-holds : (t : ℕ) → total-lts.Need-loop-holds (
 ) (total-at t) total.Post total-Inv-loop total-μ-loop
 total-loop-holds t c = (choosing.summed-start (c .before .before .before .args .seat) (c .before .before .before .args .depth) (c .before .before .before .args .heads) (c .before .before .before .args .units) (c .before .before .before .args .kept) (c .before .before .before .args .first) (c .before .before .before .args .action) (now (c .before .before .before .args .w)) _ (ap (λ j. j % 2097152) (c .word .ensures)), omega arith, refl)
 
--- src/values.rt:151:13
+-- src/values.rt:182:13
 total-child-requires : (t : ℕ) → total-lts.Need-child-requires (
   word-reads.Asked,
   word-reads.Learnt,
   child-reads.Asked,
   child-reads.Learnt,
-  value-below t,
-  value.Post,
+  below-below t,
+  below.Post,
   wrapping-add-u64-reads.Asked,
   wrapping-add-u64-reads.Learnt,
   later-reads.Asked,
@@ -678,29 +795,29 @@ total-child-requires : (t : ℕ) → total-lts.Need-child-requires (
 ) (total-at t) total.Post total-Inv-loop total-μ-loop
 total-child-requires t c κs = omega (arith, c .before .before .loop .inv .1)
 
--- src/values.rt:152:13
-total-value-requires : (t : ℕ) → total-lts.Need-value-requires (
+-- src/values.rt:183:13
+total-below-requires : (t : ℕ) → total-lts.Need-below-requires (
   word-reads.Asked,
   word-reads.Learnt,
   child-reads.Asked,
   child-reads.Learnt,
-  value-below t,
-  value.Post,
+  below-below t,
+  below.Post,
   wrapping-add-u64-reads.Asked,
   wrapping-add-u64-reads.Learnt,
   later-reads.Asked,
   later-reads.Learnt,
 ) (total-at t) total.Post total-Inv-loop total-μ-loop
-total-value-requires t c κs = (omega (arith, c .before .before .before .before .before .before .before .before .pre .0), valuing.walk-at (c .before .before .before .before .before .before .before .before .args .first) (c .before .before .before .before .before .before .before .before .args .seat) (c .before .before .before .before .before .before .before .before .args .depth) (c .before .before .before .before .before .before .before .before .args .heads) (c .before .before .before .before .before .before .before .before .args .units) (c .before .before .before .before .before .before .before .before .args .kept) (c .before .before .before .before .before .before .before .before .pre .1) (c .before .child .result) (c .before .before .before .before .before .before .before .before .args .depth) (omega arith) (omega (arith, c .before .child .ensures .near, c .before .before .before .before .before .before .before .before .pre .1 .shallow)))
+total-below-requires t c κs = (omega (arith, c .before .before .before .before .before .before .before .before .pre .0), valuing.walk-at (c .before .before .before .before .before .before .before .before .args .first) (c .before .before .before .before .before .before .before .before .args .seat) (c .before .before .before .before .before .before .before .before .args .depth) (c .before .before .before .before .before .before .before .before .args .heads) (c .before .before .before .before .before .before .before .before .args .units) (c .before .before .before .before .before .before .before .before .args .kept) (c .before .before .before .before .before .before .before .before .pre .1) (c .before .child .result) (c .before .before .before .before .before .before .before .before .args .depth) (omega arith) (omega (arith, c .before .child .ensures .near, c .before .before .before .before .before .before .before .before .pre .1 .shallow)))
 
--- src/values.rt:153:9
+-- src/values.rt:184:9
 total-wrapping-add-u64-requires : (t : ℕ) → total-lts.Need-wrapping-add-u64-requires (
   word-reads.Asked,
   word-reads.Learnt,
   child-reads.Asked,
   child-reads.Learnt,
-  value-below t,
-  value.Post,
+  below-below t,
+  below.Post,
   wrapping-add-u64-reads.Asked,
   wrapping-add-u64-reads.Learnt,
   later-reads.Asked,
@@ -708,14 +825,14 @@ total-wrapping-add-u64-requires : (t : ℕ) → total-lts.Need-wrapping-add-u64-
 ) (total-at t) total.Post total-Inv-loop total-μ-loop
 total-wrapping-add-u64-requires t c κs = search needs
 
--- src/values.rt:154:26
+-- src/values.rt:185:26
 total-word-requires-2 : (t : ℕ) → total-lts.Need-word-requires-2 (
   word-reads.Asked,
   word-reads.Learnt,
   child-reads.Asked,
   child-reads.Learnt,
-  value-below t,
-  value.Post,
+  below-below t,
+  below.Post,
   wrapping-add-u64-reads.Asked,
   wrapping-add-u64-reads.Learnt,
   later-reads.Asked,
@@ -723,14 +840,14 @@ total-word-requires-2 : (t : ℕ) → total-lts.Need-word-requires-2 (
 ) (total-at t) total.Post total-Inv-loop total-μ-loop
 total-word-requires-2 t c κs = search needs
 
--- src/values.rt:154:13
+-- src/values.rt:185:13
 total-later-requires : (t : ℕ) → total-lts.Need-later-requires (
   word-reads.Asked,
   word-reads.Learnt,
   child-reads.Asked,
   child-reads.Learnt,
-  value-below t,
-  value.Post,
+  below-below t,
+  below.Post,
   wrapping-add-u64-reads.Asked,
   wrapping-add-u64-reads.Learnt,
   later-reads.Asked,
@@ -738,14 +855,14 @@ total-later-requires : (t : ℕ) → total-lts.Need-later-requires (
 ) (total-at t) total.Post total-Inv-loop total-μ-loop
 total-later-requires t c κs = search needs
 
--- src/values.rt:156:13
+-- src/values.rt:187:13
 total-same-length : (t : ℕ) → total-lts.Need-same-length (
   word-reads.Asked,
   word-reads.Learnt,
   child-reads.Asked,
   child-reads.Learnt,
-  value-below t,
-  value.Post,
+  below-below t,
+  below.Post,
   wrapping-add-u64-reads.Asked,
   wrapping-add-u64-reads.Learnt,
   later-reads.Asked,
@@ -753,29 +870,29 @@ total-same-length : (t : ℕ) → total-lts.Need-same-length (
 ) (total-at t) total.Post total-Inv-loop total-μ-loop
 total-same-length t c = search needs
 
--- src/values.rt:156:13
+-- src/values.rt:187:13
 total-returns : (t : ℕ) → total-lts.Need-returns (
   word-reads.Asked,
   word-reads.Learnt,
   child-reads.Asked,
   child-reads.Learnt,
-  value-below t,
-  value.Post,
+  below-below t,
+  below.Post,
   wrapping-add-u64-reads.Asked,
   wrapping-add-u64-reads.Learnt,
   later-reads.Asked,
   later-reads.Learnt,
 ) (total-at t) total.Post total-Inv-loop total-μ-loop
-total-returns t c = choosing.summed-stuck (c .before .before .before .before .before .before .before .before .before .before .before .before .before .before .before .before .args .seat) (c .before .before .before .before .before .before .before .before .before .before .before .before .before .before .before .before .args .depth) (c .before .before .before .before .before .before .before .before .before .before .before .before .before .before .before .before .args .heads) (c .before .before .before .before .before .before .before .before .before .before .before .before .before .before .before .before .args .units) (c .before .before .before .before .before .before .before .before .before .before .before .before .before .before .before .before .args .kept) (c .before .before .before .before .before .before .before .before .before .before .before .before .before .before .before .before .args .first) (c .before .before .before .before .before .before .before .before .before .before .before .before .before .before .before .before .args .action) (now (c .before .before .before .before .before .before .before .before .before .before .before .before .before .before .before .before .args .w)) (c .before .before .before .before .before .before .before .before .before .before .before .before .loop .w) (c .before .before .before .before .before .before .before .value .last .0) (c .before .before .before .before .before .before .before .before .before .before .before .before .loop .at) (c .before .before .before .before .before .before .before .before .before .before .before .before .loop .sum) (c .before .before .before .before .before .before .before .before .before .child .result) (c .before .before .before .before .before .before .before .value .result) (c .before .before .before .before .wrapping-add-u64 .result) (c .before .later .result) (c .before .before .before .before .before .before .before .before .before .before .before .before .loop .inv .0) (c .before .before .before .before .before .before .before .before .before .before .before .loop-test .taken) (c .before .before .before .before .before .before .before .before .before .child .ensures) (c .before .before .before .before .before .before .before .value .ensures) (c .before .before .before .before .wrapping-add-u64 .ensures) (c .before .later .ensures ∙ ap laterOf (c .before .before .word2 .ensures)) (c .if1 .taken)
+total-returns t c = choosing.summed-stuck (c .before .before .before .before .before .before .before .before .before .before .before .before .before .before .before .before .args .seat) (c .before .before .before .before .before .before .before .before .before .before .before .before .before .before .before .before .args .depth) (c .before .before .before .before .before .before .before .before .before .before .before .before .before .before .before .before .args .heads) (c .before .before .before .before .before .before .before .before .before .before .before .before .before .before .before .before .args .units) (c .before .before .before .before .before .before .before .before .before .before .before .before .before .before .before .before .args .kept) (c .before .before .before .before .before .before .before .before .before .before .before .before .before .before .before .before .args .first) (c .before .before .before .before .before .before .before .before .before .before .before .before .before .before .before .before .args .action) (now (c .before .before .before .before .before .before .before .before .before .before .before .before .before .before .before .before .args .w)) (c .before .before .before .before .before .before .before .before .before .before .before .before .loop .w) (c .before .before .before .before .before .before .before .below .last .0) (c .before .before .before .before .before .before .before .before .before .before .before .before .loop .at) (c .before .before .before .before .before .before .before .before .before .before .before .before .loop .sum) (c .before .before .before .before .before .before .before .before .before .child .result) (c .before .before .before .before .before .before .before .below .result) (c .before .before .before .before .wrapping-add-u64 .result) (c .before .later .result) (c .before .before .before .before .before .before .before .before .before .before .before .before .loop .inv .0) (c .before .before .before .before .before .before .before .before .before .before .before .loop-test .taken) (c .before .before .before .before .before .before .before .before .before .child .ensures) (c .before .before .before .before .before .before .before .below .ensures) (c .before .before .before .before .wrapping-add-u64 .ensures) (c .before .later .ensures ∙ ap laterOf (c .before .before .word2 .ensures)) (c .if1 .taken)
 
--- src/values.rt:150:5
+-- src/values.rt:181:5
 total-loop-less : (t : ℕ) → total-lts.Need-loop-less (
   word-reads.Asked,
   word-reads.Learnt,
   child-reads.Asked,
   child-reads.Learnt,
-  value-below t,
-  value.Post,
+  below-below t,
+  below.Post,
   wrapping-add-u64-reads.Asked,
   wrapping-add-u64-reads.Learnt,
   later-reads.Asked,
@@ -783,29 +900,29 @@ total-loop-less : (t : ℕ) → total-lts.Need-loop-less (
 ) (total-at t) total.Post total-Inv-loop total-μ-loop
 total-loop-less t c = omega (arith, c .if1 .left, c .before .before .before .before .before .before .before .before .before .before .before .before .loop .inv .1)
 
--- src/values.rt:150:5
+-- src/values.rt:181:5
 total-loop-again : (t : ℕ) → total-lts.Need-loop-again (
   word-reads.Asked,
   word-reads.Learnt,
   child-reads.Asked,
   child-reads.Learnt,
-  value-below t,
-  value.Post,
+  below-below t,
+  below.Post,
   wrapping-add-u64-reads.Asked,
   wrapping-add-u64-reads.Learnt,
   later-reads.Asked,
   later-reads.Learnt,
 ) (total-at t) total.Post total-Inv-loop total-μ-loop
-total-loop-again t c = (choosing.summed-more (c .before .before .before .before .before .before .before .before .before .before .before .before .before .before .before .before .args .seat) (c .before .before .before .before .before .before .before .before .before .before .before .before .before .before .before .before .args .depth) (c .before .before .before .before .before .before .before .before .before .before .before .before .before .before .before .before .args .heads) (c .before .before .before .before .before .before .before .before .before .before .before .before .before .before .before .before .args .units) (c .before .before .before .before .before .before .before .before .before .before .before .before .before .before .before .before .args .kept) (c .before .before .before .before .before .before .before .before .before .before .before .before .before .before .before .before .args .first) (c .before .before .before .before .before .before .before .before .before .before .before .before .before .before .before .before .args .action) (now (c .before .before .before .before .before .before .before .before .before .before .before .before .before .before .before .before .args .w)) (c .before .before .before .before .before .before .before .before .before .before .before .before .loop .w) (c .before .before .before .before .before .before .before .value .last .0) (c .before .before .before .before .before .before .before .before .before .before .before .before .loop .at) (c .before .before .before .before .before .before .before .before .before .before .before .before .loop .sum) (c .before .before .before .before .before .before .before .before .before .child .result) (c .before .before .before .before .before .before .before .value .result) (c .before .before .before .before .wrapping-add-u64 .result) (c .before .later .result) (c .before .before .before .before .before .before .before .before .before .before .before .before .loop .inv .0) (c .before .before .before .before .before .before .before .before .before .before .before .loop-test .taken) (c .before .before .before .before .before .before .before .before .before .child .ensures) (c .before .before .before .before .before .before .before .value .ensures) (c .before .before .before .before .wrapping-add-u64 .ensures) (c .before .later .ensures ∙ ap laterOf (c .before .before .word2 .ensures)), omega (arith, c .before .later .ensures), omega (arith, c .before .before .before .before .before .before .before .value .kept .0, c .before .before .before .before .before .before .before .before .before .before .before .before .loop .inv .2))
+total-loop-again t c = (choosing.summed-more (c .before .before .before .before .before .before .before .before .before .before .before .before .before .before .before .before .args .seat) (c .before .before .before .before .before .before .before .before .before .before .before .before .before .before .before .before .args .depth) (c .before .before .before .before .before .before .before .before .before .before .before .before .before .before .before .before .args .heads) (c .before .before .before .before .before .before .before .before .before .before .before .before .before .before .before .before .args .units) (c .before .before .before .before .before .before .before .before .before .before .before .before .before .before .before .before .args .kept) (c .before .before .before .before .before .before .before .before .before .before .before .before .before .before .before .before .args .first) (c .before .before .before .before .before .before .before .before .before .before .before .before .before .before .before .before .args .action) (now (c .before .before .before .before .before .before .before .before .before .before .before .before .before .before .before .before .args .w)) (c .before .before .before .before .before .before .before .before .before .before .before .before .loop .w) (c .before .before .before .before .before .before .before .below .last .0) (c .before .before .before .before .before .before .before .before .before .before .before .before .loop .at) (c .before .before .before .before .before .before .before .before .before .before .before .before .loop .sum) (c .before .before .before .before .before .before .before .before .before .child .result) (c .before .before .before .before .before .before .before .below .result) (c .before .before .before .before .wrapping-add-u64 .result) (c .before .later .result) (c .before .before .before .before .before .before .before .before .before .before .before .before .loop .inv .0) (c .before .before .before .before .before .before .before .before .before .before .before .loop-test .taken) (c .before .before .before .before .before .before .before .before .before .child .ensures) (c .before .before .before .before .before .before .before .below .ensures) (c .before .before .before .before .wrapping-add-u64 .ensures) (c .before .later .ensures ∙ ap laterOf (c .before .before .word2 .ensures)), omega (arith, c .before .later .ensures), omega (arith, c .before .before .before .before .before .before .before .below .kept .0, c .before .before .before .before .before .before .before .before .before .before .before .before .loop .inv .2))
 
--- src/values.rt:135:1
+-- src/values.rt:166:1
 total-same-length-2 : (t : ℕ) → total-lts.Need-same-length-2 (
   word-reads.Asked,
   word-reads.Learnt,
   child-reads.Asked,
   child-reads.Learnt,
-  value-below t,
-  value.Post,
+  below-below t,
+  below.Post,
   wrapping-add-u64-reads.Asked,
   wrapping-add-u64-reads.Learnt,
   later-reads.Asked,
@@ -813,14 +930,14 @@ total-same-length-2 : (t : ℕ) → total-lts.Need-same-length-2 (
 ) (total-at t) total.Post total-Inv-loop total-μ-loop
 total-same-length-2 t c = search needs
 
--- src/values.rt:135:1
+-- src/values.rt:166:1
 total-returns-2 : (t : ℕ) → total-lts.Need-returns-2 (
   word-reads.Asked,
   word-reads.Learnt,
   child-reads.Asked,
   child-reads.Learnt,
-  value-below t,
-  value.Post,
+  below-below t,
+  below.Post,
   wrapping-add-u64-reads.Asked,
   wrapping-add-u64-reads.Learnt,
   later-reads.Asked,
@@ -828,14 +945,14 @@ total-returns-2 : (t : ℕ) → total-lts.Need-returns-2 (
 ) (total-at t) total.Post total-Inv-loop total-μ-loop
 total-returns-2 t c = choosing.summed-end (c .before .before .before .before .before .args .seat) (c .before .before .before .before .before .args .depth) (c .before .before .before .before .before .args .heads) (c .before .before .before .before .before .args .units) (c .before .before .before .before .before .args .kept) (c .before .before .before .before .before .args .first) (c .before .before .before .before .before .args .action) (now (c .before .before .before .before .before .args .w)) (c .before .loop .w) (c .before .loop .at) (c .before .loop .sum) (c .before .loop .inv .0) (λ l. omega (arith, l, c .loop-test .left))
 
--- src/values.rt:40:9
+-- src/values.rt:51:9
 value-returns : (t : ℕ) → value-lts.Need-returns (
   word-reads.Asked,
   word-reads.Learnt,
   kind-reads.Asked,
   kind-reads.Learnt,
-  lifted-reads.Asked,
-  lifted-reads.Learnt,
+  ended-reads.Asked,
+  ended-reads.Learnt,
   next-reads.Asked,
   next-reads.Learnt,
   row-below t,
@@ -847,14 +964,14 @@ value-returns : (t : ℕ) → value-lts.Need-returns (
 ) (value-at t) value.Post
 value-returns t c = valuing.value-none (c .before .before .args .seat) (c .before .before .args .depth) (c .before .before .args .heads) (c .before .before .args .units) (c .before .before .args .kept) (c .before .before .args .a) (now (c .before .before .args .w)) 0 (c .if1 .taken)
 
--- src/values.rt:42:9
+-- src/values.rt:53:9
 value-word-requires : (t : ℕ) → value-lts.Need-word-requires (
   word-reads.Asked,
   word-reads.Learnt,
   kind-reads.Asked,
   kind-reads.Learnt,
-  lifted-reads.Asked,
-  lifted-reads.Learnt,
+  ended-reads.Asked,
+  ended-reads.Learnt,
   next-reads.Asked,
   next-reads.Learnt,
   row-below t,
@@ -866,14 +983,14 @@ value-word-requires : (t : ℕ) → value-lts.Need-word-requires (
 ) (value-at t) value.Post
 value-word-requires t c κs = search needs
 
--- src/values.rt:43:9
+-- src/values.rt:54:9
 value-kind-requires : (t : ℕ) → value-lts.Need-kind-requires (
   word-reads.Asked,
   word-reads.Learnt,
   kind-reads.Asked,
   kind-reads.Learnt,
-  lifted-reads.Asked,
-  lifted-reads.Learnt,
+  ended-reads.Asked,
+  ended-reads.Learnt,
   next-reads.Asked,
   next-reads.Learnt,
   row-below t,
@@ -885,14 +1002,14 @@ value-kind-requires : (t : ℕ) → value-lts.Need-kind-requires (
 ) (value-at t) value.Post
 value-kind-requires t c κs = search needs
 
--- src/values.rt:45:24
-value-add-word : (t : ℕ) → value-lts.Need-add-word (
+-- src/values.rt:56:9
+value-ended-requires : (t : ℕ) → value-lts.Need-ended-requires (
   word-reads.Asked,
   word-reads.Learnt,
   kind-reads.Asked,
   kind-reads.Learnt,
-  lifted-reads.Asked,
-  lifted-reads.Learnt,
+  ended-reads.Asked,
+  ended-reads.Learnt,
   next-reads.Asked,
   next-reads.Learnt,
   row-below t,
@@ -902,73 +1019,16 @@ value-add-word : (t : ℕ) → value-lts.Need-add-word (
   own-below t,
   own.Post,
 ) (value-at t) value.Post
-value-add-word t c = record { fits = omega (arith, c .before .before .before .before .before .before .before .pre .1 .units, c .before .before .before .before .before .before .before .pre .1 .place) }
+value-ended-requires t c κs = (c .before .before .before .before .before .before .before .pre .1 .seat, omega (arith, c .before .before .before .before .before .before .before .pre .1 .place, c .before .before .before .before .before .before .before .pre .1 .units))
 
--- src/values.rt:45:16
-value-word-requires-2 : (t : ℕ) → value-lts.Need-word-requires-2 (
-  word-reads.Asked,
-  word-reads.Learnt,
-  kind-reads.Asked,
-  kind-reads.Learnt,
-  lifted-reads.Asked,
-  lifted-reads.Learnt,
-  next-reads.Asked,
-  next-reads.Learnt,
-  row-below t,
-  row.Post,
-  actor-reads.Asked,
-  actor-reads.Learnt,
-  own-below t,
-  own.Post,
-) (value-at t) value.Post
-value-word-requires-2 t c κs = search needs
-
--- src/values.rt:45:45
-value-lifted-requires : (t : ℕ) → value-lts.Need-lifted-requires (
-  word-reads.Asked,
-  word-reads.Learnt,
-  kind-reads.Asked,
-  kind-reads.Learnt,
-  lifted-reads.Asked,
-  lifted-reads.Learnt,
-  next-reads.Asked,
-  next-reads.Learnt,
-  row-below t,
-  row.Post,
-  actor-reads.Asked,
-  actor-reads.Learnt,
-  own-below t,
-  own.Post,
-) (value-at t) value.Post
-value-lifted-requires t c κs = c .before .before .before .before .before .before .before .before .pre .1 .seat
-
--- src/values.rt:45:16
-value-mul-result : (t : ℕ) → value-lts.Need-mul-result (
-  word-reads.Asked,
-  word-reads.Learnt,
-  kind-reads.Asked,
-  kind-reads.Learnt,
-  lifted-reads.Asked,
-  lifted-reads.Learnt,
-  next-reads.Asked,
-  next-reads.Learnt,
-  row-below t,
-  row.Post,
-  actor-reads.Asked,
-  actor-reads.Learnt,
-  own-below t,
-  own.Post,
-) (value-at t) value.Post
-value-mul-result t c = times-fits _ _ (omega arith) (c .lifted .ensures .1)
-
--- src/values.rt:45:9
+-- src/values.rt:56:9
 value-same-length : (t : ℕ) → value-lts.Need-same-length (
   word-reads.Asked,
   word-reads.Learnt,
   kind-reads.Asked,
   kind-reads.Learnt,
-  lifted-reads.Asked,
-  lifted-reads.Learnt,
+  ended-reads.Asked,
+  ended-reads.Learnt,
   next-reads.Asked,
   next-reads.Learnt,
   row-below t,
@@ -980,14 +1040,14 @@ value-same-length : (t : ℕ) → value-lts.Need-same-length (
 ) (value-at t) value.Post
 value-same-length t c = search needs
 
--- src/values.rt:45:9
+-- src/values.rt:56:9
 value-returns-2 : (t : ℕ) → value-lts.Need-returns-2 (
   word-reads.Asked,
   word-reads.Learnt,
   kind-reads.Asked,
   kind-reads.Learnt,
-  lifted-reads.Asked,
-  lifted-reads.Learnt,
+  ended-reads.Asked,
+  ended-reads.Learnt,
   next-reads.Asked,
   next-reads.Learnt,
   row-below t,
@@ -997,16 +1057,16 @@ value-returns-2 : (t : ℕ) → value-lts.Need-returns-2 (
   own-below t,
   own.Post,
 ) (value-at t) value.Post
-value-returns-2 t c = valuing.value-end (c .before .before .before .before .before .before .before .before .before .args .seat) (c .before .before .before .before .before .before .before .before .before .args .depth) (c .before .before .before .before .before .before .before .before .before .args .heads) (c .before .before .before .before .before .before .before .before .before .args .units) (c .before .before .before .before .before .before .before .before .before .args .kept) (c .before .before .before .before .before .before .before .before .before .args .a) (now (c .before .before .before .before .before .before .before .before .before .args .w)) (c .before .before .before .before .before .word .result) (c .before .before .before .before .before .word .ensures) (c .before .word2 .result) (c .lifted .result) _ (sym (c .before .before .before .before .kind .ensures) ∙ c .before .before .before .if2 .taken) (c .before .word2 .ensures) (c .lifted .ensures) refl
+value-returns-2 t c = valuing.value-ended (c .before .before .before .before .before .before .before .before .args .seat) (c .before .before .before .before .before .before .before .before .args .depth) (c .before .before .before .before .before .before .before .before .args .heads) (c .before .before .before .before .before .before .before .before .args .units) (c .before .before .before .before .before .before .before .before .args .kept) (c .before .before .before .before .before .before .before .before .args .a) (now (c .before .before .before .before .before .before .before .before .args .w)) (c .before .before .before .before .word .result) (c .before .before .before .before .word .ensures) _ (sym (c .before .before .before .kind .ensures) ∙ c .before .before .if2 .taken) (c .ended .ensures)
 
--- src/values.rt:48:23
+-- src/values.rt:59:23
 value-add-row : (t : ℕ) → value-lts.Need-add-row (
   word-reads.Asked,
   word-reads.Learnt,
   kind-reads.Asked,
   kind-reads.Learnt,
-  lifted-reads.Asked,
-  lifted-reads.Learnt,
+  ended-reads.Asked,
+  ended-reads.Learnt,
   next-reads.Asked,
   next-reads.Learnt,
   row-below t,
@@ -1018,14 +1078,14 @@ value-add-row : (t : ℕ) → value-lts.Need-add-row (
 ) (value-at t) value.Post
 value-add-row t c = record { fits = omega (arith, c .before .before .before .before .before .before .before .before .pre .1 .place) }
 
--- src/values.rt:48:30
+-- src/values.rt:59:30
 value-next-requires : (t : ℕ) → value-lts.Need-next-requires (
   word-reads.Asked,
   word-reads.Learnt,
   kind-reads.Asked,
   kind-reads.Learnt,
-  lifted-reads.Asked,
-  lifted-reads.Learnt,
+  ended-reads.Asked,
+  ended-reads.Learnt,
   next-reads.Asked,
   next-reads.Learnt,
   row-below t,
@@ -1037,14 +1097,14 @@ value-next-requires : (t : ℕ) → value-lts.Need-next-requires (
 ) (value-at t) value.Post
 value-next-requires t c κs = search needs
 
--- src/values.rt:48:45
+-- src/values.rt:59:45
 value-sub-row : (t : ℕ) → value-lts.Need-sub-row (
   word-reads.Asked,
   word-reads.Learnt,
   kind-reads.Asked,
   kind-reads.Learnt,
-  lifted-reads.Asked,
-  lifted-reads.Learnt,
+  ended-reads.Asked,
+  ended-reads.Learnt,
   next-reads.Asked,
   next-reads.Learnt,
   row-below t,
@@ -1056,14 +1116,14 @@ value-sub-row : (t : ℕ) → value-lts.Need-sub-row (
 ) (value-at t) value.Post
 value-sub-row t c = omega (arith, c .before .before .before .before .before .before .before .if1 .left)
 
--- src/values.rt:48:9
+-- src/values.rt:59:9
 value-row-requires : (t : ℕ) → value-lts.Need-row-requires (
   word-reads.Asked,
   word-reads.Learnt,
   kind-reads.Asked,
   kind-reads.Learnt,
-  lifted-reads.Asked,
-  lifted-reads.Learnt,
+  ended-reads.Asked,
+  ended-reads.Learnt,
   next-reads.Asked,
   next-reads.Learnt,
   row-below t,
@@ -1075,14 +1135,14 @@ value-row-requires : (t : ℕ) → value-lts.Need-row-requires (
 ) (value-at t) value.Post
 value-row-requires t c κs = (omega (arith, c .before .before .before .before .before .before .before .before .before .pre .0, c .before .before .before .before .before .before .before .if1 .left), valuing.walk-at (c .before .before .before .before .before .before .before .before .before .args .a) (c .before .before .before .before .before .before .before .before .before .args .seat) (c .before .before .before .before .before .before .before .before .before .args .depth) (c .before .before .before .before .before .before .before .before .before .args .heads) (c .before .before .before .before .before .before .before .before .before .args .units) (c .before .before .before .before .before .before .before .before .before .args .kept) (c .before .before .before .before .before .before .before .before .before .pre .1) (c .before .before .before .before .before .before .before .before .before .args .a + 1) (c .before .before .before .before .before .before .before .before .before .args .depth - 1) (omega arith) (omega (arith, c .before .before .before .before .before .before .before .before .before .pre .1 .place, c .before .before .before .before .before .before .before .if1 .left)))
 
--- src/values.rt:48:9
+-- src/values.rt:59:9
 value-same-length-2 : (t : ℕ) → value-lts.Need-same-length-2 (
   word-reads.Asked,
   word-reads.Learnt,
   kind-reads.Asked,
   kind-reads.Learnt,
-  lifted-reads.Asked,
-  lifted-reads.Learnt,
+  ended-reads.Asked,
+  ended-reads.Learnt,
   next-reads.Asked,
   next-reads.Learnt,
   row-below t,
@@ -1094,14 +1154,14 @@ value-same-length-2 : (t : ℕ) → value-lts.Need-same-length-2 (
 ) (value-at t) value.Post
 value-same-length-2 t c = search needs
 
--- src/values.rt:48:9
+-- src/values.rt:59:9
 value-returns-3 : (t : ℕ) → value-lts.Need-returns-3 (
   word-reads.Asked,
   word-reads.Learnt,
   kind-reads.Asked,
   kind-reads.Learnt,
-  lifted-reads.Asked,
-  lifted-reads.Learnt,
+  ended-reads.Asked,
+  ended-reads.Learnt,
   next-reads.Asked,
   next-reads.Learnt,
   row-below t,
@@ -1113,14 +1173,14 @@ value-returns-3 : (t : ℕ) → value-lts.Need-returns-3 (
 ) (value-at t) value.Post
 value-returns-3 t c = valuing.value-chance (c .before .before .before .before .before .before .before .before .before .before .before .before .args .seat) (c .before .before .before .before .before .before .before .before .before .before .before .before .args .depth) (c .before .before .before .before .before .before .before .before .before .before .before .before .args .heads) (c .before .before .before .before .before .before .before .before .before .before .before .before .args .units) (c .before .before .before .before .before .before .before .before .before .before .before .before .args .kept) (c .before .before .before .before .before .before .before .before .before .before .before .before .args .a) (now (c .before .before .before .before .before .before .before .before .before .before .before .before .args .w)) (c .before .before .before .before .before .before .before .before .word .result) (c .before .before .before .before .before .before .before .before .word .ensures) (c .before .before .row .last .0) (c .before .before .row .result) (λ q. c .before .before .before .before .before .before .if2 .left (c .before .before .before .before .before .before .before .kind .ensures ∙ q)) (λ q. c .before .before .before .before .before .if3 .taken (c .before .before .before .before .before .before .before .kind .ensures ∙ q)) (subst (λ z. ValuedAll (c .before .before .before .before .before .before .before .before .before .before .before .before .args .seat) (c .before .before .before .before .before .before .before .before .before .before .before .before .args .depth - 1) (c .before .before .before .before .before .before .before .before .before .before .before .before .args .heads) (c .before .before .before .before .before .before .before .before .before .before .before .before .args .units) (c .before .before .before .before .before .before .before .before .before .before .before .before .args .kept) (c .before .before .before .before .before .before .before .before .before .before .before .before .args .a + 1) z (now (c .before .before .before .before .before .before .before .before .before .before .before .before .args .w)) (c .before .before .row .last .0) (c .before .before .row .result)) (c .before .before .before .next .ensures) (c .before .before .row .ensures))
 
--- src/values.rt:50:8
+-- src/values.rt:61:8
 value-actor-requires : (t : ℕ) → value-lts.Need-actor-requires (
   word-reads.Asked,
   word-reads.Learnt,
   kind-reads.Asked,
   kind-reads.Learnt,
-  lifted-reads.Asked,
-  lifted-reads.Learnt,
+  ended-reads.Asked,
+  ended-reads.Learnt,
   next-reads.Asked,
   next-reads.Learnt,
   row-below t,
@@ -1132,14 +1192,14 @@ value-actor-requires : (t : ℕ) → value-lts.Need-actor-requires (
 ) (value-at t) value.Post
 value-actor-requires t c κs = search needs
 
--- src/values.rt:51:23
+-- src/values.rt:62:23
 value-add-row-2 : (t : ℕ) → value-lts.Need-add-row-2 (
   word-reads.Asked,
   word-reads.Learnt,
   kind-reads.Asked,
   kind-reads.Learnt,
-  lifted-reads.Asked,
-  lifted-reads.Learnt,
+  ended-reads.Asked,
+  ended-reads.Learnt,
   next-reads.Asked,
   next-reads.Learnt,
   row-below t,
@@ -1151,14 +1211,14 @@ value-add-row-2 : (t : ℕ) → value-lts.Need-add-row-2 (
 ) (value-at t) value.Post
 value-add-row-2 t c = record { fits = omega (arith, c .before .before .before .before .before .before .before .before .before .before .pre .1 .place) }
 
--- src/values.rt:51:30
+-- src/values.rt:62:30
 value-next-requires-2 : (t : ℕ) → value-lts.Need-next-requires-2 (
   word-reads.Asked,
   word-reads.Learnt,
   kind-reads.Asked,
   kind-reads.Learnt,
-  lifted-reads.Asked,
-  lifted-reads.Learnt,
+  ended-reads.Asked,
+  ended-reads.Learnt,
   next-reads.Asked,
   next-reads.Learnt,
   row-below t,
@@ -1170,14 +1230,14 @@ value-next-requires-2 : (t : ℕ) → value-lts.Need-next-requires-2 (
 ) (value-at t) value.Post
 value-next-requires-2 t c κs = search needs
 
--- src/values.rt:51:45
+-- src/values.rt:62:45
 value-sub-row-2 : (t : ℕ) → value-lts.Need-sub-row-2 (
   word-reads.Asked,
   word-reads.Learnt,
   kind-reads.Asked,
   kind-reads.Learnt,
-  lifted-reads.Asked,
-  lifted-reads.Learnt,
+  ended-reads.Asked,
+  ended-reads.Learnt,
   next-reads.Asked,
   next-reads.Learnt,
   row-below t,
@@ -1189,14 +1249,14 @@ value-sub-row-2 : (t : ℕ) → value-lts.Need-sub-row-2 (
 ) (value-at t) value.Post
 value-sub-row-2 t c = omega (arith, c .before .before .before .before .before .before .before .before .before .if1 .left)
 
--- src/values.rt:51:9
+-- src/values.rt:62:9
 value-row-requires-2 : (t : ℕ) → value-lts.Need-row-requires-2 (
   word-reads.Asked,
   word-reads.Learnt,
   kind-reads.Asked,
   kind-reads.Learnt,
-  lifted-reads.Asked,
-  lifted-reads.Learnt,
+  ended-reads.Asked,
+  ended-reads.Learnt,
   next-reads.Asked,
   next-reads.Learnt,
   row-below t,
@@ -1208,14 +1268,14 @@ value-row-requires-2 : (t : ℕ) → value-lts.Need-row-requires-2 (
 ) (value-at t) value.Post
 value-row-requires-2 t c κs = (omega (arith, c .before .before .before .before .before .before .before .before .before .before .before .pre .0, c .before .before .before .before .before .before .before .before .before .if1 .left), valuing.walk-at (c .before .before .before .before .before .before .before .before .before .before .before .args .a) (c .before .before .before .before .before .before .before .before .before .before .before .args .seat) (c .before .before .before .before .before .before .before .before .before .before .before .args .depth) (c .before .before .before .before .before .before .before .before .before .before .before .args .heads) (c .before .before .before .before .before .before .before .before .before .before .before .args .units) (c .before .before .before .before .before .before .before .before .before .before .before .args .kept) (c .before .before .before .before .before .before .before .before .before .before .before .pre .1) (c .before .before .before .before .before .before .before .before .before .before .before .args .a + 1) (c .before .before .before .before .before .before .before .before .before .before .before .args .depth - 1) (omega arith) (omega (arith, c .before .before .before .before .before .before .before .before .before .before .before .pre .1 .place, c .before .before .before .before .before .before .before .before .before .if1 .left)))
 
--- src/values.rt:51:9
+-- src/values.rt:62:9
 value-same-length-3 : (t : ℕ) → value-lts.Need-same-length-3 (
   word-reads.Asked,
   word-reads.Learnt,
   kind-reads.Asked,
   kind-reads.Learnt,
-  lifted-reads.Asked,
-  lifted-reads.Learnt,
+  ended-reads.Asked,
+  ended-reads.Learnt,
   next-reads.Asked,
   next-reads.Learnt,
   row-below t,
@@ -1227,14 +1287,14 @@ value-same-length-3 : (t : ℕ) → value-lts.Need-same-length-3 (
 ) (value-at t) value.Post
 value-same-length-3 t c = search needs
 
--- src/values.rt:51:9
+-- src/values.rt:62:9
 value-returns-4 : (t : ℕ) → value-lts.Need-returns-4 (
   word-reads.Asked,
   word-reads.Learnt,
   kind-reads.Asked,
   kind-reads.Learnt,
-  lifted-reads.Asked,
-  lifted-reads.Learnt,
+  ended-reads.Asked,
+  ended-reads.Learnt,
   next-reads.Asked,
   next-reads.Learnt,
   row-below t,
@@ -1246,14 +1306,14 @@ value-returns-4 : (t : ℕ) → value-lts.Need-returns-4 (
 ) (value-at t) value.Post
 value-returns-4 t c = valuing.value-other (c .before .before .before .before .before .before .before .before .before .before .before .before .before .before .args .seat) (c .before .before .before .before .before .before .before .before .before .before .before .before .before .before .args .depth) (c .before .before .before .before .before .before .before .before .before .before .before .before .before .before .args .heads) (c .before .before .before .before .before .before .before .before .before .before .before .before .before .before .args .units) (c .before .before .before .before .before .before .before .before .before .before .before .before .before .before .args .kept) (c .before .before .before .before .before .before .before .before .before .before .before .before .before .before .args .a) (now (c .before .before .before .before .before .before .before .before .before .before .before .before .before .before .args .w)) (c .before .before .before .before .before .before .before .before .before .before .word .result) (c .before .before .before .before .before .before .before .before .before .before .word .ensures) (c .before .before .row2 .last .0) (c .before .before .row2 .result) (sym (c .before .before .before .before .before .before .before .before .before .kind .ensures) ∙ c .before .before .before .before .before .before .before .if3 .left) (λ q. c .before .before .before .before .before .if4 .taken (c .before .before .before .before .before .before .actor .ensures ∙ q)) (subst (λ z. ValuedAll (c .before .before .before .before .before .before .before .before .before .before .before .before .before .before .args .seat) (c .before .before .before .before .before .before .before .before .before .before .before .before .before .before .args .depth - 1) (c .before .before .before .before .before .before .before .before .before .before .before .before .before .before .args .heads) (c .before .before .before .before .before .before .before .before .before .before .before .before .before .before .args .units) (c .before .before .before .before .before .before .before .before .before .before .before .before .before .before .args .kept) (c .before .before .before .before .before .before .before .before .before .before .before .before .before .before .args .a + 1) z (now (c .before .before .before .before .before .before .before .before .before .before .before .before .before .before .args .w)) (c .before .before .row2 .last .0) (c .before .before .row2 .result)) (c .before .before .before .next2 .ensures) (c .before .before .row2 .ensures))
 
--- src/values.rt:53:24
+-- src/values.rt:64:24
 value-sub-own : (t : ℕ) → value-lts.Need-sub-own (
   word-reads.Asked,
   word-reads.Learnt,
   kind-reads.Asked,
   kind-reads.Learnt,
-  lifted-reads.Asked,
-  lifted-reads.Learnt,
+  ended-reads.Asked,
+  ended-reads.Learnt,
   next-reads.Asked,
   next-reads.Learnt,
   row-below t,
@@ -1265,14 +1325,14 @@ value-sub-own : (t : ℕ) → value-lts.Need-sub-own (
 ) (value-at t) value.Post
 value-sub-own t c = omega (arith, c .before .before .before .before .before .before .before .before .if1 .left)
 
--- src/values.rt:53:5
+-- src/values.rt:64:5
 value-own-requires : (t : ℕ) → value-lts.Need-own-requires (
   word-reads.Asked,
   word-reads.Learnt,
   kind-reads.Asked,
   kind-reads.Learnt,
-  lifted-reads.Asked,
-  lifted-reads.Learnt,
+  ended-reads.Asked,
+  ended-reads.Learnt,
   next-reads.Asked,
   next-reads.Learnt,
   row-below t,
@@ -1284,14 +1344,14 @@ value-own-requires : (t : ℕ) → value-lts.Need-own-requires (
 ) (value-at t) value.Post
 value-own-requires t c κs = (omega (arith, c .before .before .before .before .before .before .before .before .before .before .pre .0, c .before .before .before .before .before .before .before .before .if1 .left), valuing.walk-at (c .before .before .before .before .before .before .before .before .before .before .args .a) (c .before .before .before .before .before .before .before .before .before .before .args .seat) (c .before .before .before .before .before .before .before .before .before .before .args .depth) (c .before .before .before .before .before .before .before .before .before .before .args .heads) (c .before .before .before .before .before .before .before .before .before .before .args .units) (c .before .before .before .before .before .before .before .before .before .before .args .kept) (c .before .before .before .before .before .before .before .before .before .before .pre .1) (c .before .before .before .before .before .before .before .before .before .before .args .a + 1) (c .before .before .before .before .before .before .before .before .before .before .args .depth - 1) (omega arith) (omega (arith, c .before .before .before .before .before .before .before .before .before .before .pre .1 .place, c .before .before .before .before .before .before .before .before .if1 .left)))
 
--- src/values.rt:27:1
+-- src/values.rt:38:1
 value-same-length-4 : (t : ℕ) → value-lts.Need-same-length-4 (
   word-reads.Asked,
   word-reads.Learnt,
   kind-reads.Asked,
   kind-reads.Learnt,
-  lifted-reads.Asked,
-  lifted-reads.Learnt,
+  ended-reads.Asked,
+  ended-reads.Learnt,
   next-reads.Asked,
   next-reads.Learnt,
   row-below t,
@@ -1303,14 +1363,14 @@ value-same-length-4 : (t : ℕ) → value-lts.Need-same-length-4 (
 ) (value-at t) value.Post
 value-same-length-4 t c = search needs
 
--- src/values.rt:27:1
+-- src/values.rt:38:1
 value-returns-5 : (t : ℕ) → value-lts.Need-returns-5 (
   word-reads.Asked,
   word-reads.Learnt,
   kind-reads.Asked,
   kind-reads.Learnt,
-  lifted-reads.Asked,
-  lifted-reads.Learnt,
+  ended-reads.Asked,
+  ended-reads.Learnt,
   next-reads.Asked,
   next-reads.Learnt,
   row-below t,
@@ -1322,9 +1382,29 @@ value-returns-5 : (t : ℕ) → value-lts.Need-returns-5 (
 ) (value-at t) value.Post
 value-returns-5 t c = valuing.value-own (c .before .before .before .before .before .before .before .before .before .before .before .before .before .args .seat) (c .before .before .before .before .before .before .before .before .before .before .before .before .before .args .depth) (c .before .before .before .before .before .before .before .before .before .before .before .before .before .args .heads) (c .before .before .before .before .before .before .before .before .before .before .before .before .before .args .units) (c .before .before .before .before .before .before .before .before .before .before .before .before .before .args .kept) (c .before .before .before .before .before .before .before .before .before .before .before .before .before .args .a) (now (c .before .before .before .before .before .before .before .before .before .before .before .before .before .args .w)) (c .before .before .before .before .before .before .before .before .before .word .result) (c .before .before .before .before .before .before .before .before .before .word .ensures) (c .before .before .own .last .0) (c .before .before .own .result) (sym (c .before .before .before .before .before .before .before .before .kind .ensures) ∙ c .before .before .before .before .before .before .if3 .left) (sym (c .before .before .before .before .before .actor .ensures) ∙ c .before .before .before .before .if4 .left) (c .before .before .own .ensures)
 
-pub +choose+own+row+total+value-spec : {M : Type 1} → statement M
-+choose+own+row+total+value-spec =
-    close μ-choose μ-own μ-row μ-total μ-value (λ t. choose-lts.spec (
+pub +below+choose+own+row+total+value-spec : {M : Type 1} → statement M
++below+choose+own+row+total+value-spec =
+    close μ-below μ-choose μ-own μ-row μ-total μ-value (λ t. below-lts.spec (
+      word-reads.Asked,
+      word-reads.Learnt,
+      kind-reads.Asked,
+      kind-reads.Learnt,
+      ended-reads.Asked,
+      ended-reads.Learnt,
+      value-below t,
+      value.Post,
+    )
+    (below-at t)
+    below.Post
+    (below-word-requires t)
+    (below-kind-requires t)
+    (below-ended-requires t)
+    (below-same-length t)
+    (below-returns t)
+    (below-value-requires t)
+    (below-same-length-2 t)
+    (below-returns-2 t))
+    (λ t. choose-lts.spec (
       word-reads.Asked,
       word-reads.Learnt,
       total-below t,
@@ -1367,8 +1447,8 @@ pub +choose+own+row+total+value-spec : {M : Type 1} → statement M
       choose.Post,
       child-reads.Asked,
       child-reads.Learnt,
-      value-below t,
-      value.Post,
+      below-below t,
+      below.Post,
     )
     (own-at t)
     own.Post
@@ -1376,12 +1456,12 @@ pub +choose+own+row+total+value-spec : {M : Type 1} → statement M
     (own-actions-requires t)
     (own-choose-requires t)
     (own-child-requires t)
-    (own-value-requires t)
+    (own-below-requires t)
     (own-same-length t)
     (own-returns t))
     (λ t. row-lts.spec (
-      value-below t,
-      value.Post,
+      below-below t,
+      below.Post,
       wrapping-add-u64-reads.Asked,
       wrapping-add-u64-reads.Learnt,
       behind-reads.Asked,
@@ -1392,7 +1472,7 @@ pub +choose+own+row+total+value-spec : {M : Type 1} → statement M
     row-Inv-loop
     row-μ-loop
     (row-loop-holds t)
-    (row-value-requires t)
+    (row-below-requires t)
     (row-wrapping-add-u64-requires t)
     (row-behind-requires t)
     (row-same-length t)
@@ -1406,8 +1486,8 @@ pub +choose+own+row+total+value-spec : {M : Type 1} → statement M
       word-reads.Learnt,
       child-reads.Asked,
       child-reads.Learnt,
-      value-below t,
-      value.Post,
+      below-below t,
+      below.Post,
       wrapping-add-u64-reads.Asked,
       wrapping-add-u64-reads.Learnt,
       later-reads.Asked,
@@ -1421,7 +1501,7 @@ pub +choose+own+row+total+value-spec : {M : Type 1} → statement M
     (total-word-requires t)
     (total-loop-holds t)
     (total-child-requires t)
-    (total-value-requires t)
+    (total-below-requires t)
     (total-wrapping-add-u64-requires t)
     (total-word-requires-2 t)
     (total-later-requires t)
@@ -1436,8 +1516,8 @@ pub +choose+own+row+total+value-spec : {M : Type 1} → statement M
       word-reads.Learnt,
       kind-reads.Asked,
       kind-reads.Learnt,
-      lifted-reads.Asked,
-      lifted-reads.Learnt,
+      ended-reads.Asked,
+      ended-reads.Learnt,
       next-reads.Asked,
       next-reads.Learnt,
       row-below t,
@@ -1452,10 +1532,7 @@ pub +choose+own+row+total+value-spec : {M : Type 1} → statement M
     (value-returns t)
     (value-word-requires t)
     (value-kind-requires t)
-    (value-add-word t)
-    (value-word-requires-2 t)
-    (value-lifted-requires t)
-    (value-mul-result t)
+    (value-ended-requires t)
     (value-same-length t)
     (value-returns-2 t)
     (value-add-row t)
