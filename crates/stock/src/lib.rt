@@ -160,10 +160,11 @@ fn divide(
     requires { ⌜ Storable a u d units depth × (first ≤ end) × (end ≤ length (now table)) ⌝ }
     ensures { λ _. ⌜ CollectedAll (Shared (now (table .entry)) d first end u) (now (table .entry)) d seat units a depth (now (w .entry)) (now (w .exit)) ⌝ }
 {
+    let each = u / d as u64;
     let mut at = a;
     let mut action = 0;
     while action < end - first {
-        let part = share(&table[first..end], action, u, d);
+        let part = share(&table[first..end], action, u, d, each);
         one(w, table, at, part, seat, d, units, depth);
         at = behind(w, at);
         action += 1;

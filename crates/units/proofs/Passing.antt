@@ -1,5 +1,5 @@
 -- What a walk passes on: units, and a set's own part of the table. Assumes nothing.
-use mathlib.Core.Path.{_≡_, _∙_}
+use mathlib.Core.Path.{_≡_, sym, ap, _∙_}
 use mathlib.Core.List.{List}
 use Prim.Native.Nat.{ℕ, _+_, _-_, _*_, _/_, _^_, _≤_, _<_}
 use native.Mathlib.Nat as NatL
@@ -35,3 +35,15 @@ module _ (table : List ℕ) (e z : ℕ) (h : e ≤ z) (g : z ≤ length table) w
 
   pub part-shares : (c u v D : ℕ) → c < z - e → (getD (take (z - e) (drop e table)) c 0 ≤ D → v ≡ u * getD (take (z - e) (drop e table)) c 0 / D) → getD table (e + c) 0 ≤ D → v ≡ u * getD table (e + c) 0 / D
   part-shares c u v D l q = rw (getD-take (z - e) (drop e table) c 0 l ∙ getD-drop e table c 0) at q
+
+-- ---- units that divide evenly
+-- p parts of d of u units, where u is d times q
+pub even-share : (u q p d : ℕ) → 1 ≤ d → q * d ≡ u → q * p ≡ u * p / d
+even-share u q p d l e = sym (ap (λ x. x * p / d) (sym e ∙ NatL.mul-comm q d) ∙ ap (λ x. x / d) (NatL.mul-assoc d q p) ∙ NatL.mul-div-cancel-left (q * p) l)
+
+-- a quotient times its divisor is no more than the dividend
+pub even-few : (u q d : ℕ) → u < 144115188075855872 → q ≡ u / d → q * d ≤ u
+even-few u q d h e = rw e (NatL.div-mul-le-self u d)
+
+pub even-part : (u q p d : ℕ) → u < 144115188075855872 → p ≤ d → q * d ≡ u → q * p < 144115188075855872
+even-part u q p d h l e = let m : q * p ≤ q * d = NatL.mul-le-mul-left {m = p} {n = d} q l in omega arith

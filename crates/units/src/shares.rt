@@ -11,15 +11,19 @@ fn wide(x: u8) -> u64
     x as u64
 }
 
-// Of u units, what goes on to action a of the set whose own part of a table with d parts in each set is given.
-pub fn share(part: &[u8], a: usize, u: u64, d: usize) -> u64
-    requires { ⌜ (a < length (now part)) × (u < 144115188075855872) × (1 ≤ d) × (d ≤ 64) ⌝ }
+// Of u units, what goes on to action a of the set whose own part of a table with d parts in each set is given; each is u / d, so that units which divide
+// evenly are divided once for all actions.
+pub fn share(part: &[u8], a: usize, u: u64, d: usize, each: u64) -> u64
+    requires { ⌜ (a < length (now part)) × (u < 144115188075855872) × (1 ≤ d) × (d ≤ 64) × (each ≡ u / d) ⌝ }
     ensures { λ r. ⌜ (r < 144115188075855872) × (getD (now (part .entry)) a 0 ≤ d → r ≡ u * getD (now (part .entry)) a 0 / d) ⌝ }
 {
     let parts = wide(part[a]);
     let whole = d as u64;
     if whole < parts {
         return 0;
+    }
+    if each * whole == u {
+        return each * parts;
     }
     decision_share(u, parts, whole)
 }

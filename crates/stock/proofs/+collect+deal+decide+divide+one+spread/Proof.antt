@@ -1,5 +1,6 @@
 use Prim.Native.Nat.{ℕ, _+_, _-_, _*_, _≤_, _<_}
 use denote.Ref.{now}
+use mathlib.Core.Path.{refl}
 use mathlib.Core.Path.{_≡_, sym, _∙_}
 use native.Mathlib.Omega.{arith}
 use borrow.Author.Needs.{needs}
@@ -672,12 +673,23 @@ decide-returns-3 : (t : ℕ) → decide-lts.Need-returns-3 (
 decide-returns-3 t c = storing.decide-other _ _ (c .before .before .before .before .before .before .before .before .before .before .before .args .seat) _ _ _ _ _ _ _ _ _ (λ q. c .before .before .before .before .before .before .before .if1 .left (c .before .before .before .before .before .before .before .before .actor .ensures ∙ q)) (c .before .before .before .before .before .before .set .ensures) (c .before .before .before .before .before .actions .ensures) (c .before .before .divide .ensures)
 
 abbrev divide-Inv-loop : divide-lts.InvT-loop
-divide-Inv-loop w₀ table a first end u seat d units depth at₀ action₀ w at action = storing.SoFar table d seat units a depth w₀ (Shared table d first end u) (λ y. y ≡ action) at w × Storable at u d units depth × (action ≤ end - first)
+divide-Inv-loop w₀ table a first end u seat d units depth each at₀ action₀ w at action = storing.SoFar table d seat units a depth w₀ (Shared table d first end u) (λ y. y ≡ action) at w × Storable at u d units depth × (action ≤ end - first)
 
 abbrev divide-μ-loop : divide-lts.MeasureT-loop
-divide-μ-loop w₀ table a first end u seat d units depth at₀ action₀ w at action = end - first - action
+divide-μ-loop w₀ table a first end u seat d units depth each at₀ action₀ w at action = end - first - action
 
--- src/lib.rt:165:5
+-- src/lib.rt:163:16
+divide-div-each : (t : ℕ) → divide-lts.Need-div-each (
+  share-reads.Asked,
+  share-reads.Learnt,
+  one-below t,
+  one.Post,
+  behind-reads.Asked,
+  behind-reads.Learnt,
+) (divide-at t) divide.Post divide-Inv-loop divide-μ-loop
+divide-div-each t c = omega (arith, c .before .before .pre .1 .0 .walk .least)
+
+-- src/lib.rt:166:5
 divide-loop-holds : (t : ℕ) → divide-lts.Need-loop-holds (
   share-reads.Asked,
   share-reads.Learnt,
@@ -688,7 +700,7 @@ divide-loop-holds : (t : ℕ) → divide-lts.Need-loop-holds (
 ) (divide-at t) divide.Post divide-Inv-loop divide-μ-loop
 divide-loop-holds t c = (storing.shared-start _ _ _ _ _ _ _ _ _ _, c .before .before .pre .1 .0, omega arith)
 
--- src/lib.rt:165:20
+-- src/lib.rt:166:20
 divide-sub-loop : (t : ℕ) → divide-lts.Need-sub-loop (
   share-reads.Asked,
   share-reads.Learnt,
@@ -699,7 +711,7 @@ divide-sub-loop : (t : ℕ) → divide-lts.Need-sub-loop (
 ) (divide-at t) divide.Post divide-Inv-loop divide-μ-loop
 divide-sub-loop t c = c .before .before .before .pre .1 .1
 
--- src/lib.rt:166:26
+-- src/lib.rt:167:26
 divide-sub-share : (t : ℕ) → divide-lts.Need-sub-share (
   share-reads.Asked,
   share-reads.Learnt,
@@ -710,7 +722,7 @@ divide-sub-share : (t : ℕ) → divide-lts.Need-sub-share (
 ) (divide-at t) divide.Post divide-Inv-loop divide-μ-loop
 divide-sub-share t c = c .before .before .before .before .pre .1 .1
 
--- src/lib.rt:166:26
+-- src/lib.rt:167:26
 divide-part-share-start : (t : ℕ) → divide-lts.Need-part-share-start (
   share-reads.Asked,
   share-reads.Learnt,
@@ -721,7 +733,7 @@ divide-part-share-start : (t : ℕ) → divide-lts.Need-part-share-start (
 ) (divide-at t) divide.Post divide-Inv-loop divide-μ-loop
 divide-part-share-start t c = search needs
 
--- src/lib.rt:166:26
+-- src/lib.rt:167:26
 divide-part-share-end : (t : ℕ) → divide-lts.Need-part-share-end (
   share-reads.Asked,
   share-reads.Learnt,
@@ -732,7 +744,7 @@ divide-part-share-end : (t : ℕ) → divide-lts.Need-part-share-end (
 ) (divide-at t) divide.Post divide-Inv-loop divide-μ-loop
 divide-part-share-end t c = search needs
 
--- src/lib.rt:166:13
+-- src/lib.rt:167:13
 divide-share-requires : (t : ℕ) → divide-lts.Need-share-requires (
   share-reads.Asked,
   share-reads.Learnt,
@@ -741,9 +753,9 @@ divide-share-requires : (t : ℕ) → divide-lts.Need-share-requires (
   behind-reads.Asked,
   behind-reads.Learnt,
 ) (divide-at t) divide.Post divide-Inv-loop divide-μ-loop
-divide-share-requires t c κs = (rw (passing.part-length (now (c .before .before .before .before .before .args .table)) (c .before .before .before .before .before .args .first) (c .before .before .before .before .before .args .end) (c .before .before .before .before .before .pre .1 .1) (c .before .before .before .before .before .pre .1 .2)) (c .before .loop-test .taken), c .before .before .before .before .before .pre .1 .0 .walk .units, c .before .before .before .before .before .pre .1 .0 .walk .least, c .before .before .before .before .before .pre .1 .0 .walk .most)
+divide-share-requires t c κs = (rw (passing.part-length (now (c .before .before .before .before .before .args .table)) (c .before .before .before .before .before .args .first) (c .before .before .before .before .before .args .end) (c .before .before .before .before .before .pre .1 .1) (c .before .before .before .before .before .pre .1 .2)) (c .before .loop-test .taken), c .before .before .before .before .before .pre .1 .0 .walk .units, c .before .before .before .before .before .pre .1 .0 .walk .least, c .before .before .before .before .before .pre .1 .0 .walk .most, refl)
 
--- src/lib.rt:167:9
+-- src/lib.rt:168:9
 divide-one-requires : (t : ℕ) → divide-lts.Need-one-requires (
   share-reads.Asked,
   share-reads.Learnt,
@@ -754,7 +766,7 @@ divide-one-requires : (t : ℕ) → divide-lts.Need-one-requires (
 ) (divide-at t) divide.Post divide-Inv-loop divide-μ-loop
 divide-one-requires t c κs = (omega (arith, c .before .before .before .before .before .before .before .pre .0), storing.store-here _ _ _ _ _ _ (c .before .before .before .before .loop .inv .1) (c .before .share .ensures .0))
 
--- src/lib.rt:168:9
+-- src/lib.rt:169:9
 divide-behind-requires : (t : ℕ) → divide-lts.Need-behind-requires (
   share-reads.Asked,
   share-reads.Learnt,
@@ -765,7 +777,7 @@ divide-behind-requires : (t : ℕ) → divide-lts.Need-behind-requires (
 ) (divide-at t) divide.Post divide-Inv-loop divide-μ-loop
 divide-behind-requires t c κs = omega (arith, c .before .before .before .before .before .before .before .before .loop .inv .1 .walk .place)
 
--- src/lib.rt:169:9
+-- src/lib.rt:170:9
 divide-add-action : (t : ℕ) → divide-lts.Need-add-action (
   share-reads.Asked,
   share-reads.Learnt,
@@ -776,7 +788,7 @@ divide-add-action : (t : ℕ) → divide-lts.Need-add-action (
 ) (divide-at t) divide.Post divide-Inv-loop divide-μ-loop
 divide-add-action t c = record { fits = omega (arith, c .before .before .before .before .before .before .before .before .loop-test .taken) }
 
--- src/lib.rt:165:5
+-- src/lib.rt:166:5
 divide-loop-less : (t : ℕ) → divide-lts.Need-loop-less (
   share-reads.Asked,
   share-reads.Learnt,
@@ -787,7 +799,7 @@ divide-loop-less : (t : ℕ) → divide-lts.Need-loop-less (
 ) (divide-at t) divide.Post divide-Inv-loop divide-μ-loop
 divide-loop-less t c = omega (arith, c .before .before .before .before .before .before .before .before .loop-test .taken)
 
--- src/lib.rt:165:5
+-- src/lib.rt:166:5
 divide-loop-again : (t : ℕ) → divide-lts.Need-loop-again (
   share-reads.Asked,
   share-reads.Learnt,
@@ -1114,6 +1126,7 @@ pub +collect+deal+decide+divide+one+spread-spec : {M : Type 1} → statement M
     divide.Post
     divide-Inv-loop
     divide-μ-loop
+    (divide-div-each t)
     (divide-loop-holds t)
     (divide-sub-loop t)
     (divide-sub-share t)
