@@ -8,11 +8,11 @@ use native.Mathlib.Omega.{arith}
 use lib.Dec.{eqb, ltb}
 use lib.ListN.{length, getD, set, take, drop, length-set, length-drop}
 use lib.Seq.{length-take-le, take-suc-set, take-set-le, drop-set-lt, drop-set-add, getD-take}
-use borrow.Author.Tests.{eq-eqb, eqb-true, le-leb, ltb-true, ltb-false}
+use borrow.Author.Tests.{eq-eqb, ne-eqb, eqb-true, le-leb, ltb-true, ltb-false}
 use Rattle.finite.specs.Finite.{and, or}
 use Rattle.finite.proofs.Tests.{Tested, holds, fails, tested, true≢false, both, neither, and-right, or-cases}
 use Rattle.arena.specs.Words.{decisionWord}
-use Rattle.leduc_betting.specs.Betting.{closes, in-play, turn}
+use Rattle.leduc_betting.specs.Betting.{closes, in-play, turn, may}
 use Rattle.leduc_betting.proofs.Rounds.{open-short}
 use Rattle.leduc_rules.specs.Rules.{public-due, live, legal, shown-public}
 use Rattle.leduc_rules.specs.Rules as Rules
@@ -161,3 +161,8 @@ module _ (s : LeducState) (k : ℕ) (m : Moving s k) (x : ℕ) where
           after q (going-on (with-second s x) (there q) w (u .0) (u .1) (omega (arith, room-left s k m e)) (omega (arith, both-dealt s k m e)) (m .going .pair) (length-set (s .history) (4 + s .acted2) x ∙ m .going .places))
       at (fails e) l (fails c) = let q : movedState s x ≡ with-first s x = rw (e, c) refl in
           after q (going-on (with-first s x) (there q) w (u .0) (omega (arith, first-room s k m e c)) (u .2) (omega (arith, both-dealt s k m e)) (m .going .pair) (length-set (s .history) (s .acted1) x ∙ m .going .places))
+
+-- there is no action above RAISE
+pub no-action : (h : List ℕ) (a : ℕ) → 2 < a → false ≡ may h a
+unfolding may or and
+no-action h a l = rw (ne-eqb a 0 (λ q. omega arith), ne-eqb a 1 (λ q. omega arith), ne-eqb a 2 (λ q. omega arith)) refl

@@ -71,6 +71,9 @@ pub fn is_move(state: LeducState, x: usize, card: bool) -> bool
     if card {
         return is_left(state, x);
     }
+    if 2 < x {
+        return false;
+    }
     is_choice(state, x)
 }
 
