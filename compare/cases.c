@@ -131,6 +131,33 @@ static void listing(void) {
     }
 }
 
+/* ---- Cases k and l: worths, best values and NashConv in whole units, and the reply of seat 0 */
+
+static void units_case(const char *name, uint64_t d, const char *parts, int64_t worth0, int64_t best0, int64_t best1, uint64_t conv, const char *reply) {
+    static uint64_t work[12 * 58 + 1];
+    uint8_t table[24], out[25];
+    for (int entry = 0; entry < 24; entry++) {
+        table[entry] = (uint8_t)(parts[entry] - '0');
+    }
+    memset(out, 9, sizeof out);
+    work[12 * 58] = 9;
+    chukkanalli_worths_answer worths = chukkanalli_worths(CHUKKANALLI_KUHN_POKER, 2, work, 12 * 58, d, table, 24);
+    expect(name, worths.refusal == 0 && worths.count == 2 && worths.worths[0] == worth0 && worths.worths[1] == -worth0 && worths.worths[2] == 0);
+    chukkanalli_reply_answer first = chukkanalli_best_reply(CHUKKANALLI_KUHN_POKER, 2, work, 12 * 58 + 1, 0, d, table, 24, out, sizeof out);
+    expect(name, first.refusal == 0 && first.value == best0 && out[24] == 9 && work[12 * 58] == 9);
+    for (int entry = 0; reply && entry < 24; entry++) {
+        expect(name, out[entry] == reply[entry] - '0');
+    }
+    chukkanalli_reply_answer second = chukkanalli_best_reply(CHUKKANALLI_KUHN_POKER, 2, work, 12 * 58, 1, d, table, 24, out, 24);
+    chukkanalli_nash_conv_answer both = chukkanalli_nash_conv_units(CHUKKANALLI_KUHN_POKER, 2, work, 12 * 58, d, table, 24);
+    expect(name, second.refusal == 0 && second.value == best1 && both.refusal == 0 && both.nash_conv == conv && both.units == 6 * d * d * d);
+}
+
+static void units_cases(void) {
+    units_case("k", 1, "101010101010101010101010", 0, 6, 6, 12, "011010101010011010101010");
+    units_case("l", 3, "303030210303302121303003", -9, -9, 9, 0, NULL);
+}
+
 /* ---- refusals: the position comes back to the byte, whatever its public card, and the output stays */
 
 static void refusals(void) {
@@ -158,7 +185,8 @@ int main(void) {
     kuhn_cases();
     leduc_cases();
     listing();
+    units_cases();
     refusals();
-    puts("cases a to j and Kuhn 2's keys from C: as document 01 has them");
+    puts("cases a to l and Kuhn 2's keys from C: as document 01 has them");
     return 0;
 }
