@@ -29,22 +29,22 @@ fn tree(w: &mut [u64], at: usize, state: LeducState, left: usize) -> usize
     requires { ⌜ Room at (now w) (size (treeAt (positionOf state) left)) ⌝ }
     ensures { λ r. ⌜ Built 2 codeOf at (now (w .entry)) (now (w .exit)) (treeAt (positionOf state) left) r ⌝ }
 {
-    if is_end(state, left) {
+    let card = card_due(state);
+    if is_end(state, left, card) {
         put(w, at, end_word(state));
         return at + 1;
     }
-    let next = children(w, at + 1, state, left - 1);
-    put(w, at, node_word(state, left - 1, next));
+    let next = children(w, at + 1, state, left - 1, card);
+    put(w, at, node_word(state, left - 1, next, card));
     next
 }
 
 // Lays out the trees below its moves, ascending; left cards and actions are to come after each.
-fn children(w: &mut [u64], at: usize, state: LeducState, left: usize) -> usize
-    requires { ⌜ Moving state left ⌝ }
+fn children(w: &mut [u64], at: usize, state: LeducState, left: usize, card: bool) -> usize
+    requires { ⌜ Moving state left × (card ≡ due (positionOf state)) ⌝ }
     requires { ⌜ Room at (now w) (sizes (childrenTo (positionOf state) left 6)) ⌝ }
     ensures { λ r. ⌜ Row 2 codeOf at (now (w .entry)) (now (w .exit)) (childrenTo (positionOf state) left 6) r ⌝ }
 {
-    let card = card_due(state);
     let mut next = at;
     let mut x = 0;
     while x < leduc_betting::DECK {
@@ -61,7 +61,7 @@ fn child(w: &mut [u64], at: usize, state: LeducState, left: usize, x: u8, card: 
     ensures { λ r. ⌜ Row 2 codeOf at (now (w .entry)) (now (w .exit)) (childAt (positionOf state) left x) r ⌝ }
 {
     if is_move(state, x as usize, card) {
-        return tree(w, at, moved(state, x), left);
+        return tree(w, at, moved(state, x, card), left);
     }
     at
 }

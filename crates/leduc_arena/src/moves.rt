@@ -4,7 +4,6 @@ use leduc_betting::betting::round_over;
 use leduc_betting::cards::all_seen;
 use leduc_betting::cards::contains;
 use leduc_positions::LeducState;
-use leduc_positions::state::card_due;
 use leduc_positions::state::hand_over;
 use leduc_positions::state::with_action;
 use leduc_positions::state::with_card;
@@ -17,15 +16,15 @@ ghost use Rattle.leduc_positions.specs.Positions.{seenOf, in-playOf};
 ghost use Rattle.leduc_tree.specs.Tree.{due};
 ghost use Rattle.leduc_arena.specs.Layout.{positionOf, isEnd, isMove, movedState};
 
-// Whether no card or action is to come, or the hand has ended.
-pub fn is_end(state: LeducState, left: usize) -> bool
-    requires { ⌜ (state .dealt ≤ 2) × (state .acted1 ≤ 4) × (state .acted2 ≤ 4) ⌝ }
+// Whether no card or action is to come, or the hand has ended, where it is known whether a card is due.
+pub fn is_end(state: LeducState, left: usize, card: bool) -> bool
+    requires { ⌜ (state .dealt ≤ 2) × (state .acted1 ≤ 4) × (state .acted2 ≤ 4) × (card ≡ due (positionOf state)) ⌝ }
     ensures { λ r. ⌜ r ≡ isEnd (positionOf state) left ⌝ }
 {
     if left == 0 {
         return true;
     }
-    if card_due(state) {
+    if card {
         return false;
     }
     hand_over(state)
@@ -78,12 +77,12 @@ pub fn is_move(state: LeducState, x: usize, card: bool) -> bool
 }
 
 // The position after a move.
-pub fn moved(state: LeducState, x: u8) -> LeducState
-    requires { ⌜ (state .dealt ≤ 2) × (state .acted1 ≤ 4) × (state .acted2 ≤ 4) ⌝ }
+pub fn moved(state: LeducState, x: u8, card: bool) -> LeducState
+    requires { ⌜ (state .dealt ≤ 2) × (state .acted1 ≤ 4) × (state .acted2 ≤ 4) × (card ≡ due (positionOf state)) ⌝ }
     requires { ⌜ (due (positionOf state) ≡ false → state .acted2 < 4) ⌝ }
     ensures { λ r. ⌜ r ≡ movedState state x ⌝ }
 {
-    if card_due(state) {
+    if card {
         return with_card(state, x);
     }
     with_action(state, x)

@@ -4,7 +4,6 @@ use arena::words::chance;
 use arena::words::decision;
 use leduc_betting::Public;
 use leduc_positions::LeducState;
-use leduc_positions::state::card_due;
 use leduc_positions::state::first_closed;
 use leduc_positions::state::legal_list;
 use leduc_positions::state::state_gains;
@@ -14,7 +13,7 @@ ghost use lib.ListN.{length, getD};
 ghost use Rattle.arena.specs.Words.{decisionWord};
 ghost use Rattle.leduc_rules.specs.Rules.{shown-public};
 ghost use Rattle.leduc_positions.specs.Positions.{roundOne, roundTwo};
-ghost use Rattle.leduc_tree.specs.Tree.{actor, choices, key};
+ghost use Rattle.leduc_tree.specs.Tree.{due, actor, choices, key};
 ghost use Rattle.leduc_arena.specs.Codes.{numberFrom, publicNumber, codeFrom, codeOf};
 ghost use Rattle.leduc_arena.specs.Layout.{positionOf, nodeWord, Ends, Moving};
 
@@ -90,11 +89,11 @@ pub fn end_word(state: LeducState) -> u64
 }
 
 // The word of the node that a position with moves is.
-pub fn node_word(state: LeducState, left: usize, next: usize) -> u64
-    requires { ⌜ Moving state left × (next < 2097152) ⌝ }
+pub fn node_word(state: LeducState, left: usize, next: usize, card: bool) -> u64
+    requires { ⌜ Moving state left × (next < 2097152) × (card ≡ due (positionOf state)) ⌝ }
     ensures { λ r. ⌜ r ≡ nodeWord (positionOf state) next ⌝ }
 {
-    if card_due(state) {
+    if card {
         return chance(next);
     }
     let seat = turn(state);

@@ -59,7 +59,7 @@ tree-at t = and 1 tree-kinds.ps (is 1 tree-kinds.ps μ-tree t) tree.Pre
 abbrev tree-below : ℕ → In 1 tree-kinds.ps
 tree-below t = and 1 tree-kinds.ps (falls 1 tree-kinds.ps _<_ μ-tree t) tree.Pre
 
--- src/lib.rt:70:8
+-- src/lib.rt:63:8
 child-is-move-requires : (t : ℕ) → child-lts.Need-is-move-requires (
   is-move-reads.Asked,
   is-move-reads.Learnt,
@@ -70,7 +70,7 @@ child-is-move-requires : (t : ℕ) → child-lts.Need-is-move-requires (
 ) (child-at t) child.Post
 child-is-move-requires t c κs = (short _ _ (c .before .pre .1 .0 .0 .going) .0, short _ _ (c .before .pre .1 .0 .0 .going) .1, short _ _ (c .before .pre .1 .0 .0 .going) .2, c .before .pre .1 .0 .2)
 
--- src/lib.rt:71:28
+-- src/lib.rt:64:28
 child-moved-requires : (t : ℕ) → child-lts.Need-moved-requires (
   is-move-reads.Asked,
   is-move-reads.Learnt,
@@ -79,9 +79,9 @@ child-moved-requires : (t : ℕ) → child-lts.Need-moved-requires (
   tree-below t,
   tree.Post,
 ) (child-at t) child.Post
-child-moved-requires t c κs = (short _ _ (c .before .before .before .before .pre .1 .0 .0 .going), room-left _ _ (c .before .before .before .before .pre .1 .0 .0))
+child-moved-requires t c κs = ((short _ _ (c .before .before .before .before .pre .1 .0 .0 .going) .0, short _ _ (c .before .before .before .before .pre .1 .0 .0 .going) .1, short _ _ (c .before .before .before .before .pre .1 .0 .0 .going) .2, c .before .before .before .before .pre .1 .0 .2), room-left _ _ (c .before .before .before .before .pre .1 .0 .0))
 
--- src/lib.rt:71:9
+-- src/lib.rt:64:9
 child-tree-requires : (t : ℕ) → child-lts.Need-tree-requires (
   is-move-reads.Asked,
   is-move-reads.Learnt,
@@ -96,7 +96,7 @@ child-tree-requires t c κs =
     let f = sym (c .before .before .before .is-move .ensures) ∙ c .before .before .if1 .taken in
     (omega (arith, c .before .before .before .before .before .pre .0), (following.move-goes _ _ _ _ m e f, following.move-room _ _ _ _ m e f _ _ (c .before .before .before .before .before .pre .1 .1)))
 
--- src/lib.rt:71:9
+-- src/lib.rt:64:9
 child-same-length : (t : ℕ) → child-lts.Need-same-length (
   is-move-reads.Asked,
   is-move-reads.Learnt,
@@ -107,7 +107,7 @@ child-same-length : (t : ℕ) → child-lts.Need-same-length (
 ) (child-at t) child.Post
 child-same-length t c = search needs
 
--- src/lib.rt:71:9
+-- src/lib.rt:64:9
 child-returns : (t : ℕ) → child-lts.Need-returns (
   is-move-reads.Asked,
   is-move-reads.Learnt,
@@ -137,85 +137,78 @@ children-Inv-loop w₀ at state left card next₀ x₀ w next x = Row 2 codeOf a
 abbrev children-μ-loop : children-lts.MeasureT-loop
 children-μ-loop w₀ at state left card next₀ x₀ w next x = 6 - x
 
--- src/lib.rt:47:9
-children-card-due-requires : (t : ℕ) → children-lts.Need-card-due-requires (
-  card-due-reads.Asked,
-  card-due-reads.Learnt,
-  child-below t,
-  child.Post,
-) (children-at t) children.Post children-Inv-loop children-μ-loop
-children-card-due-requires t c κs = short _ _ (c .before .pre .1 .0 .going)
-
 -- src/lib.rt:50:5
-children-loop-holds : (t : ℕ) → children-lts.Need-loop-holds (
-  card-due-reads.Asked,
-  card-due-reads.Learnt,
-  child-below t,
-  child.Post,
-) (children-at t) children.Post children-Inv-loop children-μ-loop
-children-loop-holds t c = (following.row-start (positionOf (c .before .before .args .state)) (c .before .before .args .left) (c .before .before .args .at) (now (c .before .before .args .w)) (c .before .before .pre .1 .1), omega arith)
+children-loop-holds : (t : ℕ) → children-lts.Need-loop-holds
+    (child-below t, child.Post)
+    (children-at t)
+    children.Post
+    children-Inv-loop
+    children-μ-loop
+children-loop-holds t c = (following.row-start (positionOf (c .before .args .state)) (c .before .args .left) (c .before .args .at) (now (c .before .args .w)) (c .before .pre .1 .1), omega arith)
 
 -- src/lib.rt:51:9
-children-child-requires : (t : ℕ) → children-lts.Need-child-requires (
-  card-due-reads.Asked,
-  card-due-reads.Learnt,
-  child-below t,
-  child.Post,
-) (children-at t) children.Post children-Inv-loop children-μ-loop
+children-child-requires : (t : ℕ) → children-lts.Need-child-requires
+    (child-below t, child.Post)
+    (children-at t)
+    children.Post
+    children-Inv-loop
+    children-μ-loop
 children-child-requires t c κs =
     let i = c .before .before .loop .inv in
-    (omega (arith, c .before .before .before .before .before .pre .0), ((c .before .before .before .before .before .pre .1 .0, c .before .loop-test .taken, c .before .before .before .card-due .ensures), following.child-room _ _ _ _ (c .before .before .before .before .before .pre .1 .1) _ _ _ (c .before .loop-test .taken) (i .0)))
+    (omega (arith, c .before .before .before .before .pre .0), ((c .before .before .before .before .pre .1 .0 .0, c .before .loop-test .taken, c .before .before .before .before .pre .1 .0 .1), following.child-room _ _ _ _ (c .before .before .before .before .pre .1 .1) _ _ _ (c .before .loop-test .taken) (i .0)))
 
 -- src/lib.rt:52:9
-children-add-x : (t : ℕ) → children-lts.Need-add-x (
-  card-due-reads.Asked,
-  card-due-reads.Learnt,
-  child-below t,
-  child.Post,
-) (children-at t) children.Post children-Inv-loop children-μ-loop
+children-add-x : (t : ℕ) → children-lts.Need-add-x
+    (child-below t, child.Post)
+    (children-at t)
+    children.Post
+    children-Inv-loop
+    children-μ-loop
 children-add-x t c = omega (arith, c .before .before .before .before .loop-test .taken)
 
 -- src/lib.rt:50:5
-children-loop-less : (t : ℕ) → children-lts.Need-loop-less (
-  card-due-reads.Asked,
-  card-due-reads.Learnt,
-  child-below t,
-  child.Post,
-) (children-at t) children.Post children-Inv-loop children-μ-loop
+children-loop-less : (t : ℕ) → children-lts.Need-loop-less
+    (child-below t, child.Post)
+    (children-at t)
+    children.Post
+    children-Inv-loop
+    children-μ-loop
 children-loop-less t c = omega (arith, c .before .before .before .before .loop-test .taken)
 
 -- src/lib.rt:50:5
-children-loop-again : (t : ℕ) → children-lts.Need-loop-again (
-  card-due-reads.Asked,
-  card-due-reads.Learnt,
-  child-below t,
-  child.Post,
-) (children-at t) children.Post children-Inv-loop children-μ-loop
-children-loop-again t c = (following.row-on _ _ _ _ (c .before .before .before .before .before .before .before .before .pre .1 .1) _ _ _ (c .before .before .before .before .loop-test .taken) (c .before .before .before .before .before .loop .inv .0) _ _ (c .before .before .child .ensures), omega (arith, c .before .before .before .before .loop-test .taken))
+children-loop-again : (t : ℕ) → children-lts.Need-loop-again
+    (child-below t, child.Post)
+    (children-at t)
+    children.Post
+    children-Inv-loop
+    children-μ-loop
+children-loop-again t c = (following.row-on _ _ _ _ (c .before .before .before .before .before .before .before .pre .1 .1) _ _ _ (c .before .before .before .before .loop-test .taken) (c .before .before .before .before .before .loop .inv .0) _ _ (c .before .before .child .ensures), omega (arith, c .before .before .before .before .loop-test .taken))
 
--- src/lib.rt:42:1
-children-same-length : (t : ℕ) → children-lts.Need-same-length (
-  card-due-reads.Asked,
-  card-due-reads.Learnt,
-  child-below t,
-  child.Post,
-) (children-at t) children.Post children-Inv-loop children-μ-loop
+-- src/lib.rt:43:1
+children-same-length : (t : ℕ) → children-lts.Need-same-length
+    (child-below t, child.Post)
+    (children-at t)
+    children.Post
+    children-Inv-loop
+    children-μ-loop
 children-same-length t c = c .before .loop .inv .0 .kept .long
 
--- src/lib.rt:42:1
-children-returns : (t : ℕ) → children-lts.Need-returns (
-  card-due-reads.Asked,
-  card-due-reads.Learnt,
-  child-below t,
-  child.Post,
-) (children-at t) children.Post children-Inv-loop children-μ-loop
+-- src/lib.rt:43:1
+children-returns : (t : ℕ) → children-lts.Need-returns
+    (child-below t, child.Post)
+    (children-at t)
+    children.Post
+    children-Inv-loop
+    children-μ-loop
 children-returns t c =
     let i = c .before .loop .inv in
     let e : c .before .loop .x ≡ 6 = omega (arith, i .1, c .loop-test .left) in
-    subst (λ n. Row 2 codeOf (c .before .before .before .before .args .at) (now (c .before .before .before .before .args .w)) (c .before .loop .w) (childrenTo (positionOf (c .before .before .before .before .args .state)) (c .before .before .before .before .args .left) n) (c .before .loop .next)) e (i .0)
+    subst (λ n. Row 2 codeOf (c .before .before .before .args .at) (now (c .before .before .before .args .w)) (c .before .loop .w) (childrenTo (positionOf (c .before .before .before .args .state)) (c .before .before .before .args .left) n) (c .before .loop .next)) e (i .0)
 
--- src/lib.rt:32:8
-tree-is-end-requires : (t : ℕ) → tree-lts.Need-is-end-requires (
+-- src/lib.rt:32:9
+tree-card-due-requires : (t : ℕ) → tree-lts.Need-card-due-requires (
+  card-due-reads.Asked,
+  card-due-reads.Learnt,
   is-end-reads.Asked,
   is-end-reads.Learnt,
   end-word-reads.Asked,
@@ -227,10 +220,29 @@ tree-is-end-requires : (t : ℕ) → tree-lts.Need-is-end-requires (
   node-word-reads.Asked,
   node-word-reads.Learnt,
 ) (tree-at t) tree.Post
-tree-is-end-requires t c κs = short _ _ (c .before .pre .1 .0)
+tree-card-due-requires t c κs = short _ _ (c .before .pre .1 .0)
 
--- src/lib.rt:33:20
+-- src/lib.rt:33:8
+tree-is-end-requires : (t : ℕ) → tree-lts.Need-is-end-requires (
+  card-due-reads.Asked,
+  card-due-reads.Learnt,
+  is-end-reads.Asked,
+  is-end-reads.Learnt,
+  end-word-reads.Asked,
+  end-word-reads.Learnt,
+  put-reads.Asked,
+  put-reads.Learnt,
+  children-below t,
+  children.Post,
+  node-word-reads.Asked,
+  node-word-reads.Learnt,
+) (tree-at t) tree.Post
+tree-is-end-requires t c κs = (short _ _ (c .before .before .pre .1 .0) .0, short _ _ (c .before .before .pre .1 .0) .1, short _ _ (c .before .before .pre .1 .0) .2, c .card-due .ensures)
+
+-- src/lib.rt:34:20
 tree-end-word-requires : (t : ℕ) → tree-lts.Need-end-word-requires (
+  card-due-reads.Asked,
+  card-due-reads.Learnt,
   is-end-reads.Asked,
   is-end-reads.Learnt,
   end-word-reads.Asked,
@@ -243,11 +255,13 @@ tree-end-word-requires : (t : ℕ) → tree-lts.Need-end-word-requires (
   node-word-reads.Learnt,
 ) (tree-at t) tree.Post
 tree-end-word-requires t c κs =
-    let u = short _ _ (c .before .before .before .before .pre .1 .0) in
-    (end-dealt _ _ (c .before .before .before .before .pre .1 .0) (sym (c .before .before .is-end .ensures) ∙ c .before .if1 .taken), u .1, u .2)
+    let u = short _ _ (c .before .before .before .before .before .pre .1 .0) in
+    (end-dealt _ _ (c .before .before .before .before .before .pre .1 .0) (sym (c .before .before .is-end .ensures) ∙ c .before .if1 .taken), u .1, u .2)
 
--- src/lib.rt:33:9
+-- src/lib.rt:34:9
 tree-put-requires : (t : ℕ) → tree-lts.Need-put-requires (
+  card-due-reads.Asked,
+  card-due-reads.Learnt,
   is-end-reads.Asked,
   is-end-reads.Learnt,
   end-word-reads.Asked,
@@ -261,8 +275,10 @@ tree-put-requires : (t : ℕ) → tree-lts.Need-put-requires (
 ) (tree-at t) tree.Post
 tree-put-requires t c κs = search needs
 
--- src/lib.rt:34:16
+-- src/lib.rt:35:16
 tree-add-result : (t : ℕ) → tree-lts.Need-add-result (
+  card-due-reads.Asked,
+  card-due-reads.Learnt,
   is-end-reads.Asked,
   is-end-reads.Learnt,
   end-word-reads.Asked,
@@ -274,10 +290,12 @@ tree-add-result : (t : ℕ) → tree-lts.Need-add-result (
   node-word-reads.Asked,
   node-word-reads.Learnt,
 ) (tree-at t) tree.Post
-tree-add-result t c = record { fits = omega (arith, c .before .before .before .before .before .before .before .before .pre .1 .1 .places) }
+tree-add-result t c = record { fits = omega (arith, c .before .before .before .before .before .before .before .before .before .pre .1 .1 .places) }
 
--- src/lib.rt:34:9
+-- src/lib.rt:35:9
 tree-same-length : (t : ℕ) → tree-lts.Need-same-length (
+  card-due-reads.Asked,
+  card-due-reads.Learnt,
   is-end-reads.Asked,
   is-end-reads.Learnt,
   end-word-reads.Asked,
@@ -291,8 +309,10 @@ tree-same-length : (t : ℕ) → tree-lts.Need-same-length (
 ) (tree-at t) tree.Post
 tree-same-length t c = search needs
 
--- src/lib.rt:34:9
+-- src/lib.rt:35:9
 tree-returns : (t : ℕ) → tree-lts.Need-returns (
+  card-due-reads.Asked,
+  card-due-reads.Learnt,
   is-end-reads.Asked,
   is-end-reads.Learnt,
   end-word-reads.Asked,
@@ -304,10 +324,12 @@ tree-returns : (t : ℕ) → tree-lts.Need-returns (
   node-word-reads.Asked,
   node-word-reads.Learnt,
 ) (tree-at t) tree.Post
-tree-returns t c = following.lays-end _ _ _ _ (c .before .before .before .before .before .before .before .before .pre .1 .0) (c .before .before .before .before .before .before .before .before .pre .1 .1) _ _ (sym (c .before .before .before .before .before .before .is-end .ensures) ∙ c .before .before .before .before .before .if1 .taken) (c .before .before .before .end-word .ensures) (c .before .before .put .ensures)
+tree-returns t c = following.lays-end _ _ _ _ (c .before .before .before .before .before .before .before .before .before .pre .1 .0) (c .before .before .before .before .before .before .before .before .before .pre .1 .1) _ _ (sym (c .before .before .before .before .before .before .is-end .ensures) ∙ c .before .before .before .before .before .if1 .taken) (c .before .before .before .end-word .ensures) (c .before .before .put .ensures)
 
--- src/lib.rt:36:28
+-- src/lib.rt:37:28
 tree-add-children : (t : ℕ) → tree-lts.Need-add-children (
+  card-due-reads.Asked,
+  card-due-reads.Learnt,
   is-end-reads.Asked,
   is-end-reads.Learnt,
   end-word-reads.Asked,
@@ -319,10 +341,12 @@ tree-add-children : (t : ℕ) → tree-lts.Need-add-children (
   node-word-reads.Asked,
   node-word-reads.Learnt,
 ) (tree-at t) tree.Post
-tree-add-children t c = record { fits = omega (arith, c .before .before .before .before .pre .1 .1 .places) }
+tree-add-children t c = record { fits = omega (arith, c .before .before .before .before .before .pre .1 .1 .places) }
 
--- src/lib.rt:36:43
+-- src/lib.rt:37:43
 tree-sub-children : (t : ℕ) → tree-lts.Need-sub-children (
+  card-due-reads.Asked,
+  card-due-reads.Learnt,
   is-end-reads.Asked,
   is-end-reads.Learnt,
   end-word-reads.Asked,
@@ -334,10 +358,12 @@ tree-sub-children : (t : ℕ) → tree-lts.Need-sub-children (
   node-word-reads.Asked,
   node-word-reads.Learnt,
 ) (tree-at t) tree.Post
-tree-sub-children t c = omega (arith, following.some-left _ _ _ _ (c .before .before .before .before .pre .1 .0) (c .before .before .before .before .pre .1 .1) (sym (c .before .before .is-end .ensures) ∙ c .before .if1 .left))
+tree-sub-children t c = omega (arith, following.some-left _ _ _ _ (c .before .before .before .before .before .pre .1 .0) (c .before .before .before .before .before .pre .1 .1) (sym (c .before .before .is-end .ensures) ∙ c .before .if1 .left))
 
--- src/lib.rt:36:9
+-- src/lib.rt:37:9
 tree-children-requires : (t : ℕ) → tree-lts.Need-children-requires (
+  card-due-reads.Asked,
+  card-due-reads.Learnt,
   is-end-reads.Asked,
   is-end-reads.Learnt,
   end-word-reads.Asked,
@@ -350,13 +376,15 @@ tree-children-requires : (t : ℕ) → tree-lts.Need-children-requires (
   node-word-reads.Learnt,
 ) (tree-at t) tree.Post
 tree-children-requires t c κs =
-    let p = c .before .before .before .before .pre .1 .0 in
-    let g = c .before .before .before .before .pre .1 .1 in
+    let p = c .before .before .before .before .before .pre .1 .0 in
+    let g = c .before .before .before .before .before .pre .1 .1 in
     let e = sym (c .before .before .is-end .ensures) ∙ c .before .if1 .left in
-    (omega (arith, c .before .before .before .before .pre .0, following.some-left _ _ _ _ p g e), (following.moving _ _ _ _ p g e, following.row-room _ _ _ _ p g e))
+    (omega (arith, c .before .before .before .before .before .pre .0, following.some-left _ _ _ _ p g e), ((following.moving _ _ _ _ p g e, c .before .before .before .card-due .ensures), following.row-room _ _ _ _ p g e))
 
--- src/lib.rt:37:33
+-- src/lib.rt:38:33
 tree-sub-node-word : (t : ℕ) → tree-lts.Need-sub-node-word (
+  card-due-reads.Asked,
+  card-due-reads.Learnt,
   is-end-reads.Asked,
   is-end-reads.Learnt,
   end-word-reads.Asked,
@@ -368,10 +396,12 @@ tree-sub-node-word : (t : ℕ) → tree-lts.Need-sub-node-word (
   node-word-reads.Asked,
   node-word-reads.Learnt,
 ) (tree-at t) tree.Post
-tree-sub-node-word t c = omega (arith, following.some-left _ _ _ _ (c .before .before .before .before .before .before .before .before .pre .1 .0) (c .before .before .before .before .before .before .before .before .pre .1 .1) (sym (c .before .before .before .before .before .before .is-end .ensures) ∙ c .before .before .before .before .before .if1 .left))
+tree-sub-node-word t c = omega (arith, following.some-left _ _ _ _ (c .before .before .before .before .before .before .before .before .before .pre .1 .0) (c .before .before .before .before .before .before .before .before .before .pre .1 .1) (sym (c .before .before .before .before .before .before .is-end .ensures) ∙ c .before .before .before .before .before .if1 .left))
 
--- src/lib.rt:37:16
+-- src/lib.rt:38:16
 tree-node-word-requires : (t : ℕ) → tree-lts.Need-node-word-requires (
+  card-due-reads.Asked,
+  card-due-reads.Learnt,
   is-end-reads.Asked,
   is-end-reads.Learnt,
   end-word-reads.Asked,
@@ -384,13 +414,15 @@ tree-node-word-requires : (t : ℕ) → tree-lts.Need-node-word-requires (
   node-word-reads.Learnt,
 ) (tree-at t) tree.Post
 tree-node-word-requires t c κs =
-    let p = c .before .before .before .before .before .before .before .before .pre .1 .0 in
-    let g = c .before .before .before .before .before .before .before .before .pre .1 .1 in
+    let p = c .before .before .before .before .before .before .before .before .before .pre .1 .0 in
+    let g = c .before .before .before .before .before .before .before .before .before .pre .1 .1 in
     let e = sym (c .before .before .before .before .before .before .is-end .ensures) ∙ c .before .before .before .before .before .if1 .left in
-    (following.moving _ _ _ _ p g e, following.behind-few _ _ _ _ p g e _ _ (c .before .before .before .children .ensures))
+    (following.moving _ _ _ _ p g e, following.behind-few _ _ _ _ p g e _ _ (c .before .before .before .children .ensures), c .before .before .before .before .before .before .before .card-due .ensures)
 
--- src/lib.rt:37:5
+-- src/lib.rt:38:5
 tree-put-requires-2 : (t : ℕ) → tree-lts.Need-put-requires-2 (
+  card-due-reads.Asked,
+  card-due-reads.Learnt,
   is-end-reads.Asked,
   is-end-reads.Learnt,
   end-word-reads.Asked,
@@ -406,6 +438,8 @@ tree-put-requires-2 t c κs = search needs
 
 -- src/lib.rt:27:1
 tree-same-length-2 : (t : ℕ) → tree-lts.Need-same-length-2 (
+  card-due-reads.Asked,
+  card-due-reads.Learnt,
   is-end-reads.Asked,
   is-end-reads.Learnt,
   end-word-reads.Asked,
@@ -421,6 +455,8 @@ tree-same-length-2 t c = search needs
 
 -- src/lib.rt:27:1
 tree-returns-2 : (t : ℕ) → tree-lts.Need-returns-2 (
+  card-due-reads.Asked,
+  card-due-reads.Learnt,
   is-end-reads.Asked,
   is-end-reads.Learnt,
   end-word-reads.Asked,
@@ -432,7 +468,7 @@ tree-returns-2 : (t : ℕ) → tree-lts.Need-returns-2 (
   node-word-reads.Asked,
   node-word-reads.Learnt,
 ) (tree-at t) tree.Post
-tree-returns-2 t c = following.lays-node _ _ _ _ (c .before .before .before .before .before .before .before .before .before .before .before .before .pre .1 .0) (c .before .before .before .before .before .before .before .before .before .before .before .before .pre .1 .1) (sym (c .before .before .before .before .before .before .before .before .before .before .is-end .ensures) ∙ c .before .before .before .before .before .before .before .before .before .if1 .left) _ _ (c .before .before .before .before .before .before .before .children .ensures) _ _ (c .before .before .before .node-word .ensures) (c .before .before .put2 .ensures)
+tree-returns-2 t c = following.lays-node _ _ _ _ (c .before .before .before .before .before .before .before .before .before .before .before .before .before .pre .1 .0) (c .before .before .before .before .before .before .before .before .before .before .before .before .before .pre .1 .1) (sym (c .before .before .before .before .before .before .before .before .before .before .is-end .ensures) ∙ c .before .before .before .before .before .before .before .before .before .if1 .left) _ _ (c .before .before .before .before .before .before .before .children .ensures) _ _ (c .before .before .before .node-word .ensures) (c .before .before .put2 .ensures)
 
 pub +child+children+tree-spec : {M : Type 1} → statement M
 +child+children+tree-spec = close μ-child μ-children μ-tree (λ t. child-lts.spec (
@@ -451,17 +487,12 @@ pub +child+children+tree-spec : {M : Type 1} → statement M
     (child-same-length t)
     (child-returns t)
     (child-returns-2 t))
-    (λ t. children-lts.spec (
-      card-due-reads.Asked,
-      card-due-reads.Learnt,
-      child-below t,
-      child.Post,
-    )
+    (λ t. children-lts.spec
+    (child-below t, child.Post)
     (children-at t)
     children.Post
     children-Inv-loop
     children-μ-loop
-    (children-card-due-requires t)
     (children-loop-holds t)
     (children-child-requires t)
     (children-add-x t)
@@ -470,6 +501,8 @@ pub +child+children+tree-spec : {M : Type 1} → statement M
     (children-same-length t)
     (children-returns t))
     λ t. tree-lts.spec (
+      card-due-reads.Asked,
+      card-due-reads.Learnt,
       is-end-reads.Asked,
       is-end-reads.Learnt,
       end-word-reads.Asked,
@@ -483,6 +516,7 @@ pub +child+children+tree-spec : {M : Type 1} → statement M
     )
     (tree-at t)
     tree.Post
+    (tree-card-due-requires t)
     (tree-is-end-requires t)
     (tree-end-word-requires t)
     (tree-put-requires t)
