@@ -1,3 +1,4 @@
+-- The checks, then the evaluation in the words for it. Assumes nothing.
 use denote.Ref.{now}
 use native.Mathlib.Omega.{arith}
 use mathlib.Core.Path.{_≡_, refl, sym, _∙_, subst}
@@ -6,59 +7,43 @@ use mir.Syntax.{w64}
 use lib.ListN.{length}
 use lib.Seq.{length-take-le}
 use Prim.Native.Nat.{_*_}
-use Rattle.tables.specs.Games.{gameOf}
+use Rattle.tables.specs.Games.{gameOf, treeOf}
 use Rattle.whole.proofs.Leaving.{all-left, rest-left}
-use Rattle.best_reply.proofs.Outcome as outcome
 use Rattle.best.specs.Best.{BestReply}
 use Rattle.game.specs.Table.{replyTable}
-use Rattle.tables.specs.Games.{treeOf}
 use Rattle.tables.specs.Facts.{rootUnits}
 use borrow.Author.Needs.{needs}
 use Rattle.best_reply.proofs.best_reply.Statement.{statement}
+use Rattle.best_reply.proofs.Outcome as outcome
 use Rattle.best_reply.proofs.best_reply.Tie as tie
-use Rattle.best_reply.proofs.best_reply.Reads as reads
-use Rattle.best_reply.proofs.best_reply.Lts as lts
-use Rattle.best_reply.proofs.evaluate.Reads as evaluate-reads
-use Rattle.tables.proofs.Game.nodes.Reads as nodes-reads
-use Rattle.tables.proofs.reply_refusal.Reads as reply-refusal-reads
 
--- src/lib.rt:59:9
 reply-refusal-requires : tie.Need-reply-refusal-requires
 reply-refusal-requires c κs = search needs
 
--- src/lib.rt:61:9
 returns : tie.Need-returns
 returns c = (outcome.not-answered _ _ (gameOf (c .before .before .before .before .before .args .number) (c .before .before .before .before .before .args .seats)) (c .before .before .before .before .before .args .seat) (c .before .before .before .before .before .args .d) (now (c .before .before .before .before .before .args .table)) (c .before .reply-refusal .ensures) (c .if1 .taken), (outcome.not-written _ (gameOf (c .before .before .before .before .before .args .number) (c .before .before .before .before .before .args .seats)) (c .before .before .before .before .before .args .seat) (c .before .before .before .before .before .args .d) (now (c .before .before .before .before .before .args .table)) (now (c .before .before .before .before .before .args .out)) (c .if1 .taken), (outcome.not-demanded _ (gameOf (c .before .before .before .before .before .args .number) (c .before .before .before .before .before .args .seats)) (c .before .before .before .before .before .args .seat) (c .before .before .before .before .before .args .d) (now (c .before .before .before .before .before .args .table)) _ (now (c .before .before .before .before .before .args .out)) (c .if1 .taken), all-left _ (gameOf (c .before .before .before .before .before .args .number) (c .before .before .before .before .before .args .seats)) (now (c .before .before .before .before .before .args .work)) (c .if1 .taken))))
 
--- src/lib.rt:63:31
 nodes-requires : tie.Need-nodes-requires
 nodes-requires c κs = outcome.accepted-game (gameOf (c .before .before .before .before .before .args .number) (c .before .before .before .before .before .args .seats)) (length (now (c .before .before .before .before .before .args .work))) (c .before .before .before .before .before .args .seat) (c .before .before .before .before .before .args .d) (now (c .before .before .before .before .before .args .table)) (length (now (c .before .before .before .before .before .args .out))) (sym (c .before .reply-refusal .ensures) ∙ c .if1 .left) .seats
 
--- src/lib.rt:63:17
 mul-words : tie.Need-mul-words
 mul-words c = omega (arith, outcome.nodes-room (gameOf (c .before .before .before .before .before .before .args .number) (c .before .before .before .before .before .before .args .seats)) (length (now (c .before .before .before .before .before .before .args .work))) (c .before .before .before .before .before .before .args .seat) (c .before .before .before .before .before .before .args .d) (now (c .before .before .before .before .before .before .args .table)) (length (now (c .before .before .before .before .before .before .args .out))) (sym (c .before .before .reply-refusal .ensures) ∙ c .before .if1 .left) _ (c .nodes .ensures))
 
--- src/lib.rt:64:29
 slice-relend-prefix-evaluate : tie.Need-slice-relend-prefix-evaluate
 slice-relend-prefix-evaluate c = outcome.nodes-room (gameOf (c .before .before .before .before .before .before .args .number) (c .before .before .before .before .before .before .args .seats)) (length (now (c .before .before .before .before .before .before .args .work))) (c .before .before .before .before .before .before .args .seat) (c .before .before .before .before .before .before .args .d) (now (c .before .before .before .before .before .before .args .table)) (length (now (c .before .before .before .before .before .before .args .out))) (sym (c .before .before .reply-refusal .ensures) ∙ c .before .if1 .left) _ (c .nodes .ensures)
 
--- src/lib.rt:64:29
 slice-aggregate-evaluate : tie.Need-slice-aggregate-evaluate
 slice-aggregate-evaluate c = sym (length-take-le (12 * c .before .nodes .result) (now (c .before .before .before .before .before .before .before .args .work)) (outcome.nodes-room (gameOf (c .before .before .before .before .before .before .before .args .number) (c .before .before .before .before .before .before .before .args .seats)) (length (now (c .before .before .before .before .before .before .before .args .work))) (c .before .before .before .before .before .before .before .args .seat) (c .before .before .before .before .before .before .before .args .d) (now (c .before .before .before .before .before .before .before .args .table)) (length (now (c .before .before .before .before .before .before .before .args .out))) (sym (c .before .before .before .reply-refusal .ensures) ∙ c .before .before .if1 .left) _ (c .before .nodes .ensures)))
 
--- src/lib.rt:64:9
 evaluate-requires : tie.Need-evaluate-requires
 evaluate-requires c κs = (outcome.accepted-table (gameOf (c .before .before .before .before .before .before .before .before .args .number) (c .before .before .before .before .before .before .before .before .args .seats)) (length (now (c .before .before .before .before .before .before .before .before .args .work))) (c .before .before .before .before .before .before .before .before .args .seat) (c .before .before .before .before .before .before .before .before .args .d) (now (c .before .before .before .before .before .before .before .before .args .table)) (length (now (c .before .before .before .before .before .before .before .before .args .out))) (sym (c .before .before .before .before .reply-refusal .ensures) ∙ c .before .before .before .if1 .left), outcome.accepted-seat (gameOf (c .before .before .before .before .before .before .before .before .args .number) (c .before .before .before .before .before .before .before .before .args .seats)) (length (now (c .before .before .before .before .before .before .before .before .args .work))) (c .before .before .before .before .before .before .before .before .args .seat) (c .before .before .before .before .before .before .before .before .args .d) (now (c .before .before .before .before .before .before .before .before .args .table)) (length (now (c .before .before .before .before .before .before .before .before .args .out))) (sym (c .before .before .before .before .reply-refusal .ensures) ∙ c .before .before .before .if1 .left), outcome.part-room (gameOf (c .before .before .before .before .before .before .before .before .args .number) (c .before .before .before .before .before .before .before .before .args .seats)) (length (now (c .before .before .before .before .before .before .before .before .args .work))) (c .before .before .before .before .before .before .before .before .args .seat) (c .before .before .before .before .before .before .before .before .args .d) (now (c .before .before .before .before .before .before .before .before .args .table)) (length (now (c .before .before .before .before .before .before .before .before .args .out))) (sym (c .before .before .before .before .reply-refusal .ensures) ∙ c .before .before .before .if1 .left) _ (now (c .before .before .before .before .before .before .before .before .args .work)) (c .before .before .nodes .ensures) refl)
 
--- src/lib.rt:44:1
 same-length : tie.Need-same-length
 same-length c = search needs
 
--- src/lib.rt:44:1
 same-length-2 : tie.Need-same-length-2
 same-length-2 c = search needs
 
--- src/lib.rt:44:1
 returns-2 : tie.Need-returns-2
 returns-2 c =
     let whole : toZ w64 (ofZ w64 (c .before .before .before .before .evaluate .result)) ≡ c .before .before .before .before .evaluate .result = search needs in

@@ -1,6 +1,7 @@
+-- The tree, then the best value, then the reply. Assumes nothing.
 use denote.Ref.{now}
 use native.Mathlib.Omega.{arith}
-use mathlib.Core.Path.{_≡_, refl, sym, _∙_, subst}
+use mathlib.Core.Path.{_≡_, sym, _∙_, subst}
 use mir.Val.{toZ, ofZ}
 use mir.Syntax.{w64}
 use Rattle.best.specs.Best.{BestReply}
@@ -10,33 +11,22 @@ use Rattle.tables.specs.Facts.{rootUnits}
 use borrow.Author.Needs.{needs}
 use Rattle.best_reply.proofs.evaluate.Statement.{statement}
 use Rattle.best_reply.proofs.evaluate.Tie as tie
-use Rattle.best_reply.proofs.evaluate.Reads as reads
-use Rattle.best_reply.proofs.evaluate.Lts as lts
-use Rattle.best.proofs.best_table.Reads as best-table-reads
-use Rattle.best.proofs.best_value.Reads as best-value-reads
-use Rattle.stored.proofs.store.Reads as store-reads
 
--- src/lib.rt:36:5
 store-requires : tie.Need-store-requires
 store-requires c κs = record { known = c .before .before .before .before .pre .0 .game .known; seats = c .before .before .before .before .pre .0 .game .seats; small = c .before .before .before .before .pre .0 .game .small; words = c .before .before .before .before .pre .2 }
 
--- src/lib.rt:37:9
 best-value-requires : tie.Need-best-value-requires
 best-value-requires c κs = (c .before .before .before .store .ensures, c .before .before .before .before .before .before .before .before .pre .0, c .before .before .before .before .before .before .before .before .pre .1, omega (arith, c .before .before .before .before .before .before .before .before .pre .2, c .before .before .before .store .kept .1 .0))
 
--- src/lib.rt:38:5
 best-table-requires : tie.Need-best-table-requires
 best-table-requires c κs = (c .before .before .before .before .best-value .ensures .2, c .before .before .before .before .before .before .before .before .before .before .before .before .before .pre .0, c .before .before .before .before .before .before .before .before .before .before .before .before .before .pre .1)
 
--- src/lib.rt:23:1
 same-length : tie.Need-same-length
 same-length c = search needs
 
--- src/lib.rt:23:1
 same-length-2 : tie.Need-same-length-2
 same-length-2 c = search needs
 
--- src/lib.rt:23:1
 returns : tie.Need-returns
 returns c =
     let whole : toZ w64 (ofZ w64 (c .before .before .before .before .before .before .before .before .before .best-value .result)) ≡ c .before .before .before .before .before .before .before .before .before .best-value .result = search needs in

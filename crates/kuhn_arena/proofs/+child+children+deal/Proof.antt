@@ -55,7 +55,6 @@ deal-at t = and 1 deal-kinds.ps (is 1 deal-kinds.ps μ-deal t) deal.Pre
 abbrev deal-below : ℕ → In 1 deal-kinds.ps
 deal-below t = and 1 deal-kinds.ps (falls 1 deal-kinds.ps _<_ μ-deal t) deal.Pre
 
--- src/lib.rt:122:17
 child-slice-aggregate-contains : (t : ℕ) → child-lts.Need-slice-aggregate-contains (
   contains-reads.Asked,
   contains-reads.Learnt,
@@ -66,7 +65,6 @@ child-slice-aggregate-contains : (t : ℕ) → child-lts.Need-slice-aggregate-co
 ) (child-at t) child.Post
 child-slice-aggregate-contains t c = search needs
 
--- src/lib.rt:122:8
 child-contains-requires : (t : ℕ) → child-lts.Need-contains-requires (
   contains-reads.Asked,
   contains-reads.Learnt,
@@ -77,7 +75,6 @@ child-contains-requires : (t : ℕ) → child-lts.Need-contains-requires (
 ) (child-at t) child.Post
 child-contains-requires t c κs = let p = c .before .before .before .pre .1 .0 .0 in omega (arith, p .tens, p .cards, p .most)
 
--- src/lib.rt:123:9
 child-returns : (t : ℕ) → child-lts.Need-returns (
   contains-reads.Asked,
   contains-reads.Learnt,
@@ -89,7 +86,6 @@ child-returns : (t : ℕ) → child-lts.Need-returns (
 child-returns t c =
     rw (deals.child-none (c .before .before .before .before .before .args .n) (c .before .before .before .before .before .args .state) (c .before .before .before .before .before .args .left) (c .before .before .before .before .before .pre .1 .0 .0) (c .before .before .before .before .before .args .card) (sym (c .before .contains .ensures) ∙ c .if1 .taken)) (building.row-none _ _ _ _)
 
--- src/lib.rt:125:20
 child-with-card-requires : (t : ℕ) → child-lts.Need-with-card-requires (
   contains-reads.Asked,
   contains-reads.Learnt,
@@ -100,7 +96,6 @@ child-with-card-requires : (t : ℕ) → child-lts.Need-with-card-requires (
 ) (child-at t) child.Post
 child-with-card-requires t c κs = let p = c .before .before .before .before .before .before .pre .1 .0 .0 in (deals.dealt-few (c .before .before .before .before .before .before .args .n) (c .before .before .before .before .before .before .args .state) (c .before .before .before .before .before .before .args .left) (c .before .before .before .before .before .before .pre .1 .0 .0), omega (arith, p .most, c .before .before .before .before .before .before .pre .1 .0 .1))
 
--- src/lib.rt:125:5
 child-deal-requires : (t : ℕ) → child-lts.Need-deal-requires (
   contains-reads.Asked,
   contains-reads.Learnt,
@@ -114,7 +109,6 @@ child-deal-requires t c κs =
     let some = deals.child-some (c .before .before .before .before .before .before .before .args .n) (c .before .before .before .before .before .before .before .args .state) (c .before .before .before .before .before .before .before .args .left) (c .before .before .before .before .before .before .before .pre .1 .0 .0) (c .before .before .before .before .before .before .before .args .card) _ (c .before .before .before .before .before .before .before .pre .1 .0 .1) (sym (c .before .before .before .contains .ensures) ∙ c .before .before .if1 .left) e in
     (omega (arith, c .before .before .before .before .before .before .before .pre .0), (deals.deals-on (c .before .before .before .before .before .before .before .args .n) (c .before .before .before .before .before .before .before .args .state) (c .before .before .before .before .before .before .before .args .left) (c .before .before .before .before .before .before .before .pre .1 .0 .0) (c .before .before .before .before .before .before .before .args .card) _ e, deals.room-one _ _ _ _ some (c .before .before .before .before .before .before .before .pre .1 .1)))
 
--- src/lib.rt:115:1
 child-same-length : (t : ℕ) → child-lts.Need-same-length (
   contains-reads.Asked,
   contains-reads.Learnt,
@@ -125,7 +119,6 @@ child-same-length : (t : ℕ) → child-lts.Need-same-length (
 ) (child-at t) child.Post
 child-same-length t c = search needs
 
--- src/lib.rt:115:1
 child-returns-2 : (t : ℕ) → child-lts.Need-returns-2 (
   contains-reads.Asked,
   contains-reads.Learnt,
@@ -145,7 +138,6 @@ children-Inv-loop w₀ at n state left next₀ card₀ w next card = Row n (code
 abbrev children-μ-loop : children-lts.MeasureT-loop
 children-μ-loop w₀ at n state left next₀ card₀ w next card = n + 1 - card
 
--- src/lib.rt:107:5
 children-loop-holds : (t : ℕ) →
     children-lts.Need-loop-holds
     (child-below t, child.Post)
@@ -155,7 +147,6 @@ children-loop-holds : (t : ℕ) →
     children-μ-loop
 children-loop-holds t c = (deals.children-start (c .before .args .n) (c .before .args .state) (c .before .args .left) (c .before .args .at) (now (c .before .args .w)) (c .before .pre .1 .1), omega arith)
 
--- src/lib.rt:108:9
 children-child-requires : (t : ℕ) →
     children-lts.Need-child-requires
     (child-below t, child.Post)
@@ -167,7 +158,6 @@ children-child-requires t c κs =
     let i = c .before .before .loop .inv in
     (omega (arith, c .before .before .before .before .pre .0), ((c .before .before .before .before .pre .1 .0, c .before .loop-test .taken), deals.child-room (c .before .before .before .before .args .n) (c .before .before .before .before .args .state) (c .before .before .before .before .args .left) (c .before .before .before .before .args .at) (now (c .before .before .before .before .args .w)) (c .before .before .before .before .pre .1 .1) _ _ _ (c .before .loop-test .taken) (i .0)))
 
--- src/lib.rt:109:9
 children-add-card : (t : ℕ) →
     children-lts.Need-add-card
     (child-below t, child.Post)
@@ -177,7 +167,6 @@ children-add-card : (t : ℕ) →
     children-μ-loop
 children-add-card t c = omega (arith, c .before .before .before .before .before .before .before .pre .1 .0 .most, c .before .before .before .before .loop-test .taken)
 
--- src/lib.rt:107:5
 children-loop-less : (t : ℕ) →
     children-lts.Need-loop-less
     (child-below t, child.Post)
@@ -187,7 +176,6 @@ children-loop-less : (t : ℕ) →
     children-μ-loop
 children-loop-less t c = omega (arith, c .before .before .before .before .loop-test .taken)
 
--- src/lib.rt:107:5
 children-loop-again : (t : ℕ) →
     children-lts.Need-loop-again
     (child-below t, child.Post)
@@ -199,7 +187,6 @@ children-loop-again t c =
     let i = c .before .before .before .before .before .loop .inv in
     (deals.children-on (c .before .before .before .before .before .before .before .args .n) (c .before .before .before .before .before .before .before .args .state) (c .before .before .before .before .before .before .before .args .left) (c .before .before .before .before .before .before .before .args .at) (now (c .before .before .before .before .before .before .before .args .w)) (c .before .before .before .before .before .before .before .pre .1 .1) _ _ _ (c .before .before .before .before .loop-test .taken) (i .0) _ _ (c .before .before .child .ensures), omega (arith, c .before .before .before .before .loop-test .taken))
 
--- src/lib.rt:100:1
 children-same-length : (t : ℕ) →
     children-lts.Need-same-length
     (child-below t, child.Post)
@@ -209,7 +196,6 @@ children-same-length : (t : ℕ) →
     children-μ-loop
 children-same-length t c = c .before .loop .inv .0 .kept .long
 
--- src/lib.rt:100:1
 children-returns : (t : ℕ) →
     children-lts.Need-returns
     (child-below t, child.Post)
@@ -222,7 +208,6 @@ children-returns t c =
     let e : c .before .loop .card ≡ c .before .before .before .args .n + 1 = omega (arith, i .1, c .loop-test .left) in
     subst (λ d. Row (c .before .before .before .args .n) (codeOf (c .before .before .before .args .n)) (c .before .before .before .args .at) (now (c .before .before .before .args .w)) (c .before .loop .w) (childrenTo (c .before .before .before .args .n) (c .before .before .before .args .state) (c .before .before .before .args .left) d) (c .before .loop .next)) e (i .0)
 
--- src/lib.rt:92:41
 deal-mul-hand : (t : ℕ) → deal-lts.Need-mul-hand (
   hand-reads.Asked,
   hand-reads.Learnt,
@@ -235,7 +220,6 @@ deal-mul-hand : (t : ℕ) → deal-lts.Need-mul-hand (
 ) (deal-at t) deal.Post
 deal-mul-hand t c = record { fits = omega (arith, c .before .before .before .pre .1 .0 .most) }
 
--- src/lib.rt:92:41
 deal-sub-hand : (t : ℕ) → deal-lts.Need-sub-hand (
   hand-reads.Asked,
   hand-reads.Learnt,
@@ -248,7 +232,6 @@ deal-sub-hand : (t : ℕ) → deal-lts.Need-sub-hand (
 ) (deal-at t) deal.Post
 deal-sub-hand t c = omega (arith, c .before .before .before .pre .1 .0 .least)
 
--- src/lib.rt:92:9
 deal-hand-requires : (t : ℕ) → deal-lts.Need-hand-requires (
   hand-reads.Asked,
   hand-reads.Learnt,
@@ -261,7 +244,6 @@ deal-hand-requires : (t : ℕ) → deal-lts.Need-hand-requires (
 ) (deal-at t) deal.Post
 deal-hand-requires t c κs = (deals.hand-starts (c .before .before .before .args .n) (c .before .before .before .args .state) (c .before .before .before .args .left) (c .before .before .before .args .at) (now (c .before .before .before .args .w)) (c .before .before .before .pre .1 .0) (c .before .before .before .pre .1 .1) (c .before .if1 .taken), deals.hand-room (c .before .before .before .args .n) (c .before .before .before .args .state) (c .before .before .before .args .left) (c .before .before .before .args .at) (now (c .before .before .before .args .w)) (c .before .before .before .pre .1 .0) (c .before .before .before .pre .1 .1) (c .before .if1 .taken))
 
--- src/lib.rt:92:9
 deal-same-length : (t : ℕ) → deal-lts.Need-same-length (
   hand-reads.Asked,
   hand-reads.Learnt,
@@ -274,7 +256,6 @@ deal-same-length : (t : ℕ) → deal-lts.Need-same-length (
 ) (deal-at t) deal.Post
 deal-same-length t c = search needs
 
--- src/lib.rt:92:9
 deal-returns : (t : ℕ) → deal-lts.Need-returns (
   hand-reads.Asked,
   hand-reads.Learnt,
@@ -287,7 +268,6 @@ deal-returns : (t : ℕ) → deal-lts.Need-returns (
 ) (deal-at t) deal.Post
 deal-returns t c = deals.deal-ends (c .before .before .before .before .before .before .args .n) (c .before .before .before .before .before .before .args .state) (c .before .before .before .before .before .before .args .left) (c .before .before .before .before .before .before .args .at) (now (c .before .before .before .before .before .before .args .w)) (c .before .before .before .before .before .before .pre .1 .0) (c .before .before .before .before .before .before .pre .1 .1) (c .before .before .before .before .if1 .taken) _ _ (c .before .before .hand .ensures)
 
--- src/lib.rt:94:28
 deal-add-children : (t : ℕ) → deal-lts.Need-add-children (
   hand-reads.Asked,
   hand-reads.Learnt,
@@ -300,7 +280,6 @@ deal-add-children : (t : ℕ) → deal-lts.Need-add-children (
 ) (deal-at t) deal.Post
 deal-add-children t c = record { fits = omega (arith, c .before .before .before .pre .1 .1 .places) }
 
--- src/lib.rt:94:46
 deal-sub-children : (t : ℕ) → deal-lts.Need-sub-children (
   hand-reads.Asked,
   hand-reads.Learnt,
@@ -313,7 +292,6 @@ deal-sub-children : (t : ℕ) → deal-lts.Need-sub-children (
 ) (deal-at t) deal.Post
 deal-sub-children t c = omega (arith, c .before .if1 .left)
 
--- src/lib.rt:94:9
 deal-children-requires : (t : ℕ) → deal-lts.Need-children-requires (
   hand-reads.Asked,
   hand-reads.Learnt,
@@ -326,7 +304,6 @@ deal-children-requires : (t : ℕ) → deal-lts.Need-children-requires (
 ) (deal-at t) deal.Post
 deal-children-requires t c κs = (omega (arith, c .before .before .before .pre .0, c .before .if1 .left), (deals.deals-row (c .before .before .before .args .n) (c .before .before .before .args .state) (c .before .before .before .args .left) (c .before .before .before .args .at) (now (c .before .before .before .args .w)) (c .before .before .before .pre .1 .0) (c .before .before .before .pre .1 .1) (c .before .if1 .left), deals.row-room (c .before .before .before .args .n) (c .before .before .before .args .state) (c .before .before .before .args .left) (c .before .before .before .args .at) (now (c .before .before .before .args .w)) (c .before .before .before .pre .1 .0) (c .before .before .before .pre .1 .1) (c .before .if1 .left)))
 
--- src/lib.rt:95:16
 deal-chance-requires : (t : ℕ) → deal-lts.Need-chance-requires (
   hand-reads.Asked,
   hand-reads.Learnt,
@@ -339,7 +316,6 @@ deal-chance-requires : (t : ℕ) → deal-lts.Need-chance-requires (
 ) (deal-at t) deal.Post
 deal-chance-requires t c κs = deals.behind-few (c .before .before .before .before .before .before .before .args .n) (c .before .before .before .before .before .before .before .args .state) (c .before .before .before .before .before .before .before .args .left) (c .before .before .before .before .before .before .before .args .at) (now (c .before .before .before .before .before .before .before .args .w)) (c .before .before .before .before .before .before .before .pre .1 .0) (c .before .before .before .before .before .before .before .pre .1 .1) (c .before .before .before .before .before .if1 .left) _ _ (c .before .before .before .children .ensures)
 
--- src/lib.rt:95:5
 deal-put-requires : (t : ℕ) → deal-lts.Need-put-requires (
   hand-reads.Asked,
   hand-reads.Learnt,
@@ -352,7 +328,6 @@ deal-put-requires : (t : ℕ) → deal-lts.Need-put-requires (
 ) (deal-at t) deal.Post
 deal-put-requires t c κs = search needs
 
--- src/lib.rt:86:1
 deal-same-length-2 : (t : ℕ) → deal-lts.Need-same-length-2 (
   hand-reads.Asked,
   hand-reads.Learnt,
@@ -365,7 +340,6 @@ deal-same-length-2 : (t : ℕ) → deal-lts.Need-same-length-2 (
 ) (deal-at t) deal.Post
 deal-same-length-2 t c = search needs
 
--- src/lib.rt:86:1
 deal-returns-2 : (t : ℕ) → deal-lts.Need-returns-2 (
   hand-reads.Asked,
   hand-reads.Learnt,

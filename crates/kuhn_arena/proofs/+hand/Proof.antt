@@ -26,7 +26,6 @@ hand-at t = and 1 hand-kinds.ps (is 1 hand-kinds.ps μ-hand t) hand.Pre
 abbrev hand-below : ℕ → In 1 hand-kinds.ps
 hand-below t = and 1 hand-kinds.ps (falls 1 hand-kinds.ps _<_ μ-hand t) hand.Pre
 
--- src/lib.rt:56:8
 hand-is-over-requires : (t : ℕ) → hand-lts.Need-is-over-requires (
   is-over-reads.Asked,
   is-over-reads.Learnt,
@@ -48,7 +47,6 @@ hand-is-over-requires t c κs =
     let g = c .before .pre .1 .1 in
     (omega (arith, p .least), omega (arith, p .most), omega (arith, p .few))
 
--- src/lib.rt:57:20
 hand-end-word-requires : (t : ℕ) → hand-lts.Need-end-word-requires (
   is-over-reads.Asked,
   is-over-reads.Learnt,
@@ -70,7 +68,6 @@ hand-end-word-requires t c κs =
     let g = c .before .before .before .before .pre .1 .1 in
     (p .least, p .most, p .full, omega (arith, p .few))
 
--- src/lib.rt:57:9
 hand-put-requires : (t : ℕ) → hand-lts.Need-put-requires (
   is-over-reads.Asked,
   is-over-reads.Learnt,
@@ -87,7 +84,6 @@ hand-put-requires : (t : ℕ) → hand-lts.Need-put-requires (
 ) (hand-at t) hand.Post
 hand-put-requires t c κs = search needs
 
--- src/lib.rt:58:16
 hand-add-result : (t : ℕ) → hand-lts.Need-add-result (
   is-over-reads.Asked,
   is-over-reads.Learnt,
@@ -106,7 +102,6 @@ hand-add-result t c =
     let g = c .before .before .before .before .before .before .before .before .pre .1 .1 in
     record { fits = omega (arith, g .places) }
 
--- src/lib.rt:58:9
 hand-same-length : (t : ℕ) → hand-lts.Need-same-length (
   is-over-reads.Asked,
   is-over-reads.Learnt,
@@ -123,7 +118,6 @@ hand-same-length : (t : ℕ) → hand-lts.Need-same-length (
 ) (hand-at t) hand.Post
 hand-same-length t c = search needs
 
--- src/lib.rt:58:9
 hand-returns : (t : ℕ) → hand-lts.Need-returns (
   is-over-reads.Asked,
   is-over-reads.Learnt,
@@ -145,7 +139,6 @@ hand-returns t c =
     let g = c .before .before .before .before .before .before .before .before .pre .1 .1 in
     hands.hand-ends (c .before .before .before .before .before .before .before .before .args .n) s (c .before .before .before .before .before .before .before .before .args .number) (c .before .before .before .before .before .before .before .before .args .left) (c .before .before .before .before .before .before .before .before .args .at) (now (c .before .before .before .before .before .before .before .before .args .w)) nineteen p g _ _ (sym (c .before .before .before .before .before .before .is-over .ensures) ∙ c .before .before .before .before .before .if1 .taken) (c .before .before .before .end-word .ensures) (c .before .before .put .ensures)
 
--- src/lib.rt:60:23
 hand-add-hand : (t : ℕ) → hand-lts.Need-add-hand (
   is-over-reads.Asked,
   is-over-reads.Learnt,
@@ -164,7 +157,6 @@ hand-add-hand t c =
     let g = c .before .before .before .before .pre .1 .1 in
     record { fits = omega (arith, g .places) }
 
--- src/lib.rt:60:34
 hand-with-action-requires : (t : ℕ) → hand-lts.Need-with-action-requires (
   is-over-reads.Asked,
   is-over-reads.Learnt,
@@ -186,7 +178,6 @@ hand-with-action-requires t c κs =
     let g = c .before .before .before .before .pre .1 .1 in
     omega (arith, p .few)
 
--- src/lib.rt:60:59
 hand-mul-hand : (t : ℕ) → hand-lts.Need-mul-hand (
   is-over-reads.Asked,
   is-over-reads.Learnt,
@@ -211,7 +202,6 @@ hand-mul-hand t c =
     let z = hands.some-left (c .before .before .before .before .before .args .n) s (c .before .before .before .before .before .args .left) e nineteen l in
     record { fits = omega (arith, hands.last-left (c .before .before .before .before .before .args .number) (c .before .before .before .before .before .args .left) z (p .small)) }
 
--- src/lib.rt:60:59
 hand-add-hand-2 : (t : ℕ) → hand-lts.Need-add-hand-2 (
   is-over-reads.Asked,
   is-over-reads.Learnt,
@@ -236,7 +226,6 @@ hand-add-hand-2 t c =
     let z = hands.some-left (c .before .before .before .before .before .args .n) s (c .before .before .before .before .before .args .left) e nineteen l in
     record { fits = omega (arith, hands.last-left (c .before .before .before .before .before .args .number) (c .before .before .before .before .before .args .left) z (p .small)) }
 
--- src/lib.rt:60:75
 hand-sub-hand : (t : ℕ) → hand-lts.Need-sub-hand (
   is-over-reads.Asked,
   is-over-reads.Learnt,
@@ -261,7 +250,6 @@ hand-sub-hand t c =
     let z = hands.some-left (c .before .before .before .before .before .args .n) s (c .before .before .before .before .before .args .left) e nineteen l in
     omega (arith, z)
 
--- src/lib.rt:60:9
 hand-hand-requires : (t : ℕ) → hand-lts.Need-hand-requires (
   is-over-reads.Asked,
   is-over-reads.Learnt,
@@ -286,7 +274,6 @@ hand-hand-requires t c κs =
     let z = hands.some-left (c .before .before .before .before .before .args .n) s (c .before .before .before .before .before .args .left) e nineteen l in
     (omega (arith, c .before .before .before .before .before .pre .0, z), (hands.plays-pass (c .before .before .before .before .before .args .n) s _ (c .before .before .before .before .before .args .number) (c .before .before .before .before .before .args .left) nineteen e p l (c .with-action .ensures), hands.at-position (c .before .before .before .before .before .args .n) _ _ _ _ _ (c .with-action .ensures) (hands.first-room (c .before .before .before .before .before .args .n) s (c .before .before .before .before .before .args .number) (c .before .before .before .before .before .args .left) (c .before .before .before .before .before .args .at) (now (c .before .before .before .before .before .args .w)) nineteen p g e)))
 
--- src/lib.rt:61:32
 hand-with-action-requires-2 : (t : ℕ) → hand-lts.Need-with-action-requires-2 (
   is-over-reads.Asked,
   is-over-reads.Learnt,
@@ -308,7 +295,6 @@ hand-with-action-requires-2 t c κs =
     let g = c .before .before .before .before .before .before .before .before .before .pre .1 .1 in
     omega (arith, p .few)
 
--- src/lib.rt:61:56
 hand-mul-hand-2 : (t : ℕ) → hand-lts.Need-mul-hand-2 (
   is-over-reads.Asked,
   is-over-reads.Learnt,
@@ -333,7 +319,6 @@ hand-mul-hand-2 t c =
     let z = hands.some-left (c .before .before .before .before .before .before .before .before .before .before .args .n) s (c .before .before .before .before .before .before .before .before .before .before .args .left) e nineteen l in
     record { fits = omega (arith, hands.last-left (c .before .before .before .before .before .before .before .before .before .before .args .number) (c .before .before .before .before .before .before .before .before .before .before .args .left) z (p .small)) }
 
--- src/lib.rt:61:56
 hand-add-hand-3 : (t : ℕ) → hand-lts.Need-add-hand-3 (
   is-over-reads.Asked,
   is-over-reads.Learnt,
@@ -358,7 +343,6 @@ hand-add-hand-3 t c =
     let z = hands.some-left (c .before .before .before .before .before .before .before .before .before .before .args .n) s (c .before .before .before .before .before .before .before .before .before .before .args .left) e nineteen l in
     record { fits = omega (arith, hands.last-left (c .before .before .before .before .before .before .before .before .before .before .args .number) (c .before .before .before .before .before .before .before .before .before .before .args .left) z (p .small)) }
 
--- src/lib.rt:61:72
 hand-sub-hand-2 : (t : ℕ) → hand-lts.Need-sub-hand-2 (
   is-over-reads.Asked,
   is-over-reads.Learnt,
@@ -383,7 +367,6 @@ hand-sub-hand-2 t c =
     let z = hands.some-left (c .before .before .before .before .before .before .before .before .before .before .args .n) s (c .before .before .before .before .before .before .before .before .before .before .args .left) e nineteen l in
     omega (arith, z)
 
--- src/lib.rt:61:9
 hand-hand-requires-2 : (t : ℕ) → hand-lts.Need-hand-requires-2 (
   is-over-reads.Asked,
   is-over-reads.Learnt,
@@ -408,7 +391,6 @@ hand-hand-requires-2 t c κs =
     let z = hands.some-left (c .before .before .before .before .before .before .before .before .before .before .args .n) s (c .before .before .before .before .before .before .before .before .before .before .args .left) e nineteen l in
     (omega (arith, c .before .before .before .before .before .before .before .before .before .before .pre .0, z), (hands.plays-bet (c .before .before .before .before .before .before .before .before .before .before .args .n) s _ (c .before .before .before .before .before .before .before .before .before .before .args .number) (c .before .before .before .before .before .before .before .before .before .before .args .left) nineteen e p l (c .with-action2 .ensures), hands.at-position (c .before .before .before .before .before .before .before .before .before .before .args .n) _ _ _ _ _ (c .with-action2 .ensures) (hands.second-room (c .before .before .before .before .before .before .before .before .before .before .args .n) s (c .before .before .before .before .before .before .before .before .before .before .args .number) (c .before .before .before .before .before .before .before .before .before .before .args .left) (c .before .before .before .before .before .before .before .before .before .before .args .at) (now (c .before .before .before .before .before .before .before .before .before .before .args .w)) nineteen p g e _ _ (hands.from-position (c .before .before .before .before .before .before .before .before .before .before .args .n) _ _ _ _ _ _ _ (c .before .before .before .before .before .with-action .ensures) (c .before .before .before .before .hand .ensures)))))
 
--- src/lib.rt:62:16
 hand-decision-word-requires : (t : ℕ) → hand-lts.Need-decision-word-requires (
   is-over-reads.Asked,
   is-over-reads.Learnt,
@@ -433,7 +415,6 @@ hand-decision-word-requires t c κs =
     let z = hands.some-left (c .before .before .before .before .before .before .before .before .before .before .before .before .before .before .args .n) s (c .before .before .before .before .before .before .before .before .before .before .before .before .before .before .args .left) e nineteen l in
     (p .least, p .most, hands.last-left (c .before .before .before .before .before .before .before .before .before .before .before .before .before .before .args .number) (c .before .before .before .before .before .before .before .before .before .before .before .before .before .before .args .left) z (p .small), hands.behind-few (c .before .before .before .before .before .before .before .before .before .before .before .before .before .before .args .n) s (c .before .before .before .before .before .before .before .before .before .before .before .before .before .before .args .number) (c .before .before .before .before .before .before .before .before .before .before .before .before .before .before .args .left) (c .before .before .before .before .before .before .before .before .before .before .before .before .before .before .args .at) (now (c .before .before .before .before .before .before .before .before .before .before .before .before .before .before .args .w)) nineteen p g e _ _ (hands.from-position (c .before .before .before .before .before .before .before .before .before .before .before .before .before .before .args .n) _ _ _ _ _ _ _ (c .before .before .before .before .before .before .before .before .before .with-action .ensures) (c .before .before .before .before .before .before .before .before .hand .ensures)) _ _ (hands.from-position (c .before .before .before .before .before .before .before .before .before .before .before .before .before .before .args .n) _ _ _ _ _ _ _ (c .before .before .before .before .with-action2 .ensures) (c .before .before .before .hand2 .ensures)))
 
--- src/lib.rt:62:5
 hand-put-requires-2 : (t : ℕ) → hand-lts.Need-put-requires-2 (
   is-over-reads.Asked,
   is-over-reads.Learnt,
@@ -450,7 +431,6 @@ hand-put-requires-2 : (t : ℕ) → hand-lts.Need-put-requires-2 (
 ) (hand-at t) hand.Post
 hand-put-requires-2 t c κs = search needs
 
--- src/lib.rt:51:1
 hand-same-length-2 : (t : ℕ) → hand-lts.Need-same-length-2 (
   is-over-reads.Asked,
   is-over-reads.Learnt,
@@ -467,7 +447,6 @@ hand-same-length-2 : (t : ℕ) → hand-lts.Need-same-length-2 (
 ) (hand-at t) hand.Post
 hand-same-length-2 t c = search needs
 
--- src/lib.rt:51:1
 hand-returns-2 : (t : ℕ) → hand-lts.Need-returns-2 (
   is-over-reads.Asked,
   is-over-reads.Learnt,

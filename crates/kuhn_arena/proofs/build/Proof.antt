@@ -7,11 +7,9 @@ use Rattle.kuhn_arena.proofs.build.Lts as lts
 use Rattle.kuhn_arena.proofs.deal.Reads as deal-reads
 use Rattle.kuhn_positions.proofs.KuhnState.new.Reads as new-reads
 
--- src/lib.rt:136:19
 new-requires : tie.Need-new-requires
 new-requires c κs = search needs
 
--- src/lib.rt:136:5
 deal-requires : tie.Need-deal-requires
 deal-requires c κs =
     let e = c .new .ensures in
@@ -19,11 +17,9 @@ deal-requires c κs =
     let six = c .before .before .before .pre .1 in
     (starts (c .before .before .before .args .n) two six _ e, start-room (c .before .before .before .args .n) two six _ e _ (c .before .before .before .pre .2))
 
--- src/lib.rt:132:1
 same-length : tie.Need-same-length
 same-length c = search needs
 
--- src/lib.rt:132:1
 returns : tie.Need-returns
 returns c = built-tree (c .before .before .before .before .before .before .args .n) (c .before .before .before .before .before .before .pre .0) (c .before .before .before .before .before .before .pre .1) _ (c .before .before .before .new .ensures) _ _ _ (c .before .before .deal .ensures)
 

@@ -9,15 +9,12 @@ use Rattle.kuhn_arena.proofs.codes.Tie as tie
 use Rattle.kuhn_arena.proofs.codes.Reads as reads
 use Rattle.kuhn_arena.proofs.codes.Lts as lts
 
--- src/lib.rt:149:5
 mul-result : tie.Need-mul-result
 mul-result c = search needs
 
--- src/lib.rt:149:5
 array-read-result : tie.Need-array-read-result
 array-read-result c = search needs
 
--- src/lib.rt:145:1
 returns : tie.Need-returns
 returns c = by-seats (λ n. getD (0 ∷ 0 ∷ 24 ∷ 128 ∷ 640 ∷ 3072 ∷ 14336 ∷ []) n 0 ≡ codeCount n) refl refl refl refl refl (c .args .n) (c .pre .0) (c .pre .1)
 

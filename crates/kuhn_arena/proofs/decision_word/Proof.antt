@@ -10,37 +10,29 @@ use Rattle.kuhn_arena.proofs.decision_word.Lts as lts
 use Rattle.arena.proofs.words.decision.Reads as decision-reads
 use Rattle.kuhn_arena.proofs.card.Reads as card-reads
 
--- src/lib.rt:51:16
 rem-seat : tie.Need-rem-seat
 rem-seat c = search needs
 
--- src/lib.rt:52:25
 add-set : tie.Need-add-set
 add-set c = search needs
 
--- src/lib.rt:52:15
 mul-set : tie.Need-mul-set
 mul-set c = record { fits = omega (arith, set-sum (c .before .before .args .n) (c .before .before .args .number) 0 (c .before .before .pre .1) (c .before .before .pre .2) (omega arith)) }
 
--- src/lib.rt:52:39
 array-read-card : tie.Need-array-read-card
 array-read-card c = let l : c .before .before .args .state .acted % c .before .before .args .n < c .before .before .args .n = mod-lt _ (omega arith) in omega arith
 
--- src/lib.rt:52:34
 card-requires : tie.Need-card-requires
 card-requires c κs = search needs
 
--- src/lib.rt:52:15
 add-set-2 : tie.Need-add-set-2
 add-set-2 c = record { fits = omega (arith, set-sum (c .before .before .before .args .n) (c .before .before .before .args .number) (c .card .result) (c .before .before .before .pre .1) (c .before .before .before .pre .2) (c .card .ensures .1)) }
 
--- src/lib.rt:53:5
 decision-requires : tie.Need-decision-requires
 decision-requires c κs =
     let l : c .before .before .before .args .state .acted % c .before .before .before .args .n < c .before .before .before .args .n = mod-lt _ (omega arith) in
     (omega arith, omega arith, set-sum (c .before .before .before .args .n) (c .before .before .before .args .number) (c .card .result) (c .before .before .before .pre .1) (c .before .before .before .pre .2) (c .card .ensures .1), c .before .before .before .pre .3, omega arith)
 
--- src/lib.rt:46:1
 returns : tie.Need-returns
 returns c = search needs
 

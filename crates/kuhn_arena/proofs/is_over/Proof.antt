@@ -10,19 +10,15 @@ use Rattle.kuhn_arena.proofs.is_over.Reads as reads
 use Rattle.kuhn_arena.proofs.is_over.Lts as lts
 use Rattle.kuhn_rules.proofs.betting.is_terminal.Reads as is-terminal-reads
 
--- src/lib.rt:72:9
 returns : tie.Need-returns
 returns c = sym (or-left _ (eq-eqb _ 0 (c .if1 .taken)))
 
--- src/lib.rt:76:17
 slice-aggregate-is-terminal : tie.Need-slice-aggregate-is-terminal
 slice-aggregate-is-terminal c = search needs
 
--- src/lib.rt:76:5
 is-terminal-requires : tie.Need-is-terminal-requires
 is-terminal-requires c κs = let nineteen : length (c .before .before .before .args .state .history) ≡ 19 = search needs in (omega arith, omega arith, omega arith)
 
--- src/lib.rt:67:1
 returns-2 : tie.Need-returns-2
 returns-2 c = c .is-terminal .ensures ∙ sym (or-rest _ (ne-eqb _ 0 (c .before .before .before .if1 .left)))
 

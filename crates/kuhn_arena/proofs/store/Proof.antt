@@ -11,15 +11,12 @@ use Rattle.arena.proofs.index.index.Reads as index-reads
 use Rattle.kuhn_arena.proofs.build.Reads as build-reads
 use Rattle.kuhn_arena.proofs.codes.Reads as codes-reads
 
--- src/lib.rt:157:9
 build-requires : tie.Need-build-requires
 build-requires c κs = search needs
 
--- src/lib.rt:158:9
 codes-requires : tie.Need-codes-requires
 codes-requires c κs = search needs
 
--- src/lib.rt:159:29
 mul-clear : tie.Need-mul-clear
 mul-clear c =
     let n = c .before .before .before .before .before .before .before .args .n in
@@ -29,7 +26,6 @@ mul-clear c =
     let e = c .before .codes .ensures in
     record { fits = omega (arith, e, start.codes-few n two six) }
 
--- src/lib.rt:159:21
 add-clear : tie.Need-add-clear
 add-clear c =
     let n = c .before .before .before .before .before .before .before .args .n in
@@ -39,11 +35,9 @@ add-clear c =
     let e = c .before .codes .ensures in
     record { fits = omega (arith, r, e, start.codes-few n two six, start.nodes-few n two six) }
 
--- src/lib.rt:159:5
 clear-requires : tie.Need-clear-requires
 clear-requires c κs = search needs
 
--- src/lib.rt:160:5
 index-requires : tie.Need-index-requires
 index-requires c κs =
     let n = c .before .before .before .before .before .before .before .before .before .before .before .args .n in
@@ -53,11 +47,9 @@ index-requires c κs =
     let e = c .before .before .before .before .before .codes .ensures in
     (omega (arith, r, start.nodes-few n two six), omega (arith, e, start.codes-few n two six))
 
--- src/lib.rt:153:1
 same-length : tie.Need-same-length
 same-length c = search needs
 
--- src/lib.rt:153:1
 returns : tie.Need-returns
 returns c =
     let n = c .before .before .before .before .before .before .before .before .before .before .before .before .before .before .args .n in

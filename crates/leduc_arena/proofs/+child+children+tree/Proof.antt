@@ -1,6 +1,7 @@
+-- A tree, the trees below its moves, and the tree below one move: what is still to come falls at each call. Assumes nothing.
 use denote.Ref.{now}
 use mathlib.Core.Path.{_≡_, sym, _∙_, subst}
-use Prim.Native.Nat.{_+_, _*_, _-_, _≤_}
+use Prim.Native.Nat.{_+_, _*_, _-_, _≤_, ℕ, _<_}
 use native.Mathlib.Omega.{arith}
 use borrow.Author.Needs.{needs}
 use Rattle.arena.specs.Built.{Row}
@@ -8,10 +9,11 @@ use Rattle.arena.proofs.Building.{row-none}
 use Rattle.leduc_arena.specs.Codes.{codeOf}
 use Rattle.leduc_arena.specs.Layout.{positionOf, childrenTo}
 use Rattle.leduc_arena.proofs.Going.{short, room-left, end-dealt}
-use Rattle.leduc_arena.proofs.Following as following
-use Prim.Native.Nat.{ℕ, _<_}
 use borrow.Fn.Kinds.{In}
 use borrow.Fn.PlainCycle.{Measures, is, falls, and}
+use Rattle.leduc_arena.proofs.+child+children+tree.{statement}
+use Rattle.leduc_arena.proofs.+child+children+tree.Tie.{close}
+use Rattle.leduc_arena.proofs.Following as following
 use Rattle.leduc_arena.proofs.child.Reads as child
 use Rattle.leduc_arena.proofs.child.Kinds as child-kinds
 use Rattle.leduc_arena.proofs.+child+children+tree.Lts-child as child-lts
@@ -28,8 +30,6 @@ use Rattle.leduc_arena.proofs.moves.moved.Reads as moved-reads
 use Rattle.leduc_arena.proofs.words.end_word.Reads as end-word-reads
 use Rattle.leduc_arena.proofs.words.node_word.Reads as node-word-reads
 use Rattle.leduc_positions.proofs.state.card_due.Reads as card-due-reads
-use Rattle.leduc_arena.proofs.+child+children+tree.{statement}
-use Rattle.leduc_arena.proofs.+child+children+tree.Tie.{close}
 
 abbrev μ-child : Measures 1 child-kinds.ps ℕ
 μ-child κs a = 3 * a .1 .1 .1 .0 + 1
@@ -59,7 +59,6 @@ tree-at t = and 1 tree-kinds.ps (is 1 tree-kinds.ps μ-tree t) tree.Pre
 abbrev tree-below : ℕ → In 1 tree-kinds.ps
 tree-below t = and 1 tree-kinds.ps (falls 1 tree-kinds.ps _<_ μ-tree t) tree.Pre
 
--- src/lib.rt:63:8
 child-is-move-requires : (t : ℕ) → child-lts.Need-is-move-requires (
   is-move-reads.Asked,
   is-move-reads.Learnt,
@@ -70,7 +69,6 @@ child-is-move-requires : (t : ℕ) → child-lts.Need-is-move-requires (
 ) (child-at t) child.Post
 child-is-move-requires t c κs = (short _ _ (c .before .pre .1 .0 .0 .going) .0, short _ _ (c .before .pre .1 .0 .0 .going) .1, short _ _ (c .before .pre .1 .0 .0 .going) .2, c .before .pre .1 .0 .2)
 
--- src/lib.rt:64:28
 child-moved-requires : (t : ℕ) → child-lts.Need-moved-requires (
   is-move-reads.Asked,
   is-move-reads.Learnt,
@@ -81,7 +79,6 @@ child-moved-requires : (t : ℕ) → child-lts.Need-moved-requires (
 ) (child-at t) child.Post
 child-moved-requires t c κs = ((short _ _ (c .before .before .before .before .pre .1 .0 .0 .going) .0, short _ _ (c .before .before .before .before .pre .1 .0 .0 .going) .1, short _ _ (c .before .before .before .before .pre .1 .0 .0 .going) .2, c .before .before .before .before .pre .1 .0 .2), room-left _ _ (c .before .before .before .before .pre .1 .0 .0))
 
--- src/lib.rt:64:9
 child-tree-requires : (t : ℕ) → child-lts.Need-tree-requires (
   is-move-reads.Asked,
   is-move-reads.Learnt,
@@ -96,7 +93,6 @@ child-tree-requires t c κs =
     let f = sym (c .before .before .before .is-move .ensures) ∙ c .before .before .if1 .taken in
     (omega (arith, c .before .before .before .before .before .pre .0), (following.move-goes _ _ _ _ m e f, following.move-room _ _ _ _ m e f _ _ (c .before .before .before .before .before .pre .1 .1)))
 
--- src/lib.rt:64:9
 child-same-length : (t : ℕ) → child-lts.Need-same-length (
   is-move-reads.Asked,
   is-move-reads.Learnt,
@@ -107,7 +103,6 @@ child-same-length : (t : ℕ) → child-lts.Need-same-length (
 ) (child-at t) child.Post
 child-same-length t c = search needs
 
--- src/lib.rt:64:9
 child-returns : (t : ℕ) → child-lts.Need-returns (
   is-move-reads.Asked,
   is-move-reads.Learnt,
@@ -120,7 +115,6 @@ child-returns t c =
     let f = sym (c .before .before .before .before .before .before .is-move .ensures) ∙ c .before .before .before .before .before .if1 .taken in
     following.move-row _ _ _ _ (c .before .before .before .before .before .before .before .before .pre .1 .0 .0) (c .before .before .before .moved .ensures) f _ _ _ _ (c .before .before .tree .ensures)
 
--- src/lib.rt:58:1
 child-returns-2 : (t : ℕ) → child-lts.Need-returns-2 (
   is-move-reads.Asked,
   is-move-reads.Learnt,
@@ -137,7 +131,6 @@ children-Inv-loop w₀ at state left card next₀ x₀ w next x = Row 2 codeOf a
 abbrev children-μ-loop : children-lts.MeasureT-loop
 children-μ-loop w₀ at state left card next₀ x₀ w next x = 6 - x
 
--- src/lib.rt:50:5
 children-loop-holds : (t : ℕ) → children-lts.Need-loop-holds
     (child-below t, child.Post)
     (children-at t)
@@ -146,7 +139,6 @@ children-loop-holds : (t : ℕ) → children-lts.Need-loop-holds
     children-μ-loop
 children-loop-holds t c = (following.row-start (positionOf (c .before .args .state)) (c .before .args .left) (c .before .args .at) (now (c .before .args .w)) (c .before .pre .1 .1), omega arith)
 
--- src/lib.rt:51:9
 children-child-requires : (t : ℕ) → children-lts.Need-child-requires
     (child-below t, child.Post)
     (children-at t)
@@ -157,7 +149,6 @@ children-child-requires t c κs =
     let i = c .before .before .loop .inv in
     (omega (arith, c .before .before .before .before .pre .0), ((c .before .before .before .before .pre .1 .0 .0, c .before .loop-test .taken, c .before .before .before .before .pre .1 .0 .1), following.child-room _ _ _ _ (c .before .before .before .before .pre .1 .1) _ _ _ (c .before .loop-test .taken) (i .0)))
 
--- src/lib.rt:52:9
 children-add-x : (t : ℕ) → children-lts.Need-add-x
     (child-below t, child.Post)
     (children-at t)
@@ -166,7 +157,6 @@ children-add-x : (t : ℕ) → children-lts.Need-add-x
     children-μ-loop
 children-add-x t c = omega (arith, c .before .before .before .before .loop-test .taken)
 
--- src/lib.rt:50:5
 children-loop-less : (t : ℕ) → children-lts.Need-loop-less
     (child-below t, child.Post)
     (children-at t)
@@ -175,7 +165,6 @@ children-loop-less : (t : ℕ) → children-lts.Need-loop-less
     children-μ-loop
 children-loop-less t c = omega (arith, c .before .before .before .before .loop-test .taken)
 
--- src/lib.rt:50:5
 children-loop-again : (t : ℕ) → children-lts.Need-loop-again
     (child-below t, child.Post)
     (children-at t)
@@ -184,7 +173,6 @@ children-loop-again : (t : ℕ) → children-lts.Need-loop-again
     children-μ-loop
 children-loop-again t c = (following.row-on _ _ _ _ (c .before .before .before .before .before .before .before .pre .1 .1) _ _ _ (c .before .before .before .before .loop-test .taken) (c .before .before .before .before .before .loop .inv .0) _ _ (c .before .before .child .ensures), omega (arith, c .before .before .before .before .loop-test .taken))
 
--- src/lib.rt:43:1
 children-same-length : (t : ℕ) → children-lts.Need-same-length
     (child-below t, child.Post)
     (children-at t)
@@ -193,7 +181,6 @@ children-same-length : (t : ℕ) → children-lts.Need-same-length
     children-μ-loop
 children-same-length t c = c .before .loop .inv .0 .kept .long
 
--- src/lib.rt:43:1
 children-returns : (t : ℕ) → children-lts.Need-returns
     (child-below t, child.Post)
     (children-at t)
@@ -205,7 +192,6 @@ children-returns t c =
     let e : c .before .loop .x ≡ 6 = omega (arith, i .1, c .loop-test .left) in
     subst (λ n. Row 2 codeOf (c .before .before .before .args .at) (now (c .before .before .before .args .w)) (c .before .loop .w) (childrenTo (positionOf (c .before .before .before .args .state)) (c .before .before .before .args .left) n) (c .before .loop .next)) e (i .0)
 
--- src/lib.rt:32:9
 tree-card-due-requires : (t : ℕ) → tree-lts.Need-card-due-requires (
   card-due-reads.Asked,
   card-due-reads.Learnt,
@@ -222,7 +208,6 @@ tree-card-due-requires : (t : ℕ) → tree-lts.Need-card-due-requires (
 ) (tree-at t) tree.Post
 tree-card-due-requires t c κs = short _ _ (c .before .pre .1 .0)
 
--- src/lib.rt:33:8
 tree-is-end-requires : (t : ℕ) → tree-lts.Need-is-end-requires (
   card-due-reads.Asked,
   card-due-reads.Learnt,
@@ -239,7 +224,6 @@ tree-is-end-requires : (t : ℕ) → tree-lts.Need-is-end-requires (
 ) (tree-at t) tree.Post
 tree-is-end-requires t c κs = (short _ _ (c .before .before .pre .1 .0) .0, short _ _ (c .before .before .pre .1 .0) .1, short _ _ (c .before .before .pre .1 .0) .2, c .card-due .ensures)
 
--- src/lib.rt:34:20
 tree-end-word-requires : (t : ℕ) → tree-lts.Need-end-word-requires (
   card-due-reads.Asked,
   card-due-reads.Learnt,
@@ -258,7 +242,6 @@ tree-end-word-requires t c κs =
     let u = short _ _ (c .before .before .before .before .before .pre .1 .0) in
     (end-dealt _ _ (c .before .before .before .before .before .pre .1 .0) (sym (c .before .before .is-end .ensures) ∙ c .before .if1 .taken), u .1, u .2)
 
--- src/lib.rt:34:9
 tree-put-requires : (t : ℕ) → tree-lts.Need-put-requires (
   card-due-reads.Asked,
   card-due-reads.Learnt,
@@ -275,7 +258,6 @@ tree-put-requires : (t : ℕ) → tree-lts.Need-put-requires (
 ) (tree-at t) tree.Post
 tree-put-requires t c κs = search needs
 
--- src/lib.rt:35:16
 tree-add-result : (t : ℕ) → tree-lts.Need-add-result (
   card-due-reads.Asked,
   card-due-reads.Learnt,
@@ -292,7 +274,6 @@ tree-add-result : (t : ℕ) → tree-lts.Need-add-result (
 ) (tree-at t) tree.Post
 tree-add-result t c = record { fits = omega (arith, c .before .before .before .before .before .before .before .before .before .pre .1 .1 .places) }
 
--- src/lib.rt:35:9
 tree-same-length : (t : ℕ) → tree-lts.Need-same-length (
   card-due-reads.Asked,
   card-due-reads.Learnt,
@@ -309,7 +290,6 @@ tree-same-length : (t : ℕ) → tree-lts.Need-same-length (
 ) (tree-at t) tree.Post
 tree-same-length t c = search needs
 
--- src/lib.rt:35:9
 tree-returns : (t : ℕ) → tree-lts.Need-returns (
   card-due-reads.Asked,
   card-due-reads.Learnt,
@@ -326,7 +306,6 @@ tree-returns : (t : ℕ) → tree-lts.Need-returns (
 ) (tree-at t) tree.Post
 tree-returns t c = following.lays-end _ _ _ _ (c .before .before .before .before .before .before .before .before .before .pre .1 .0) (c .before .before .before .before .before .before .before .before .before .pre .1 .1) _ _ (sym (c .before .before .before .before .before .before .is-end .ensures) ∙ c .before .before .before .before .before .if1 .taken) (c .before .before .before .end-word .ensures) (c .before .before .put .ensures)
 
--- src/lib.rt:37:28
 tree-add-children : (t : ℕ) → tree-lts.Need-add-children (
   card-due-reads.Asked,
   card-due-reads.Learnt,
@@ -343,7 +322,6 @@ tree-add-children : (t : ℕ) → tree-lts.Need-add-children (
 ) (tree-at t) tree.Post
 tree-add-children t c = record { fits = omega (arith, c .before .before .before .before .before .pre .1 .1 .places) }
 
--- src/lib.rt:37:43
 tree-sub-children : (t : ℕ) → tree-lts.Need-sub-children (
   card-due-reads.Asked,
   card-due-reads.Learnt,
@@ -360,7 +338,6 @@ tree-sub-children : (t : ℕ) → tree-lts.Need-sub-children (
 ) (tree-at t) tree.Post
 tree-sub-children t c = omega (arith, following.some-left _ _ _ _ (c .before .before .before .before .before .pre .1 .0) (c .before .before .before .before .before .pre .1 .1) (sym (c .before .before .is-end .ensures) ∙ c .before .if1 .left))
 
--- src/lib.rt:37:9
 tree-children-requires : (t : ℕ) → tree-lts.Need-children-requires (
   card-due-reads.Asked,
   card-due-reads.Learnt,
@@ -381,7 +358,6 @@ tree-children-requires t c κs =
     let e = sym (c .before .before .is-end .ensures) ∙ c .before .if1 .left in
     (omega (arith, c .before .before .before .before .before .pre .0, following.some-left _ _ _ _ p g e), ((following.moving _ _ _ _ p g e, c .before .before .before .card-due .ensures), following.row-room _ _ _ _ p g e))
 
--- src/lib.rt:38:33
 tree-sub-node-word : (t : ℕ) → tree-lts.Need-sub-node-word (
   card-due-reads.Asked,
   card-due-reads.Learnt,
@@ -398,7 +374,6 @@ tree-sub-node-word : (t : ℕ) → tree-lts.Need-sub-node-word (
 ) (tree-at t) tree.Post
 tree-sub-node-word t c = omega (arith, following.some-left _ _ _ _ (c .before .before .before .before .before .before .before .before .before .pre .1 .0) (c .before .before .before .before .before .before .before .before .before .pre .1 .1) (sym (c .before .before .before .before .before .before .is-end .ensures) ∙ c .before .before .before .before .before .if1 .left))
 
--- src/lib.rt:38:16
 tree-node-word-requires : (t : ℕ) → tree-lts.Need-node-word-requires (
   card-due-reads.Asked,
   card-due-reads.Learnt,
@@ -419,7 +394,6 @@ tree-node-word-requires t c κs =
     let e = sym (c .before .before .before .before .before .before .is-end .ensures) ∙ c .before .before .before .before .before .if1 .left in
     (following.moving _ _ _ _ p g e, following.behind-few _ _ _ _ p g e _ _ (c .before .before .before .children .ensures), c .before .before .before .before .before .before .before .card-due .ensures)
 
--- src/lib.rt:38:5
 tree-put-requires-2 : (t : ℕ) → tree-lts.Need-put-requires-2 (
   card-due-reads.Asked,
   card-due-reads.Learnt,
@@ -436,7 +410,6 @@ tree-put-requires-2 : (t : ℕ) → tree-lts.Need-put-requires-2 (
 ) (tree-at t) tree.Post
 tree-put-requires-2 t c κs = search needs
 
--- src/lib.rt:27:1
 tree-same-length-2 : (t : ℕ) → tree-lts.Need-same-length-2 (
   card-due-reads.Asked,
   card-due-reads.Learnt,
@@ -453,7 +426,6 @@ tree-same-length-2 : (t : ℕ) → tree-lts.Need-same-length-2 (
 ) (tree-at t) tree.Post
 tree-same-length-2 t c = search needs
 
--- src/lib.rt:27:1
 tree-returns-2 : (t : ℕ) → tree-lts.Need-returns-2 (
   card-due-reads.Asked,
   card-due-reads.Learnt,

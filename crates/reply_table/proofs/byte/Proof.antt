@@ -1,21 +1,17 @@
+-- A byte, or 0 where there is none. Assumes nothing.
 use denote.Ref.{now}
 use mathlib.Core.Path.{sym}
 use lib.ListN.{List·getD-eq-default}
 use borrow.Author.Needs.{needs}
 use Rattle.reply_table.proofs.byte.Statement.{statement}
 use Rattle.reply_table.proofs.byte.Tie as tie
-use Rattle.reply_table.proofs.byte.Reads as reads
-use Rattle.reply_table.proofs.byte.Lts as lts
 
--- src/lib.rt:23:26
 shared-slice-read-result : tie.Need-shared-slice-read-result
 shared-slice-read-result c = search needs
 
--- src/lib.rt:20:1
 returns : tie.Need-returns
 returns c = search needs
 
--- src/lib.rt:20:1
 returns-2 : tie.Need-returns-2
 returns-2 c = sym (List·getD-eq-default (now (c .before .args .table)) 0 (c .if1 .left))
 

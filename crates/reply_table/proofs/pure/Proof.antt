@@ -1,21 +1,17 @@
+-- All parts on the choice. Assumes nothing.
 use borrow.Author.Tests.{eq-eqb, ne-eqb}
 use mathlib.Core.Path.{sym, ap}
 use mathlib.Core.Bool.{cond}
 use borrow.Author.Needs.{needs}
 use Rattle.reply_table.proofs.pure.Statement.{statement}
 use Rattle.reply_table.proofs.pure.Tie as tie
-use Rattle.reply_table.proofs.pure.Reads as reads
-use Rattle.reply_table.proofs.pure.Lts as lts
 
--- src/lib.rt:40:17
 cast-result : tie.Need-cast-result
 cast-result c = search needs
 
--- src/lib.rt:36:1
 returns : tie.Need-returns
 returns c = ap (λ t. cond t (c .before .args .d) 0) (sym (eq-eqb (c .before .args .a) (c .before .args .c) (c .if1 .taken)))
 
--- src/lib.rt:36:1
 returns-2 : tie.Need-returns-2
 returns-2 c = ap (λ t. cond t (c .before .args .d) 0) (sym (ne-eqb (c .before .args .a) (c .before .args .c) (c .if1 .left)))
 

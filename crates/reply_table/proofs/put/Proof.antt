@@ -1,24 +1,19 @@
+-- A byte written, where there is a place for it. Assumes nothing.
 use lib.Seq.{set-out}
 use mathlib.Core.Path.{sym}
 use borrow.Author.Needs.{needs}
 use Rattle.reply_table.proofs.put.Statement.{statement}
 use Rattle.reply_table.proofs.put.Tie as tie
-use Rattle.reply_table.proofs.put.Reads as reads
-use Rattle.reply_table.proofs.put.Lts as lts
 
--- src/lib.rt:31:9
 slice-write-out : tie.Need-slice-write-out
 slice-write-out c = search needs
 
--- src/lib.rt:27:1
 same-length : tie.Need-same-length
 same-length c = search needs
 
--- src/lib.rt:27:1
 returns : tie.Need-returns
 returns c = search needs
 
--- src/lib.rt:27:1
 returns-2 : tie.Need-returns-2
 returns-2 c = sym (set-out _ _ _ (c .if1 .left))
 

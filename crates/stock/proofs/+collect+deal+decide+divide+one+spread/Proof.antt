@@ -1,15 +1,16 @@
+-- The units of each node, from the root down: the remaining depth falls. Assumes nothing.
 use Prim.Native.Nat.{ℕ, _+_, _-_, _*_, _≤_, _<_}
 use denote.Ref.{now}
-use mathlib.Core.Path.{refl}
-use mathlib.Core.Path.{_≡_, sym, _∙_}
+use mathlib.Core.Path.{refl, _≡_, sym, _∙_}
 use native.Mathlib.Omega.{arith}
 use borrow.Author.Needs.{needs}
-use Rattle.units.proofs.Passing as passing
 use Rattle.stock.specs.Collected.{Storable, Each, Shared}
-use Rattle.stock.proofs.Storing as storing
-use Prim.Native.Nat.{ℕ, _<_}
 use borrow.Fn.Kinds.{In}
 use borrow.Fn.PlainCycle.{Measures, is, falls, and}
+use Rattle.stock.proofs.+collect+deal+decide+divide+one+spread.{statement}
+use Rattle.stock.proofs.+collect+deal+decide+divide+one+spread.Tie.{close}
+use Rattle.units.proofs.Passing as passing
+use Rattle.stock.proofs.Storing as storing
 use Rattle.stock.proofs.collect.Reads as collect
 use Rattle.stock.proofs.collect.Kinds as collect-kinds
 use Rattle.stock.proofs.+collect+deal+decide+divide+one+spread.Lts-collect as collect-lts
@@ -38,8 +39,6 @@ use Rattle.arena.proofs.words.put.Reads as put-reads
 use Rattle.arena.proofs.words.set.Reads as set-reads
 use Rattle.arena.proofs.words.word.Reads as word-reads
 use Rattle.units.proofs.shares.share.Reads as share-reads
-use Rattle.stock.proofs.+collect+deal+decide+divide+one+spread.{statement}
-use Rattle.stock.proofs.+collect+deal+decide+divide+one+spread.Tie.{close}
 
 abbrev μ-collect : Measures 2 collect-kinds.ps ℕ
 μ-collect κs a = 4 * a .1 .1 .1 .1 .1 .1 .1 .0
@@ -95,7 +94,6 @@ spread-at t = and 2 spread-kinds.ps (is 2 spread-kinds.ps μ-spread t) spread.Pr
 abbrev spread-below : ℕ → In 2 spread-kinds.ps
 spread-below t = and 2 spread-kinds.ps (falls 2 spread-kinds.ps _<_ μ-spread t) spread.Pre
 
--- src/lib.rt:35:9
 collect-returns : (t : ℕ) → collect-lts.Need-returns (
   put-reads.Asked,
   put-reads.Learnt,
@@ -112,7 +110,6 @@ collect-returns : (t : ℕ) → collect-lts.Need-returns (
 ) (collect-at t) collect.Post
 collect-returns t c = storing.node-none _ _ _ _ _ _ _ _ (c .if1 .taken)
 
--- src/lib.rt:37:12
 collect-add-put : (t : ℕ) → collect-lts.Need-add-put (
   put-reads.Asked,
   put-reads.Learnt,
@@ -129,7 +126,6 @@ collect-add-put : (t : ℕ) → collect-lts.Need-add-put (
 ) (collect-at t) collect.Post
 collect-add-put t c = record { fits = omega (arith, c .before .before .before .before .pre .1 .base, c .before .before .before .before .pre .1 .walk .place) }
 
--- src/lib.rt:37:5
 collect-put-requires : (t : ℕ) → collect-lts.Need-put-requires (
   put-reads.Asked,
   put-reads.Learnt,
@@ -146,7 +142,6 @@ collect-put-requires : (t : ℕ) → collect-lts.Need-put-requires (
 ) (collect-at t) collect.Post
 collect-put-requires t c κs = search needs
 
--- src/lib.rt:38:9
 collect-word-requires : (t : ℕ) → collect-lts.Need-word-requires (
   put-reads.Asked,
   put-reads.Learnt,
@@ -163,7 +158,6 @@ collect-word-requires : (t : ℕ) → collect-lts.Need-word-requires (
 ) (collect-at t) collect.Post
 collect-word-requires t c κs = search needs
 
--- src/lib.rt:39:9
 collect-kind-requires : (t : ℕ) → collect-lts.Need-kind-requires (
   put-reads.Asked,
   put-reads.Learnt,
@@ -180,7 +174,6 @@ collect-kind-requires : (t : ℕ) → collect-lts.Need-kind-requires (
 ) (collect-at t) collect.Post
 collect-kind-requires t c κs = search needs
 
--- src/lib.rt:41:9
 collect-same-length : (t : ℕ) → collect-lts.Need-same-length (
   put-reads.Asked,
   put-reads.Learnt,
@@ -197,7 +190,6 @@ collect-same-length : (t : ℕ) → collect-lts.Need-same-length (
 ) (collect-at t) collect.Post
 collect-same-length t c = search needs
 
--- src/lib.rt:41:9
 collect-returns-2 : (t : ℕ) → collect-lts.Need-returns-2 (
   put-reads.Asked,
   put-reads.Learnt,
@@ -214,7 +206,6 @@ collect-returns-2 : (t : ℕ) → collect-lts.Need-returns-2 (
 ) (collect-at t) collect.Post
 collect-returns-2 t c = storing.node-end _ _ _ _ _ _ _ _ _ _ (c .before .before .before .before .before .before .put .ensures) (c .before .before .word .ensures) (sym (c .before .kind .ensures) ∙ c .if2 .taken)
 
--- src/lib.rt:44:24
 collect-add-deal : (t : ℕ) → collect-lts.Need-add-deal (
   put-reads.Asked,
   put-reads.Learnt,
@@ -231,7 +222,6 @@ collect-add-deal : (t : ℕ) → collect-lts.Need-add-deal (
 ) (collect-at t) collect.Post
 collect-add-deal t c = record { fits = omega (arith, c .before .before .before .before .before .before .before .before .before .before .before .before .before .pre .1 .walk .place) }
 
--- src/lib.rt:44:31
 collect-next-requires : (t : ℕ) → collect-lts.Need-next-requires (
   put-reads.Asked,
   put-reads.Learnt,
@@ -248,7 +238,6 @@ collect-next-requires : (t : ℕ) → collect-lts.Need-next-requires (
 ) (collect-at t) collect.Post
 collect-next-requires t c κs = search needs
 
--- src/lib.rt:44:59
 collect-sub-deal : (t : ℕ) → collect-lts.Need-sub-deal (
   put-reads.Asked,
   put-reads.Learnt,
@@ -265,7 +254,6 @@ collect-sub-deal : (t : ℕ) → collect-lts.Need-sub-deal (
 ) (collect-at t) collect.Post
 collect-sub-deal t c = let z = c .before .before .before .before .before .before .before .before .before .before .before .if1 .left in omega (arith, z)
 
--- src/lib.rt:44:9
 collect-deal-requires : (t : ℕ) → collect-lts.Need-deal-requires (
   put-reads.Asked,
   put-reads.Learnt,
@@ -284,7 +272,6 @@ collect-deal-requires t c κs =
     let z = c .before .before .before .before .before .before .before .before .before .before .before .if1 .left in
     (omega (arith, c .before .before .before .before .before .before .before .before .before .before .before .before .before .before .pre .0, z), storing.store-down _ _ _ _ _ (c .before .before .before .before .before .before .before .before .before .before .before .before .before .before .pre .1) z)
 
--- src/lib.rt:45:9
 collect-same-length-2 : (t : ℕ) → collect-lts.Need-same-length-2 (
   put-reads.Asked,
   put-reads.Learnt,
@@ -301,7 +288,6 @@ collect-same-length-2 : (t : ℕ) → collect-lts.Need-same-length-2 (
 ) (collect-at t) collect.Post
 collect-same-length-2 t c = search needs
 
--- src/lib.rt:45:9
 collect-returns-3 : (t : ℕ) → collect-lts.Need-returns-3 (
   put-reads.Asked,
   put-reads.Learnt,
@@ -318,7 +304,6 @@ collect-returns-3 : (t : ℕ) → collect-lts.Need-returns-3 (
 ) (collect-at t) collect.Post
 collect-returns-3 t c = storing.node-chance _ _ _ _ _ _ _ _ _ _ (c .before .before .before .before .before .before .before .before .before .before .before .before .put .ensures) (c .before .before .before .before .before .before .before .before .word .ensures) _ _ (sym (c .before .before .before .before .before .before .before .kind .ensures) ∙ c .before .before .before .before .before .if3 .taken) (c .before .before .before .next .ensures) (c .before .before .deal .ensures)
 
--- src/lib.rt:47:22
 collect-add-decide : (t : ℕ) → collect-lts.Need-add-decide (
   put-reads.Asked,
   put-reads.Learnt,
@@ -335,7 +320,6 @@ collect-add-decide : (t : ℕ) → collect-lts.Need-add-decide (
 ) (collect-at t) collect.Post
 collect-add-decide t c = record { fits = omega (arith, c .before .before .before .before .before .before .before .before .before .before .before .before .before .pre .1 .walk .place) }
 
--- src/lib.rt:47:51
 collect-sub-decide : (t : ℕ) → collect-lts.Need-sub-decide (
   put-reads.Asked,
   put-reads.Learnt,
@@ -352,7 +336,6 @@ collect-sub-decide : (t : ℕ) → collect-lts.Need-sub-decide (
 ) (collect-at t) collect.Post
 collect-sub-decide t c = let z = c .before .before .before .before .before .before .before .before .before .before .if1 .left in omega (arith, z)
 
--- src/lib.rt:47:5
 collect-decide-requires : (t : ℕ) → collect-lts.Need-decide-requires (
   put-reads.Asked,
   put-reads.Learnt,
@@ -371,7 +354,6 @@ collect-decide-requires t c κs =
     let z = c .before .before .before .before .before .before .before .before .before .before .if1 .left in
     (omega (arith, c .before .before .before .before .before .before .before .before .before .before .before .before .before .pre .0, z), storing.store-down _ _ _ _ _ (c .before .before .before .before .before .before .before .before .before .before .before .before .before .pre .1) z)
 
--- src/lib.rt:21:1
 collect-same-length-3 : (t : ℕ) → collect-lts.Need-same-length-3 (
   put-reads.Asked,
   put-reads.Learnt,
@@ -388,7 +370,6 @@ collect-same-length-3 : (t : ℕ) → collect-lts.Need-same-length-3 (
 ) (collect-at t) collect.Post
 collect-same-length-3 t c = search needs
 
--- src/lib.rt:21:1
 collect-returns-4 : (t : ℕ) → collect-lts.Need-returns-4 (
   put-reads.Asked,
   put-reads.Learnt,
@@ -405,7 +386,6 @@ collect-returns-4 : (t : ℕ) → collect-lts.Need-returns-4 (
 ) (collect-at t) collect.Post
 collect-returns-4 t c = storing.node-decides _ _ _ _ _ _ _ _ _ _ (c .before .before .before .before .before .before .before .before .before .before .before .put .ensures) (c .before .before .before .before .before .before .before .word .ensures) _ (λ q. c .before .before .before .before .before .if2 .left (c .before .before .before .before .before .before .kind .ensures ∙ q)) (λ q. c .before .before .before .before .if3 .left (c .before .before .before .before .before .before .kind .ensures ∙ q)) (c .before .before .decide .ensures)
 
--- src/lib.rt:65:9
 deal-fan-requires : (t : ℕ) → deal-lts.Need-fan-requires (
   fan-reads.Asked,
   fan-reads.Learnt,
@@ -414,7 +394,6 @@ deal-fan-requires : (t : ℕ) → deal-lts.Need-fan-requires (
 ) (deal-at t) deal.Post
 deal-fan-requires t c κs = omega (arith, c .before .before .before .pre .1 .walk .place)
 
--- src/lib.rt:67:9
 deal-same-length : (t : ℕ) → deal-lts.Need-same-length (
   fan-reads.Asked,
   fan-reads.Learnt,
@@ -423,7 +402,6 @@ deal-same-length : (t : ℕ) → deal-lts.Need-same-length (
 ) (deal-at t) deal.Post
 deal-same-length t c = search needs
 
--- src/lib.rt:67:9
 deal-returns : (t : ℕ) → deal-lts.Need-returns (
   fan-reads.Asked,
   fan-reads.Learnt,
@@ -432,7 +410,6 @@ deal-returns : (t : ℕ) → deal-lts.Need-returns (
 ) (deal-at t) deal.Post
 deal-returns t c = storing.deal-none _ _ _ _ _ _ _ _ _ _ (c .before .fan .ensures) (c .if1 .taken)
 
--- src/lib.rt:69:30
 deal-div-spread : (t : ℕ) → deal-lts.Need-div-spread (
   fan-reads.Asked,
   fan-reads.Learnt,
@@ -441,7 +418,6 @@ deal-div-spread : (t : ℕ) → deal-lts.Need-div-spread (
 ) (deal-at t) deal.Post
 deal-div-spread t c = omega (arith, c .before .if1 .left)
 
--- src/lib.rt:69:5
 deal-spread-requires : (t : ℕ) → deal-lts.Need-spread-requires (
   fan-reads.Asked,
   fan-reads.Learnt,
@@ -450,7 +426,6 @@ deal-spread-requires : (t : ℕ) → deal-lts.Need-spread-requires (
 ) (deal-at t) deal.Post
 deal-spread-requires t c κs = (omega (arith, c .before .before .before .before .before .before .pre .0), storing.store-here _ _ _ _ _ _ (c .before .before .before .before .before .before .pre .1) (passing.quotient-few _ _ (c .before .before .before .before .before .before .pre .1 .walk .units)))
 
--- src/lib.rt:51:1
 deal-same-length-2 : (t : ℕ) → deal-lts.Need-same-length-2 (
   fan-reads.Asked,
   fan-reads.Learnt,
@@ -459,7 +434,6 @@ deal-same-length-2 : (t : ℕ) → deal-lts.Need-same-length-2 (
 ) (deal-at t) deal.Post
 deal-same-length-2 t c = search needs
 
--- src/lib.rt:51:1
 deal-returns-2 : (t : ℕ) → deal-lts.Need-returns-2 (
   fan-reads.Asked,
   fan-reads.Learnt,
@@ -468,7 +442,6 @@ deal-returns-2 : (t : ℕ) → deal-lts.Need-returns-2 (
 ) (deal-at t) deal.Post
 deal-returns-2 t c = storing.deal-some _ _ _ _ _ _ _ _ _ _ (c .before .before .before .before .before .fan .ensures) _ (c .before .before .spread .ensures)
 
--- src/lib.rt:87:8
 decide-actor-requires : (t : ℕ) → decide-lts.Need-actor-requires (
   actor-reads.Asked,
   actor-reads.Learnt,
@@ -485,7 +458,6 @@ decide-actor-requires : (t : ℕ) → decide-lts.Need-actor-requires (
 ) (decide-at t) decide.Post
 decide-actor-requires t c κs = search needs
 
--- src/lib.rt:88:29
 decide-next-requires : (t : ℕ) → decide-lts.Need-next-requires (
   actor-reads.Asked,
   actor-reads.Learnt,
@@ -502,7 +474,6 @@ decide-next-requires : (t : ℕ) → decide-lts.Need-next-requires (
 ) (decide-at t) decide.Post
 decide-next-requires t c κs = search needs
 
--- src/lib.rt:88:9
 decide-spread-requires : (t : ℕ) → decide-lts.Need-spread-requires (
   actor-reads.Asked,
   actor-reads.Learnt,
@@ -519,7 +490,6 @@ decide-spread-requires : (t : ℕ) → decide-lts.Need-spread-requires (
 ) (decide-at t) decide.Post
 decide-spread-requires t c κs = (omega (arith, c .before .before .before .before .before .before .pre .0), c .before .before .before .before .before .before .pre .1)
 
--- src/lib.rt:89:9
 decide-same-length : (t : ℕ) → decide-lts.Need-same-length (
   actor-reads.Asked,
   actor-reads.Learnt,
@@ -536,7 +506,6 @@ decide-same-length : (t : ℕ) → decide-lts.Need-same-length (
 ) (decide-at t) decide.Post
 decide-same-length t c = search needs
 
--- src/lib.rt:89:9
 decide-returns : (t : ℕ) → decide-lts.Need-returns (
   actor-reads.Asked,
   actor-reads.Learnt,
@@ -553,7 +522,6 @@ decide-returns : (t : ℕ) → decide-lts.Need-returns (
 ) (decide-at t) decide.Post
 decide-returns t c = storing.decide-own _ _ (c .before .before .before .before .before .before .before .before .before .args .seat) _ _ _ _ _ _ _ _ (sym (c .before .before .before .before .before .before .actor .ensures) ∙ c .before .before .before .before .before .if1 .taken) (c .before .before .before .next .ensures) (c .before .before .spread .ensures)
 
--- src/lib.rt:91:9
 decide-set-requires : (t : ℕ) → decide-lts.Need-set-requires (
   actor-reads.Asked,
   actor-reads.Learnt,
@@ -570,7 +538,6 @@ decide-set-requires : (t : ℕ) → decide-lts.Need-set-requires (
 ) (decide-at t) decide.Post
 decide-set-requires t c κs = search needs
 
--- src/lib.rt:92:23
 decide-actions-requires : (t : ℕ) → decide-lts.Need-actions-requires (
   actor-reads.Asked,
   actor-reads.Learnt,
@@ -587,7 +554,6 @@ decide-actions-requires : (t : ℕ) → decide-lts.Need-actions-requires (
 ) (decide-at t) decide.Post
 decide-actions-requires t c κs = search needs
 
--- src/lib.rt:92:15
 decide-add-end : (t : ℕ) → decide-lts.Need-add-end (
   actor-reads.Asked,
   actor-reads.Learnt,
@@ -604,7 +570,6 @@ decide-add-end : (t : ℕ) → decide-lts.Need-add-end (
 ) (decide-at t) decide.Post
 decide-add-end t c = record { fits = omega (arith, c .before .set .ensures, c .actions .ensures) }
 
--- src/lib.rt:94:9
 decide-returns-2 : (t : ℕ) → decide-lts.Need-returns-2 (
   actor-reads.Asked,
   actor-reads.Learnt,
@@ -621,7 +586,6 @@ decide-returns-2 : (t : ℕ) → decide-lts.Need-returns-2 (
 ) (decide-at t) decide.Post
 decide-returns-2 t c = storing.decide-none _ _ _ _ _ _ _ _ _ (omega (arith, c .before .before .set .ensures, c .before .actions .ensures, c .if2 .taken))
 
--- src/lib.rt:96:5
 decide-divide-requires : (t : ℕ) → decide-lts.Need-divide-requires (
   actor-reads.Asked,
   actor-reads.Learnt,
@@ -638,7 +602,6 @@ decide-divide-requires : (t : ℕ) → decide-lts.Need-divide-requires (
 ) (decide-at t) decide.Post
 decide-divide-requires t c κs = (omega (arith, c .before .before .before .before .before .before .before .before .pre .0), (c .before .before .before .before .before .before .before .before .pre .1, omega arith, omega (arith, c .before .if2 .left)))
 
--- src/lib.rt:73:1
 decide-same-length-2 : (t : ℕ) → decide-lts.Need-same-length-2 (
   actor-reads.Asked,
   actor-reads.Learnt,
@@ -655,7 +618,6 @@ decide-same-length-2 : (t : ℕ) → decide-lts.Need-same-length-2 (
 ) (decide-at t) decide.Post
 decide-same-length-2 t c = search needs
 
--- src/lib.rt:73:1
 decide-returns-3 : (t : ℕ) → decide-lts.Need-returns-3 (
   actor-reads.Asked,
   actor-reads.Learnt,
@@ -678,7 +640,6 @@ divide-Inv-loop w₀ table a first end u seat d units depth each at₀ action₀
 abbrev divide-μ-loop : divide-lts.MeasureT-loop
 divide-μ-loop w₀ table a first end u seat d units depth each at₀ action₀ w at action = end - first - action
 
--- src/lib.rt:163:16
 divide-div-each : (t : ℕ) → divide-lts.Need-div-each (
   share-reads.Asked,
   share-reads.Learnt,
@@ -689,7 +650,6 @@ divide-div-each : (t : ℕ) → divide-lts.Need-div-each (
 ) (divide-at t) divide.Post divide-Inv-loop divide-μ-loop
 divide-div-each t c = omega (arith, c .before .before .pre .1 .0 .walk .least)
 
--- src/lib.rt:166:5
 divide-loop-holds : (t : ℕ) → divide-lts.Need-loop-holds (
   share-reads.Asked,
   share-reads.Learnt,
@@ -700,7 +660,6 @@ divide-loop-holds : (t : ℕ) → divide-lts.Need-loop-holds (
 ) (divide-at t) divide.Post divide-Inv-loop divide-μ-loop
 divide-loop-holds t c = (storing.shared-start _ _ _ _ _ _ _ _ _ _, c .before .before .pre .1 .0, omega arith)
 
--- src/lib.rt:166:20
 divide-sub-loop : (t : ℕ) → divide-lts.Need-sub-loop (
   share-reads.Asked,
   share-reads.Learnt,
@@ -711,7 +670,6 @@ divide-sub-loop : (t : ℕ) → divide-lts.Need-sub-loop (
 ) (divide-at t) divide.Post divide-Inv-loop divide-μ-loop
 divide-sub-loop t c = c .before .before .before .pre .1 .1
 
--- src/lib.rt:167:26
 divide-sub-share : (t : ℕ) → divide-lts.Need-sub-share (
   share-reads.Asked,
   share-reads.Learnt,
@@ -722,7 +680,6 @@ divide-sub-share : (t : ℕ) → divide-lts.Need-sub-share (
 ) (divide-at t) divide.Post divide-Inv-loop divide-μ-loop
 divide-sub-share t c = c .before .before .before .before .pre .1 .1
 
--- src/lib.rt:167:26
 divide-part-share-start : (t : ℕ) → divide-lts.Need-part-share-start (
   share-reads.Asked,
   share-reads.Learnt,
@@ -733,7 +690,6 @@ divide-part-share-start : (t : ℕ) → divide-lts.Need-part-share-start (
 ) (divide-at t) divide.Post divide-Inv-loop divide-μ-loop
 divide-part-share-start t c = search needs
 
--- src/lib.rt:167:26
 divide-part-share-end : (t : ℕ) → divide-lts.Need-part-share-end (
   share-reads.Asked,
   share-reads.Learnt,
@@ -744,7 +700,6 @@ divide-part-share-end : (t : ℕ) → divide-lts.Need-part-share-end (
 ) (divide-at t) divide.Post divide-Inv-loop divide-μ-loop
 divide-part-share-end t c = search needs
 
--- src/lib.rt:167:13
 divide-share-requires : (t : ℕ) → divide-lts.Need-share-requires (
   share-reads.Asked,
   share-reads.Learnt,
@@ -755,7 +710,6 @@ divide-share-requires : (t : ℕ) → divide-lts.Need-share-requires (
 ) (divide-at t) divide.Post divide-Inv-loop divide-μ-loop
 divide-share-requires t c κs = (rw (passing.part-length (now (c .before .before .before .before .before .args .table)) (c .before .before .before .before .before .args .first) (c .before .before .before .before .before .args .end) (c .before .before .before .before .before .pre .1 .1) (c .before .before .before .before .before .pre .1 .2)) (c .before .loop-test .taken), c .before .before .before .before .before .pre .1 .0 .walk .units, c .before .before .before .before .before .pre .1 .0 .walk .least, c .before .before .before .before .before .pre .1 .0 .walk .most, refl)
 
--- src/lib.rt:168:9
 divide-one-requires : (t : ℕ) → divide-lts.Need-one-requires (
   share-reads.Asked,
   share-reads.Learnt,
@@ -766,7 +720,6 @@ divide-one-requires : (t : ℕ) → divide-lts.Need-one-requires (
 ) (divide-at t) divide.Post divide-Inv-loop divide-μ-loop
 divide-one-requires t c κs = (omega (arith, c .before .before .before .before .before .before .before .pre .0), storing.store-here _ _ _ _ _ _ (c .before .before .before .before .loop .inv .1) (c .before .share .ensures .0))
 
--- src/lib.rt:169:9
 divide-behind-requires : (t : ℕ) → divide-lts.Need-behind-requires (
   share-reads.Asked,
   share-reads.Learnt,
@@ -777,7 +730,6 @@ divide-behind-requires : (t : ℕ) → divide-lts.Need-behind-requires (
 ) (divide-at t) divide.Post divide-Inv-loop divide-μ-loop
 divide-behind-requires t c κs = omega (arith, c .before .before .before .before .before .before .before .before .loop .inv .1 .walk .place)
 
--- src/lib.rt:170:9
 divide-add-action : (t : ℕ) → divide-lts.Need-add-action (
   share-reads.Asked,
   share-reads.Learnt,
@@ -788,7 +740,6 @@ divide-add-action : (t : ℕ) → divide-lts.Need-add-action (
 ) (divide-at t) divide.Post divide-Inv-loop divide-μ-loop
 divide-add-action t c = record { fits = omega (arith, c .before .before .before .before .before .before .before .before .loop-test .taken) }
 
--- src/lib.rt:166:5
 divide-loop-less : (t : ℕ) → divide-lts.Need-loop-less (
   share-reads.Asked,
   share-reads.Learnt,
@@ -799,7 +750,6 @@ divide-loop-less : (t : ℕ) → divide-lts.Need-loop-less (
 ) (divide-at t) divide.Post divide-Inv-loop divide-μ-loop
 divide-loop-less t c = omega (arith, c .before .before .before .before .before .before .before .before .loop-test .taken)
 
--- src/lib.rt:166:5
 divide-loop-again : (t : ℕ) → divide-lts.Need-loop-again (
   share-reads.Asked,
   share-reads.Learnt,
@@ -813,7 +763,6 @@ divide-loop-again t c =
     let b = c .behind .ensures in
     (storing.shared-more _ _ _ _ _ _ _ _ _ _ _ _ _ _ _ _ (c .before .before .before .before .before .before .before .before .before .loop .inv .0) l (passing.part-shares (now (c .before .before .before .before .before .before .before .before .before .before .before .before .args .table)) (c .before .before .before .before .before .before .before .before .before .before .before .before .args .first) (c .before .before .before .before .before .before .before .before .before .before .before .before .args .end) (c .before .before .before .before .before .before .before .before .before .before .before .before .pre .1 .1) (c .before .before .before .before .before .before .before .before .before .before .before .before .pre .1 .2) (c .before .before .before .before .before .before .before .before .before .loop .action) (c .before .before .before .before .before .before .before .before .before .before .before .before .args .u) (c .before .before .before .before .before .before .share .result) (c .before .before .before .before .before .before .before .before .before .before .before .before .args .d) l (c .before .before .before .before .before .before .share .ensures .1)) (c .before .before .before .before .one .ensures) b, storing.store-along _ _ _ _ _ _ _ (c .before .before .before .before .before .before .before .before .before .before .before .before .pre .1 .0) (b .near) (c .before .before .before .before .before .before .before .before .before .before .before .before .pre .1 .0 .walk .units), omega (arith, l))
 
--- src/lib.rt:148:1
 divide-same-length : (t : ℕ) → divide-lts.Need-same-length (
   share-reads.Asked,
   share-reads.Learnt,
@@ -824,7 +773,6 @@ divide-same-length : (t : ℕ) → divide-lts.Need-same-length (
 ) (divide-at t) divide.Post divide-Inv-loop divide-μ-loop
 divide-same-length t c = c .before .loop .inv .0 .long
 
--- src/lib.rt:148:1
 divide-returns : (t : ℕ) → divide-lts.Need-returns (
   share-reads.Asked,
   share-reads.Learnt,
@@ -835,7 +783,6 @@ divide-returns : (t : ℕ) → divide-lts.Need-returns (
 ) (divide-at t) divide.Post divide-Inv-loop divide-μ-loop
 divide-returns t c = storing.shared-end _ _ _ _ _ _ _ _ _ _ _ _ _ (c .before .loop .inv .0) (c .loop-test .left)
 
--- src/lib.rt:113:9
 one-word-requires : (t : ℕ) → one-lts.Need-word-requires (
   word-reads.Asked,
   word-reads.Learnt,
@@ -848,7 +795,6 @@ one-word-requires : (t : ℕ) → one-lts.Need-word-requires (
 ) (one-at t) one.Post
 one-word-requires t c κs = search needs
 
--- src/lib.rt:114:8
 one-kind-requires : (t : ℕ) → one-lts.Need-kind-requires (
   word-reads.Asked,
   word-reads.Learnt,
@@ -861,7 +807,6 @@ one-kind-requires : (t : ℕ) → one-lts.Need-kind-requires (
 ) (one-at t) one.Post
 one-kind-requires t c κs = search needs
 
--- src/lib.rt:115:16
 one-add-put : (t : ℕ) → one-lts.Need-add-put (
   word-reads.Asked,
   word-reads.Learnt,
@@ -874,7 +819,6 @@ one-add-put : (t : ℕ) → one-lts.Need-add-put (
 ) (one-at t) one.Post
 one-add-put t c = record { fits = omega (arith, c .before .before .before .before .before .before .before .pre .1 .base, c .before .before .before .before .before .before .before .pre .1 .walk .place) }
 
--- src/lib.rt:115:9
 one-put-requires : (t : ℕ) → one-lts.Need-put-requires (
   word-reads.Asked,
   word-reads.Learnt,
@@ -887,7 +831,6 @@ one-put-requires : (t : ℕ) → one-lts.Need-put-requires (
 ) (one-at t) one.Post
 one-put-requires t c κs = search needs
 
--- src/lib.rt:116:9
 one-same-length : (t : ℕ) → one-lts.Need-same-length (
   word-reads.Asked,
   word-reads.Learnt,
@@ -900,7 +843,6 @@ one-same-length : (t : ℕ) → one-lts.Need-same-length (
 ) (one-at t) one.Post
 one-same-length t c = search needs
 
--- src/lib.rt:116:9
 one-returns : (t : ℕ) → one-lts.Need-returns (
   word-reads.Asked,
   word-reads.Learnt,
@@ -913,7 +855,6 @@ one-returns : (t : ℕ) → one-lts.Need-returns (
 ) (one-at t) one.Post
 one-returns t c = storing.node-peeked (now (c .before .before .before .before .before .before .before .before .before .before .args .table)) (c .before .before .before .before .before .before .before .before .before .before .args .d) (c .before .before .before .before .before .before .before .before .before .before .args .seat) (c .before .before .before .before .before .before .before .before .before .before .args .units) (c .before .before .before .before .before .before .before .before .before .before .args .a) (c .before .before .before .before .before .before .before .before .before .before .args .u) (c .before .before .before .before .before .before .before .before .before .before .args .depth) (now (c .before .before .before .before .before .before .before .before .before .before .args .w)) (c .before .before .put .last .0) (c .before .before .before .before .before .before .word .result) (c .before .before .put .ensures) (c .before .before .before .before .before .before .word .ensures) (sym (c .before .before .before .before .before .kind .ensures) ∙ c .before .before .before .before .if1 .taken)
 
--- src/lib.rt:118:5
 one-collect-requires : (t : ℕ) → one-lts.Need-collect-requires (
   word-reads.Asked,
   word-reads.Learnt,
@@ -926,7 +867,6 @@ one-collect-requires : (t : ℕ) → one-lts.Need-collect-requires (
 ) (one-at t) one.Post
 one-collect-requires t c κs = (omega (arith, c .before .before .before .before .before .before .before .pre .0), c .before .before .before .before .before .before .before .pre .1)
 
--- src/lib.rt:100:1
 one-same-length-2 : (t : ℕ) → one-lts.Need-same-length-2 (
   word-reads.Asked,
   word-reads.Learnt,
@@ -939,7 +879,6 @@ one-same-length-2 : (t : ℕ) → one-lts.Need-same-length-2 (
 ) (one-at t) one.Post
 one-same-length-2 t c = search needs
 
--- src/lib.rt:100:1
 one-returns-2 : (t : ℕ) → one-lts.Need-returns-2 (
   word-reads.Asked,
   word-reads.Learnt,
@@ -958,7 +897,6 @@ spread-Inv-loop w₀ table a end u seat d units depth at₀ w at = storing.SoFar
 abbrev spread-μ-loop : spread-lts.MeasureT-loop
 spread-μ-loop w₀ table a end u seat d units depth at₀ w at = end - at
 
--- src/lib.rt:137:5
 spread-loop-holds : (t : ℕ) → spread-lts.Need-loop-holds (
   one-below t,
   one.Post,
@@ -967,7 +905,6 @@ spread-loop-holds : (t : ℕ) → spread-lts.Need-loop-holds (
 ) (spread-at t) spread.Post spread-Inv-loop spread-μ-loop
 spread-loop-holds t c = (storing.each-start _ _ _ _ _ _ _ _ _, c .before .before .pre .1)
 
--- src/lib.rt:138:9
 spread-one-requires : (t : ℕ) → spread-lts.Need-one-requires (
   one-below t,
   one.Post,
@@ -976,7 +913,6 @@ spread-one-requires : (t : ℕ) → spread-lts.Need-one-requires (
 ) (spread-at t) spread.Post spread-Inv-loop spread-μ-loop
 spread-one-requires t c κs = (omega (arith, c .before .before .before .before .before .pre .0), c .before .before .loop .inv .1)
 
--- src/lib.rt:139:13
 spread-behind-requires : (t : ℕ) → spread-lts.Need-behind-requires (
   one-below t,
   one.Post,
@@ -985,7 +921,6 @@ spread-behind-requires : (t : ℕ) → spread-lts.Need-behind-requires (
 ) (spread-at t) spread.Post spread-Inv-loop spread-μ-loop
 spread-behind-requires t c κs = omega (arith, c .before .before .before .before .before .before .loop .inv .1 .walk .place)
 
--- src/lib.rt:141:13
 spread-same-length : (t : ℕ) → spread-lts.Need-same-length (
   one-below t,
   one.Post,
@@ -994,7 +929,6 @@ spread-same-length : (t : ℕ) → spread-lts.Need-same-length (
 ) (spread-at t) spread.Post spread-Inv-loop spread-μ-loop
 spread-same-length t c = c .before .before .before .before .before .one .ensures .long ∙ c .before .before .before .before .before .before .before .before .loop .inv .0 .long
 
--- src/lib.rt:141:13
 spread-returns : (t : ℕ) → spread-lts.Need-returns (
   one-below t,
   one.Post,
@@ -1003,7 +937,6 @@ spread-returns : (t : ℕ) → spread-lts.Need-returns (
 ) (spread-at t) spread.Post spread-Inv-loop spread-μ-loop
 spread-returns t c = storing.each-stuck _ _ _ _ _ _ _ _ _ _ _ _ _ (c .before .before .before .before .before .before .before .before .loop .inv .0) (c .before .before .before .before .before .before .before .loop-test .taken) (c .before .before .before .before .before .one .ensures) (c .before .behind .ensures) (c .if1 .taken)
 
--- src/lib.rt:137:5
 spread-loop-less : (t : ℕ) → spread-lts.Need-loop-less (
   one-below t,
   one.Post,
@@ -1012,7 +945,6 @@ spread-loop-less : (t : ℕ) → spread-lts.Need-loop-less (
 ) (spread-at t) spread.Post spread-Inv-loop spread-μ-loop
 spread-loop-less t c = omega (arith, c .if1 .left, c .before .before .before .before .before .before .before .loop-test .taken)
 
--- src/lib.rt:137:5
 spread-loop-again : (t : ℕ) → spread-lts.Need-loop-again (
   one-below t,
   one.Post,
@@ -1021,7 +953,6 @@ spread-loop-again : (t : ℕ) → spread-lts.Need-loop-again (
 ) (spread-at t) spread.Post spread-Inv-loop spread-μ-loop
 spread-loop-again t c = (storing.each-more _ _ _ _ _ _ _ _ _ _ _ _ _ (c .before .before .before .before .before .before .before .before .loop .inv .0) (c .before .before .before .before .before .before .before .loop-test .taken) (c .before .before .before .before .before .one .ensures) (c .before .behind .ensures), storing.store-along _ _ _ _ _ _ _ (c .before .before .before .before .before .before .before .before .before .before .before .pre .1) (c .before .behind .ensures .near) (c .before .before .before .before .before .before .before .before .before .before .before .pre .1 .walk .units))
 
--- src/lib.rt:122:1
 spread-same-length-2 : (t : ℕ) → spread-lts.Need-same-length-2 (
   one-below t,
   one.Post,
@@ -1030,7 +961,6 @@ spread-same-length-2 : (t : ℕ) → spread-lts.Need-same-length-2 (
 ) (spread-at t) spread.Post spread-Inv-loop spread-μ-loop
 spread-same-length-2 t c = c .before .loop .inv .0 .long
 
--- src/lib.rt:122:1
 spread-returns-2 : (t : ℕ) → spread-lts.Need-returns-2 (
   one-below t,
   one.Post,

@@ -8,30 +8,24 @@ use Rattle.stored.proofs.store.Lts as lts
 use Rattle.kuhn_arena.proofs.store.Reads as store-reads
 use Rattle.stored.proofs.store_leduc.Reads as store-leduc-reads
 
--- src/lib.rt:35:9
 store-requires : tie.Need-store-requires
 store-requires c κs =
     let g = c .before .before .before .before .args .g in
     let h = c .before .before .before .before .pre in
     (two-seats g _ h (c .before .if1 .taken), few-seats g _ h (c .before .if1 .taken), kuhn-words g _ h (c .before .if1 .taken))
 
--- src/lib.rt:36:9
 same-length : tie.Need-same-length
 same-length c = search needs
 
--- src/lib.rt:36:9
 returns : tie.Need-returns
 returns c = kuhn-stored (c .before .before .before .before .before .before .before .args .g) _ (c .before .before .before .before .before .before .before .pre) (c .before .before .before .before .if1 .taken) _ (c .before .before .store .ensures)
 
--- src/lib.rt:38:5
 store-leduc-requires : tie.Need-store-leduc-requires
 store-leduc-requires c κs = leduc-words (c .before .before .before .before .args .g) _ (c .before .before .before .before .pre) (c .before .if1 .left)
 
--- src/lib.rt:30:1
 same-length-2 : tie.Need-same-length-2
 same-length-2 c = search needs
 
--- src/lib.rt:30:1
 returns-2 : tie.Need-returns-2
 returns-2 c = leduc-stored (c .before .before .before .before .before .before .before .args .g) _ (c .before .before .before .before .before .before .before .pre) (c .before .before .before .before .if1 .left) _ (c .before .before .store-leduc .ensures)
 

@@ -8,31 +8,24 @@ use Rattle.arena.proofs.index.clear.Reads as clear-reads
 use Rattle.arena.proofs.index.index.Reads as index-reads
 use Rattle.leduc_arena.proofs.build.Reads as build-reads
 
--- src/lib.rt:24:5
 build-requires : tie.Need-build-requires
 build-requires c κs = search needs
 
--- src/lib.rt:25:21
 add-clear : tie.Need-add-clear
 add-clear c = search needs
 
--- src/lib.rt:25:21
 add-clear-2 : tie.Need-add-clear-2
 add-clear-2 c = search needs
 
--- src/lib.rt:25:5
 clear-requires : tie.Need-clear-requires
 clear-requires c κs = search needs
 
--- src/lib.rt:26:5
 index-requires : tie.Need-index-requires
 index-requires c κs = search needs
 
--- src/lib.rt:20:1
 same-length : tie.Need-same-length
 same-length c = search needs
 
--- src/lib.rt:20:1
 returns : tie.Need-returns
 returns c = leduc-index _ _ _ _ _ (c .before .before .before .before .before .before .before .before .before .before .before .before .before .pre) (c .before .before .before .before .before .before .before .before .before .before .build .ensures) (c .before .before .before .before .before .before .clear .ensures) (c .before .before .index .ensures)
 

@@ -17,31 +17,24 @@ Inv-loop w₀ lo hi i₀ w i = Cleared lo i w₀ w × (lo ≤ i) × (i ≤ hi)
 abbrev μ-loop : tie.MeasureT-loop
 μ-loop w₀ lo hi i₀ w i = hi - i
 
--- src/index.rt:24:5
 loop-holds : tie.Need-loop-holds Inv-loop μ-loop
 loop-holds c = (clear-none _ _, omega arith, omega arith)
 
--- src/index.rt:25:9
 put-requires : tie.Need-put-requires Inv-loop μ-loop
 put-requires c κs = search needs
 
--- src/index.rt:26:9
 add-i : tie.Need-add-i Inv-loop μ-loop
 add-i c = omega arith
 
--- src/index.rt:24:5
 loop-less : tie.Need-loop-less Inv-loop μ-loop
 loop-less c = omega arith
 
--- src/index.rt:24:5
 loop-again : tie.Need-loop-again Inv-loop μ-loop
 loop-again c = (clear-more _ _ _ _ _ (c .before .before .before .before .before .loop .inv .1) (c .before .before .before .before .before .loop .inv .0) (c .before .before .put .ensures), omega (arith, c .before .before .before .before .before .loop .inv .1), omega (arith, c .before .before .before .before .loop-test .taken))
 
--- src/index.rt:19:1
 same-length : tie.Need-same-length Inv-loop μ-loop
 same-length c = c .before .loop .inv .0 .kept .long
 
--- src/index.rt:19:1
 returns : tie.Need-returns Inv-loop μ-loop
 returns c =
     let e : c .before .loop .i ≡ c .before .before .before .args .hi = omega (arith, c .before .loop .inv .2) in

@@ -7,23 +7,18 @@ use Rattle.arena.proofs.index.index.Lts as lts
 use Rattle.arena.proofs.index.link.Reads as link-reads
 use Rattle.arena.proofs.index.number.Reads as number-reads
 
--- src/index.rt:94:5
 number-requires : tie.Need-number-requires
 number-requires c κs = search needs
 
--- src/index.rt:95:20
 add-link : tie.Need-add-link
 add-link c = search needs
 
--- src/index.rt:95:5
 link-requires : tie.Need-link-requires
 link-requires c κs = search needs
 
--- src/index.rt:90:1
 same-length : tie.Need-same-length
 same-length c = search needs
 
--- src/index.rt:90:1
 returns : tie.Need-returns
 returns c = λ n code t e k. c .before .before .link .ensures n code _ _ t e refl k (c .before .before .before .before .before .before .number .ensures n code _ t e k)
 

@@ -16,32 +16,25 @@ Inv-loop w₀ nodes heads a₀ w a = Linked nodes heads w₀ w a × (a ≤ nodes
 abbrev μ-loop : tie.MeasureT-loop
 μ-loop w₀ nodes heads a₀ w a = a
 
--- src/index.rt:83:5
 loop-holds : tie.Need-loop-holds Inv-loop μ-loop
 loop-holds c = (linked-end _ _ _, omega arith, refl)
 
--- src/index.rt:84:9
 sub-a : tie.Need-sub-a Inv-loop μ-loop
 sub-a c = search needs
 
--- src/index.rt:85:9
 link-node-requires : tie.Need-link-node-requires Inv-loop μ-loop
 link-node-requires c κs = search needs
 
--- src/index.rt:83:5
 loop-less : tie.Need-loop-less Inv-loop μ-loop
 loop-less c = omega (arith, c .before .before .before .before .loop-test .taken)
 
--- src/index.rt:83:5
 loop-again : tie.Need-loop-again Inv-loop μ-loop
 loop-again c =
     (linked-more _ _ _ _ _ _ _ (omega (arith, c .before .before .before .before .before .loop .inv .1, c .before .before .before .before .loop-test .taken)) (omega (arith, c .before .before .before .before .loop-test .taken)) (c .before .before .before .before .before .loop .inv .0) (c .before .before .link-node .ensures), omega (arith, c .before .before .before .before .before .loop .inv .1), ap length (c .before .before .link-node .ensures) ∙ linked-long _ _ _ _ ∙ c .before .before .before .before .before .loop .inv .2)
 
--- src/index.rt:78:1
 same-length : tie.Need-same-length Inv-loop μ-loop
 same-length c = c .before .loop .inv .2
 
--- src/index.rt:78:1
 returns : tie.Need-returns Inv-loop μ-loop
 returns c = linked-start _ _ _ _ _ (omega (arith, c .loop-test .left)) (c .before .before .before .pre .0) (c .before .loop .inv .0)
 

@@ -18,83 +18,63 @@ use Rattle.arena.proofs.words.put.Reads as put-reads
 use Rattle.arena.proofs.words.set.Reads as set-reads
 use Rattle.arena.proofs.words.word.Reads as word-reads
 
--- src/index.rt:65:9
 word-requires : tie.Need-word-requires
 word-requires c κs = search needs
 
--- src/index.rt:66:8
 kind-requires : tie.Need-kind-requires
 kind-requires c κs = search needs
 
--- src/index.rt:67:9
 same-length : tie.Need-same-length
 same-length c = search needs
 
--- src/index.rt:67:9
 returns : tie.Need-returns
 returns c = sym (linked-kind _ _ _ _ λ e. c .if1 .taken (c .before .kind .ensures ∙ ap kindOf (c .before .before .word .ensures) ∙ e))
 
--- src/index.rt:69:33
 set-requires : tie.Need-set-requires
 set-requires c κs = search needs
 
--- src/index.rt:69:25
 add-word : tie.Need-add-word
 add-word c = search needs
 
--- src/index.rt:69:17
 word-requires-2 : tie.Need-word-requires-2
 word-requires-2 c κs = search needs
 
--- src/index.rt:71:9
 same-length-2 : tie.Need-same-length-2
 same-length-2 c = search needs
 
--- src/index.rt:71:9
 returns-2 : tie.Need-returns-2
 returns-2 c = sym (linked-unknown _ _ _ _ (sym ((c .before .word2 .ensures ∙ ap (λ i. getD (now (c .before .before .before .before .before .before .before .before .before .args .w)) (c .before .before .before .before .before .before .before .before .before .args .nodes + i) 0) (c .before .before .set .ensures)) ∙ ap (λ y. getD (now (c .before .before .before .before .before .before .before .before .before .args .w)) (c .before .before .before .before .before .before .before .before .before .args .nodes + setOf y) 0) (c .before .before .before .before .before .before .word .ensures)) ∙ c .if2 .taken))
 
--- src/index.rt:73:18
 sub-entry : tie.Need-sub-entry
 sub-entry c = search needs
 
--- src/index.rt:74:16
 add-head : tie.Need-add-head
 add-head c = search needs
 
--- src/index.rt:75:17
 word-requires-3 : tie.Need-word-requires-3
 word-requires-3 c κs = search needs
 
--- src/index.rt:76:24
 actor-requires : tie.Need-actor-requires
 actor-requires c κs = search needs
 
--- src/index.rt:76:34
 actions-requires : tie.Need-actions-requires
 actions-requires c κs = search needs
 
--- src/index.rt:76:53
 next-requires : tie.Need-next-requires
 next-requires c κs = search needs
 
--- src/index.rt:76:15
 decision-requires : tie.Need-decision-requires
 decision-requires c κs = search needs
 
--- src/index.rt:76:5
 put-requires : tie.Need-put-requires
 put-requires c κs = search needs
 
--- src/index.rt:77:5
 put-requires-2 : tie.Need-put-requires-2
 put-requires-2 c κs = search needs
 
--- src/index.rt:61:1
 same-length-3 : tie.Need-same-length-3
 same-length-3 c = search needs
 
--- src/index.rt:61:1
 returns-3 : tie.Need-returns-3
 returns-3 c = linked-by _ _ _ (now (c .before .before .before .before .before .before .before .before .before .before .before .before .before .before .before .before .before .before .before .before .before .before .before .args .w)) _ _ _ _ _ _ (c .before .before .before .before .before .before .before .before .before .before .before .before .before .before .before .before .before .before .before .before .word .ensures) (sym (c .before .before .before .before .before .before .before .before .before .before .before .before .before .before .before .before .before .before .before .kind .ensures) ∙ c .before .before .before .before .before .before .before .before .before .before .before .before .before .before .before .before .before .before .if1 .left) (c .before .before .before .before .before .before .before .before .before .before .before .before .before .before .before .word2 .ensures ∙ ap (λ i. getD (now (c .before .before .before .before .before .before .before .before .before .before .before .before .before .before .before .before .before .before .before .before .before .before .before .args .w)) (c .before .before .before .before .before .before .before .before .before .before .before .before .before .before .before .before .before .before .before .before .before .before .before .args .nodes + i) 0) (c .before .before .before .before .before .before .before .before .before .before .before .before .before .before .before .before .set .ensures)) (c .before .before .before .before .before .before .before .before .before .before .before .before .before .before .if2 .left) (c .before .before .before .before .before .before .before .before .before .before .before .before .word3 .ensures) (c .before .before .before .before .before .before .before .decision .ensures ∙ rw (c .before .before .before .before .before .before .before .before .before .before .actor .ensures, c .before .before .before .before .before .before .before .before .before .actions .ensures, c .before .before .before .before .before .before .before .before .next .ensures) refl) (c .before .before .before .before .before .before .put .ensures) (c .before .before .put2 .ensures)
 

@@ -14,55 +14,42 @@ use Rattle.arena.proofs.words.put.Reads as put-reads
 use Rattle.arena.proofs.words.set.Reads as set-reads
 use Rattle.arena.proofs.words.word.Reads as word-reads
 
--- src/index.rt:35:8
 kind-requires : tie.Need-kind-requires
 kind-requires c κs = search needs
 
--- src/index.rt:36:9
 returns : tie.Need-returns
 returns c = met-kind _ _ _ _ λ e. c .if1 .taken (c .before .kind .ensures ∙ e)
 
--- src/index.rt:38:22
 set-requires : tie.Need-set-requires
 set-requires c κs = search needs
 
--- src/index.rt:38:14
 add-at : tie.Need-add-at
 add-at c = search needs
 
--- src/index.rt:39:8
 word-requires : tie.Need-word-requires
 word-requires c κs = search needs
 
--- src/index.rt:40:9
 same-length : tie.Need-same-length
 same-length c = search needs
 
--- src/index.rt:40:9
 returns-2 : tie.Need-returns-2
 returns-2 c = met-known _ _ _ _ λ e. c .if2 .taken (c .before .word .ensures ∙ ap (λ i. getD (now (c .before .before .before .before .before .before .before .args .w)) (c .before .before .before .before .before .before .before .args .nodes + i) 0) (c .before .before .before .set .ensures) ∙ e)
 
--- src/index.rt:42:16
 add-put : tie.Need-add-put
 add-put c = search needs
 
--- src/index.rt:42:5
 put-requires : tie.Need-put-requires
 put-requires c κs = search needs
 
--- src/index.rt:43:13
 actions-requires : tie.Need-actions-requires
 actions-requires c κs = search needs
 
--- src/index.rt:43:5
 add-result : tie.Need-add-result
 add-result c = search needs
 
--- src/index.rt:31:1
 same-length-2 : tie.Need-same-length-2
 same-length-2 c = search needs
 
--- src/index.rt:31:1
 returns-3 : tie.Need-returns-3
 returns-3 c = met-new _ _ _ _ _ _ (sym (c .before .before .before .before .before .before .before .before .before .before .kind .ensures) ∙ c .before .before .before .before .before .before .before .before .before .if1 .left)
     (sym (c .before .before .before .before .before .before .word .ensures ∙ ap (λ i. getD (now (c .before .before .before .before .before .before .before .before .before .before .before .before .args .w)) (c .before .before .before .before .before .before .before .before .before .before .before .before .args .nodes + i) 0) (c .before .before .before .before .before .before .before .before .set .ensures)) ∙ c .before .before .before .before .before .if2 .left)

@@ -17,37 +17,29 @@ Inv-loop w₀ nodes entry₀ a₀ w entry a = Walked nodes w₀ w entry a × (a 
 abbrev μ-loop : tie.MeasureT-loop
 μ-loop w₀ nodes entry₀ a₀ w entry a = nodes - a
 
--- src/index.rt:50:5
 loop-holds : tie.Need-loop-holds Inv-loop μ-loop
 loop-holds c = (walked-start _ _, omega arith, omega arith, refl)
 
--- src/index.rt:51:13
 word-requires : tie.Need-word-requires Inv-loop μ-loop
 word-requires c κs = search needs
 
--- src/index.rt:52:9
 meet-requires : tie.Need-meet-requires Inv-loop μ-loop
 meet-requires c κs = (omega arith, omega (arith, c .before .before .before .before .loop .inv .2, c .before .before .before .loop-test .taken))
 
--- src/index.rt:53:9
 add-a : tie.Need-add-a Inv-loop μ-loop
 add-a c = omega arith
 
--- src/index.rt:50:5
 loop-less : tie.Need-loop-less Inv-loop μ-loop
 loop-less c = omega arith
 
--- src/index.rt:50:5
 loop-again : tie.Need-loop-again Inv-loop μ-loop
 loop-again c =
     let m = c .before .before .meet .ensures in
     (walked-more _ _ _ _ _ _ _ _ (c .before .before .before .before .before .before .loop-test .taken) (c .before .before .before .before .before .before .before .loop .inv .0) (c .before .before .before .before .word .ensures) m, omega (arith, c .before .before .before .before .before .before .loop-test .taken), omega (arith, c .before .before .before .before .before .before .before .loop .inv .2, met-few _ _ _ _ _ _ m .0), met-few _ _ _ _ _ _ m .1 ∙ c .before .before .before .before .before .before .before .loop .inv .3)
 
--- src/index.rt:44:1
 same-length : tie.Need-same-length Inv-loop μ-loop
 same-length c = c .before .loop .inv .3
 
--- src/index.rt:44:1
 returns : tie.Need-returns Inv-loop μ-loop
 returns c = walked-end _ _ _ _ _ (omega (arith, c .before .loop .inv .1, c .loop-test .left)) (c .before .loop .inv .0)
 

@@ -4,15 +4,12 @@ use Rattle.arena.proofs.payoffs.byte.Tie as tie
 use Rattle.arena.proofs.payoffs.byte.Reads as reads
 use Rattle.arena.proofs.payoffs.byte.Lts as lts
 
--- src/payoffs.rt:14:6
 add-result : tie.Need-add-result
 add-result c = lifted-fits (c .args .payoff) (c .pre)
 
--- src/payoffs.rt:14:5
 cast-result : tie.Need-cast-result
 cast-result c = raised-casts (c .args .payoff) (c .pre)
 
--- src/payoffs.rt:10:1
 returns : tie.Need-returns
 returns c = raised-byte (c .args .payoff) (c .pre)
 

@@ -6,75 +6,57 @@ use Rattle.arena.proofs.payoffs.end.Reads as reads
 use Rattle.arena.proofs.payoffs.end.Lts as lts
 use Rattle.arena.proofs.payoffs.byte.Reads as byte-reads
 
--- src/payoffs.rt:22:9
 byte-requires : tie.Need-byte-requires
 byte-requires c κs = search needs
 
--- src/payoffs.rt:22:5
 mul-result : tie.Need-mul-result
 mul-result c = search needs
 
--- src/payoffs.rt:22:26
 byte-requires-2 : tie.Need-byte-requires-2
 byte-requires-2 c κs = search needs
 
--- src/payoffs.rt:22:19
 mul-result-2 : tie.Need-mul-result-2
 mul-result-2 c = search needs
 
--- src/payoffs.rt:22:5
 add-result : tie.Need-add-result
 add-result c = search needs
 
--- src/payoffs.rt:22:45
 byte-requires-3 : tie.Need-byte-requires-3
 byte-requires-3 c κs = search needs
 
--- src/payoffs.rt:22:36
 mul-result-3 : tie.Need-mul-result-3
 mul-result-3 c = search needs
 
--- src/payoffs.rt:22:5
 add-result-2 : tie.Need-add-result-2
 add-result-2 c = search needs
 
--- src/payoffs.rt:22:66
 byte-requires-4 : tie.Need-byte-requires-4
 byte-requires-4 c κs = search needs
 
--- src/payoffs.rt:22:55
 mul-result-4 : tie.Need-mul-result-4
 mul-result-4 c = search needs
 
--- src/payoffs.rt:22:5
 add-result-3 : tie.Need-add-result-3
 add-result-3 c = search needs
 
--- src/payoffs.rt:22:90
 byte-requires-5 : tie.Need-byte-requires-5
 byte-requires-5 c κs = search needs
 
--- src/payoffs.rt:22:76
 mul-result-5 : tie.Need-mul-result-5
 mul-result-5 c = search needs
 
--- src/payoffs.rt:22:5
 add-result-4 : tie.Need-add-result-4
 add-result-4 c = search needs
 
--- src/payoffs.rt:22:116
 byte-requires-6 : tie.Need-byte-requires-6
 byte-requires-6 c κs = search needs
 
--- src/payoffs.rt:22:100
 mul-result-6 : tie.Need-mul-result-6
 mul-result-6 c = search needs
 
--- src/payoffs.rt:22:5
 add-result-5 : tie.Need-add-result-5
 add-result-5 c = search needs
 
--- src/payoffs.rt:18:1
 returns : tie.Need-returns
 returns c =
     let h = c .before .before .before .before .before .before .pre in

@@ -7,23 +7,18 @@ use Rattle.arena.proofs.payoffs.payoff.Tie as tie
 use Rattle.arena.proofs.payoffs.payoff.Reads as reads
 use Rattle.arena.proofs.payoffs.payoff.Lts as lts
 
--- src/payoffs.rt:30:26
 mul-bits : tie.Need-mul-bits
 mul-bits c = search needs
 
--- src/payoffs.rt:30:16
 shr-bits : tie.Need-shr-bits
 shr-bits c = search needs
 
--- src/payoffs.rt:31:5
 cast-result : tie.Need-cast-result
 cast-result c = search needs
 
--- src/payoffs.rt:31:5
 sub-result : tie.Need-sub-result
 sub-result c = lowered-fits (byteOf (c .args .x) (c .args .seat)) (omega arith)
 
--- src/payoffs.rt:26:1
 returns : tie.Need-returns
 returns c = lowered (byteOf (c .args .x) (c .args .seat)) (omega arith)
 

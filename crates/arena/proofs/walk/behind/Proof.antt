@@ -13,27 +13,21 @@ use Rattle.arena.proofs.words.kind.Reads as kind-reads
 use Rattle.arena.proofs.words.next.Reads as next-reads
 use Rattle.arena.proofs.words.word.Reads as word-reads
 
--- src/walk.rt:14:9
 word-requires : tie.Need-word-requires
 word-requires c κs = search needs
 
--- src/walk.rt:15:8
 kind-requires : tie.Need-kind-requires
 kind-requires c κs = search needs
 
--- src/walk.rt:16:16
 add-result : tie.Need-add-result
 add-result c = search needs
 
--- src/walk.rt:16:9
 returns : tie.Need-returns
 returns c = at-end (now (c .before .before .before .before .args .w)) (c .before .before .before .before .args .a) (ap kindOf (sym (c .before .before .word .ensures)) ∙ sym (c .before .kind .ensures) ∙ c .if1 .taken)
 
--- src/walk.rt:18:5
 next-requires : tie.Need-next-requires
 next-requires c κs = search needs
 
--- src/walk.rt:10:1
 returns-2 : tie.Need-returns-2
 returns-2 c =
     let e = c .before .before .before .word .ensures in

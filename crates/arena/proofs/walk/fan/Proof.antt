@@ -14,33 +14,26 @@ Inv-loop w a end count₀ at₀ count at = Along w a end at count × (count ≤ 
 abbrev μ-loop : tie.MeasureT-loop
 μ-loop w a end count₀ at₀ count at = end - at
 
--- src/walk.rt:28:5
 loop-holds : tie.Need-loop-holds Inv-loop μ-loop
 loop-holds c = (along-start _ _ _, omega arith, omega arith)
 
--- src/walk.rt:29:13
 behind-requires : tie.Need-behind-requires Inv-loop μ-loop
 behind-requires c κs = omega (arith, c .loop-test .taken)
 
--- src/walk.rt:31:13
 returns : tie.Need-returns Inv-loop μ-loop
 returns c = along-stuck _ _ _ _ _ _ (c .before .before .before .loop .inv .0) (c .before .before .loop-test .taken) (c .before .behind .ensures) (c .if1 .taken)
 
--- src/walk.rt:33:9
 add-count : tie.Need-add-count Inv-loop μ-loop
 add-count c = record { fits = omega (arith, c .before .before .before .loop .inv .1, c .before .before .before .loop .inv .2) }
 
--- src/walk.rt:28:5
 loop-less : tie.Need-loop-less Inv-loop μ-loop
 loop-less c = omega (arith, c .before .before .loop-test .taken, c .if1 .left)
 
--- src/walk.rt:28:5
 loop-again : tie.Need-loop-again Inv-loop μ-loop
 loop-again c =
     let b = c .before .behind .ensures in
     (along-more _ _ _ _ _ _ (c .before .before .before .loop .inv .0) (c .before .before .loop-test .taken) b, omega (arith, c .before .before .before .loop .inv .1, c .if1 .left), omega (arith, b .near))
 
--- src/walk.rt:22:1
 returns-2 : tie.Need-returns-2 Inv-loop μ-loop
 returns-2 c = along-end _ _ _ _ _ (c .before .loop .inv .0) (c .loop-test .left)
 

@@ -1,15 +1,14 @@
+-- Whether a seat has bet: not at the turns passed. Assumes nothing.
 use borrow.Author.Tests.{eq-eqb, ne-eqb}
-use mathlib.Core.Path.{_≡_, sym, _∙_}
-use Prim.Native.Nat.{_≤_, _<_, _-_, _+_}
+use mathlib.Core.Path.{sym, _∙_}
+use Prim.Native.Nat.{_<_, _-_, _+_}
 use native.Mathlib.Omega.{arith}
 use borrow.Author.Needs.{needs}
 use denote.Ref.{now}
 use Rattle.kuhn_rules.proofs.Histories.{bets-take}
-use Rattle.kuhn_rules.proofs.Apart as apart
 use Rattle.kuhn_rules.proofs.betting.bet_by.Statement.{statement}
+use Rattle.kuhn_rules.proofs.Apart as apart
 use Rattle.kuhn_rules.proofs.betting.bet_by.Tie as tie
-use Rattle.kuhn_rules.proofs.betting.bet_by.Reads as reads
-use Rattle.kuhn_rules.proofs.betting.bet_by.Lts as lts
 
 abbrev Inv-loop : tie.InvT-loop
 Inv-loop history acted n player i₀ i = apart.Unbet history n player i × (player < n)
@@ -17,43 +16,33 @@ Inv-loop history acted n player i₀ i = apart.Unbet history n player i × (play
 abbrev μ-loop : tie.MeasureT-loop
 μ-loop history acted n player i₀ i = acted - i
 
--- src/betting.rt:81:9
 returns : tie.Need-returns Inv-loop μ-loop
 returns c = sym (bets-take (c .before .args .n) (c .before .args .acted) (now (c .before .args .history)) (c .before .args .player) (c .before .pre .0) ∙ apart.no-turn (now (c .before .args .history)) (c .before .args .n) (c .before .args .player) (c .before .args .acted) (c .before .pre .1) (c .if1 .taken))
 
--- src/betting.rt:84:5
 loop-holds : tie.Need-loop-holds Inv-loop μ-loop
 loop-holds c = (apart.first-turn (now (c .before .args .history)) (c .before .args .n) (c .before .args .player) (omega (arith, c .if1 .left)), omega (arith, c .if1 .left))
 
--- src/betting.rt:85:12
 shared-slice-read-if2 : tie.Need-shared-slice-read-if2 Inv-loop μ-loop
 shared-slice-read-if2 c = omega (arith, c .before .loop-test .taken, c .before .before .before .before .pre .0)
 
--- src/betting.rt:86:13
 returns-2 : tie.Need-returns-2 Inv-loop μ-loop
 returns-2 c = sym (bets-take (c .before .before .before .before .before .args .n) (c .before .before .before .before .before .args .acted) (now (c .before .before .before .before .before .args .history)) (c .before .before .before .before .before .args .player) (c .before .before .before .before .before .pre .0) ∙ apart.bet-here (now (c .before .before .before .before .before .args .history)) (c .before .before .before .before .before .args .n) (c .before .before .before .before .before .args .player) (c .before .before .before .loop .i) (c .before .before .before .before .before .args .acted) (c .before .before .loop-test .taken) (c .before .before .before .loop .inv .0) (eq-eqb _ _ (c .if2 .taken)))
 
--- src/betting.rt:88:12
 sub-if3 : tie.Need-sub-if3 Inv-loop μ-loop
 sub-if3 c = omega (arith, c .before .before .loop-test .taken)
 
--- src/betting.rt:89:13
 returns-3 : tie.Need-returns-3 Inv-loop μ-loop
 returns-3 c = sym (bets-take (c .before .before .before .before .before .before .args .n) (c .before .before .before .before .before .before .args .acted) (now (c .before .before .before .before .before .before .args .history)) (c .before .before .before .before .before .before .args .player) (c .before .before .before .before .before .before .pre .0) ∙ apart.unbet (now (c .before .before .before .before .before .before .args .history)) (c .before .before .before .before .before .before .args .n) (c .before .before .before .before .before .before .args .player) (c .before .before .before .before .loop .i + c .before .before .before .before .before .before .args .n) (c .before .before .before .before .before .before .args .acted) (apart.next-turn (now (c .before .before .before .before .before .before .args .history)) (c .before .before .before .before .before .before .args .n) (c .before .before .before .before .before .before .args .player) (c .before .before .before .before .loop .i) (c .before .before .before .before .loop .inv .1) (c .before .before .before .before .loop .inv .0) (ne-eqb _ _ (c .before .if2 .left))) (omega (arith, c .if3 .taken, c .before .before .before .loop-test .taken)))
 
--- src/betting.rt:91:9
 add-i : tie.Need-add-i Inv-loop μ-loop
 add-i c = search needs
 
--- src/betting.rt:84:5
 loop-less : tie.Need-loop-less Inv-loop μ-loop
 loop-less c = omega (arith, c .before .before .before .loop-test .taken, c .if3 .left, c .before .before .before .before .loop .inv .1)
 
--- src/betting.rt:84:5
 loop-again : tie.Need-loop-again Inv-loop μ-loop
 loop-again c = (apart.next-turn (now (c .before .before .before .before .before .before .args .history)) (c .before .before .before .before .before .before .args .n) (c .before .before .before .before .before .before .args .player) (c .before .before .before .before .loop .i) (c .before .before .before .before .loop .inv .1) (c .before .before .before .before .loop .inv .0) (ne-eqb _ _ (c .before .if2 .left)), c .before .before .before .before .loop .inv .1)
 
--- src/betting.rt:76:1
 returns-4 : tie.Need-returns-4 Inv-loop μ-loop
 returns-4 c = sym (bets-take (c .before .before .before .args .n) (c .before .before .before .args .acted) (now (c .before .before .before .args .history)) (c .before .before .before .args .player) (c .before .before .before .pre .0) ∙ apart.unbet (now (c .before .before .before .args .history)) (c .before .before .before .args .n) (c .before .before .before .args .player) (c .before .loop .i) (c .before .before .before .args .acted) (c .before .loop .inv .0) (omega (arith, c .loop-test .left)))
 

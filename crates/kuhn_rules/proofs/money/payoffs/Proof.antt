@@ -1,3 +1,4 @@
+-- The payoffs of the seats passed; 0 past them. Assumes nothing.
 use Prim.Native.Nat.{_≤_, _-_}
 use mathlib.Core.Path.{_≡_, _∙_}
 use borrow.Author.Needs.{needs}
@@ -8,14 +9,6 @@ use mir.Val.{toZ, ofZ}
 use Rattle.kuhn_rules.proofs.Winner.{contribution-in, paid-up-to, paid-none, paid-more, paid-all}
 use Rattle.kuhn_rules.proofs.money.payoffs.Statement.{statement}
 use Rattle.kuhn_rules.proofs.money.payoffs.Tie as tie
-use Rattle.kuhn_rules.proofs.money.payoffs.Reads as reads
-use Rattle.kuhn_rules.proofs.money.payoffs.Lts as lts
-use Rattle.kuhn_rules.proofs.money.contributed.Reads as contributed-reads
-use Rattle.kuhn_rules.proofs.money.highest.Reads as highest-reads
-use Rattle.kuhn_rules.proofs.money.pot.Reads as pot-reads
-use Rattle.kuhn_rules.proofs.money.share.Reads as share-reads
-use Rattle.kuhn_rules.proofs.money.unbet.Reads as unbet-reads
-use Rattle.kuhn_rules.proofs.money.won.Reads as won-reads
 
 abbrev Inv-loop : tie.InvT-loop
 Inv-loop cards history acted n total quiet top out₀ player₀ out player = (player ≤ n) × (out ≡ paid-up-to n (take n cards) (take acted history) player)
@@ -23,59 +16,46 @@ Inv-loop cards history acted n total quiet top out₀ player₀ out player = (pl
 abbrev μ-loop : tie.MeasureT-loop
 μ-loop cards history acted n total quiet top out₀ player₀ out player = n - player
 
--- src/money.rt:141:9
 pot-requires : tie.Need-pot-requires Inv-loop μ-loop
 pot-requires c κs = search needs
 
--- src/money.rt:142:9
 unbet-requires : tie.Need-unbet-requires Inv-loop μ-loop
 unbet-requires c κs = search needs
 
--- src/money.rt:143:9
 highest-requires : tie.Need-highest-requires Inv-loop μ-loop
 highest-requires c κs = search needs
 
--- src/money.rt:146:5
 loop-holds : tie.Need-loop-holds Inv-loop μ-loop
 loop-holds c = (search needs, paid-none _ _ _)
 
--- src/money.rt:147:13
 contributed-requires : tie.Need-contributed-requires Inv-loop μ-loop
 contributed-requires c κs = search needs
 
--- src/money.rt:148:13
 won-requires : tie.Need-won-requires Inv-loop μ-loop
 won-requires c κs = search needs
 
--- src/money.rt:149:13
 share-requires : tie.Need-share-requires Inv-loop μ-loop
 share-requires c κs =
     let inside = contribution-in 1 1 (c .before .before .before .before .before .before .before .before .before .args .n) (take (c .before .before .before .before .before .before .before .before .before .args .acted) (c .before .before .before .before .before .before .before .before .before .args .history .now)) (c .before .before .before .loop .player) (search needs) in
     (omega (arith, c .before .contributed .ensures, c .before .before .before .before .before .before .pot .ensures), search needs)
 
--- src/money.rt:150:9
 mul-out : tie.Need-mul-out Inv-loop μ-loop
 mul-out c = search needs
 
--- src/money.rt:150:9
 array-set-from-out : tie.Need-array-set-from-out Inv-loop μ-loop
 array-set-from-out c = search needs
 
--- src/money.rt:151:9
 add-player : tie.Need-add-player Inv-loop μ-loop
 add-player c = search needs
 
--- src/money.rt:146:5
 loop-less : tie.Need-loop-less Inv-loop μ-loop
 loop-less c = search needs
 
--- src/money.rt:146:5
 loop-again : tie.Need-loop-again Inv-loop μ-loop
 loop-again c =
     let kept : toZ w64 (ofZ w64 (c .share .result)) ≡ c .share .result = search needs in
     (search needs, paid-more _ _ _ _ _ _ _ _ _ (search needs) (search needs) (c .before .before .before .before .before .before .before .pot .ensures .0) (c .before .before .contributed .ensures .0) (c .before .won .ensures) (kept ∙ c .share .ensures) (c .before .before .before .before .loop .inv .1))
 
--- src/money.rt:137:1
 returns : tie.Need-returns Inv-loop μ-loop
 returns c = paid-all _ _ _ _ _ (c .before .loop .inv .0) (search needs) (c .before .loop .inv .1)
 

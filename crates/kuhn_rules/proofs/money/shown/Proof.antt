@@ -1,32 +1,24 @@
+-- The card of a seat that stands. Assumes nothing.
 use mathlib.Core.Path.{sym, ap, _∙_}
 use mathlib.Core.Bool.{cond}
 use lib.ListN.{getD}
 use borrow.Author.Needs.{needs}
 use Rattle.kuhn_rules.proofs.money.shown.Statement.{statement}
 use Rattle.kuhn_rules.proofs.money.shown.Tie as tie
-use Rattle.kuhn_rules.proofs.money.shown.Reads as reads
-use Rattle.kuhn_rules.proofs.money.shown.Lts as lts
-use Rattle.kuhn_rules.proofs.betting.wide.Reads as wide-reads
-use Rattle.kuhn_rules.proofs.money.standing.Reads as standing-reads
 
--- src/money.rt:90:8
 standing-requires : tie.Need-standing-requires
 standing-requires c κs = search needs
 
--- src/money.rt:91:14
 shared-slice-read-wide : tie.Need-shared-slice-read-wide
 shared-slice-read-wide c = search needs
 
--- src/money.rt:91:9
 wide-requires : tie.Need-wide-requires
 wide-requires c κs = search needs
 
--- src/money.rt:79:1
 returns : tie.Need-returns
 returns c =
     c .wide .ensures ∙ ap (λ b. cond b (getD (c .before .before .before .before .before .before .args .cards .now) (c .before .before .before .before .before .before .args .player) 0) 0) (sym (c .before .before .if1 .taken) ∙ c .before .before .before .standing .ensures)
 
--- src/money.rt:79:1
 returns-2 : tie.Need-returns-2
 returns-2 c = ap (λ b. cond b (getD (c .before .before .before .before .args .cards .now) (c .before .before .before .before .args .player) 0) 0) (sym (c .if1 .left) ∙ c .before .standing .ensures)
 

@@ -1,17 +1,13 @@
+-- Whether no seat has bet, by the place of the first bet. Assumes nothing.
 use Rattle.kuhn_rules.proofs.Histories.{unbet-is}
 use denote.Ref.{now}
 use borrow.Author.Needs.{needs}
 use Rattle.kuhn_rules.proofs.money.unbet.Statement.{statement}
 use Rattle.kuhn_rules.proofs.money.unbet.Tie as tie
-use Rattle.kuhn_rules.proofs.money.unbet.Reads as reads
-use Rattle.kuhn_rules.proofs.money.unbet.Lts as lts
-use Rattle.kuhn_rules.proofs.betting.first_bet.Reads as first-bet-reads
 
--- src/money.rt:23:5
 first-bet-requires : tie.Need-first-bet-requires
 first-bet-requires c κs = search needs
 
--- src/money.rt:19:1
 returns : tie.Need-returns
 returns c = unbet-is (c .before .before .args .acted) (c .first-bet .result) (now (c .before .before .args .history)) (c .before .before .pre) (c .first-bet .ensures .0) (c .first-bet .ensures .1 .0) (c .first-bet .ensures .1 .1)
 

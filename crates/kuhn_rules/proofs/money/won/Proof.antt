@@ -1,33 +1,25 @@
+-- Whether a seat wins, by the highest card. Assumes nothing.
 use mathlib.Core.Path.{sym, ap, _∙_}
 use lib.Dec.{eqb}
 use Rattle.kuhn_rules.proofs.Winner.{wins-highest, folds-lose}
 use borrow.Author.Needs.{needs}
 use Rattle.kuhn_rules.proofs.money.won.Statement.{statement}
 use Rattle.kuhn_rules.proofs.money.won.Tie as tie
-use Rattle.kuhn_rules.proofs.money.won.Reads as reads
-use Rattle.kuhn_rules.proofs.money.won.Lts as lts
-use Rattle.kuhn_rules.proofs.betting.wide.Reads as wide-reads
-use Rattle.kuhn_rules.proofs.money.standing.Reads as standing-reads
 
--- src/money.rt:117:8
 standing-requires : tie.Need-standing-requires
 standing-requires c κs = search needs
 
--- src/money.rt:118:14
 shared-slice-read-wide : tie.Need-shared-slice-read-wide
 shared-slice-read-wide c = search needs
 
--- src/money.rt:118:9
 wide-requires : tie.Need-wide-requires
 wide-requires c κs = search needs
 
--- src/money.rt:104:1
 returns : tie.Need-returns
 returns c =
     ap (λ k. eqb k (c .before .before .before .before .before .before .args .top)) (c .wide .ensures)
     ∙ sym (wins-highest _ _ _ _ _ (c .before .before .before .before .before .before .pre .0 .3) (c .before .before .before .before .before .before .pre .1) (sym (c .before .before .before .standing .ensures) ∙ c .before .before .if1 .taken))
 
--- src/money.rt:104:1
 returns-2 : tie.Need-returns-2
 returns-2 c = sym (folds-lose _ _ (c .before .before .before .before .args .cards .now) _ _ (sym (c .before .standing .ensures) ∙ c .if1 .left))
 

@@ -1,25 +1,19 @@
+-- Whether the tree at a position is an end. Assumes nothing.
 use mathlib.Core.Path.{sym, _∙_}
 use Rattle.leduc_arena.proofs.Following.{end-no-fuel, end-due, end-over}
 use borrow.Author.Needs.{needs}
 use Rattle.leduc_arena.proofs.moves.is_end.Statement.{statement}
 use Rattle.leduc_arena.proofs.moves.is_end.Tie as tie
-use Rattle.leduc_arena.proofs.moves.is_end.Reads as reads
-use Rattle.leduc_arena.proofs.moves.is_end.Lts as lts
-use Rattle.leduc_positions.proofs.state.hand_over.Reads as hand-over-reads
 
--- src/moves.rt:25:9
 returns : tie.Need-returns
 returns c = end-no-fuel _ _ (c .if1 .taken)
 
--- src/moves.rt:28:9
 returns-2 : tie.Need-returns-2
 returns-2 c = end-due _ _ (c .before .if1 .left) (sym (c .before .before .pre .3) ∙ c .if2 .taken)
 
--- src/moves.rt:30:5
 hand-over-requires : tie.Need-hand-over-requires
 hand-over-requires c κs = search needs
 
--- src/moves.rt:20:1
 returns-3 : tie.Need-returns-3
 returns-3 c = c .hand-over .ensures ∙ end-over _ _ (c .before .before .if1 .left) (sym (c .before .before .before .pre .3) ∙ c .before .if2 .left)
 

@@ -1,26 +1,19 @@
+-- The position after a move. Assumes nothing.
 use mathlib.Core.Path.{sym, _∙_}
 use native.Mathlib.Omega.{arith}
 use borrow.Author.Needs.{needs}
 use Rattle.leduc_arena.proofs.moves.moved.Statement.{statement}
 use Rattle.leduc_arena.proofs.moves.moved.Tie as tie
-use Rattle.leduc_arena.proofs.moves.moved.Reads as reads
-use Rattle.leduc_arena.proofs.moves.moved.Lts as lts
-use Rattle.leduc_positions.proofs.state.with_action.Reads as with-action-reads
-use Rattle.leduc_positions.proofs.state.with_card.Reads as with-card-reads
 
--- src/moves.rt:86:9
 with-card-requires : tie.Need-with-card-requires
 with-card-requires c κs = search needs
 
--- src/moves.rt:86:9
 returns : tie.Need-returns
 returns c = rw (sym (c .before .before .pre .0 .3) ∙ c .before .if1 .taken) (c .with-card .ensures)
 
--- src/moves.rt:88:5
 with-action-requires : tie.Need-with-action-requires
 with-action-requires c κs = (omega arith, c .before .pre .1 (sym (c .before .pre .0 .3) ∙ c .if1 .left))
 
--- src/moves.rt:80:1
 returns-2 : tie.Need-returns-2
 returns-2 c = rw (sym (c .before .before .pre .0 .3) ∙ c .before .if1 .left) (c .with-action .ensures)
 

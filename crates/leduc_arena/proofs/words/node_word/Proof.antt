@@ -1,3 +1,4 @@
+-- The word of a chance node or of a decision. Assumes nothing.
 use mathlib.Core.Path.{sym, _∙_}
 use native.Mathlib.Omega.{arith}
 use Rattle.leduc_arena.specs.Layout.{nodeWord}
@@ -5,45 +6,31 @@ use Rattle.leduc_arena.proofs.Going.{short, one-of-two, code-is, code-s
 use borrow.Author.Needs.{needs}
 use Rattle.leduc_arena.proofs.words.node_word.Statement.{statement}
 use Rattle.leduc_arena.proofs.words.node_word.Tie as tie
-use Rattle.leduc_arena.proofs.words.node_word.Reads as reads
-use Rattle.leduc_arena.proofs.words.node_word.Lts as lts
-use Rattle.arena.proofs.words.chance.Reads as chance-reads
-use Rattle.arena.proofs.words.decision.Reads as decision-reads
-use Rattle.leduc_arena.proofs.words.code.Reads as code-reads
-use Rattle.leduc_arena.proofs.words.turn.Reads as turn-reads
-use Rattle.leduc_positions.proofs.state.legal_list.Reads as legal-list-reads
 
--- src/words.rt:97:9
 chance-requires : tie.Need-chance-requires
 chance-requires c κs = search needs
 
--- src/words.rt:97:9
 returns : tie.Need-returns
 unfolding nodeWord
 returns c = rw (sym (c .before .before .pre .2) ∙ c .before .if1 .taken) (c .chance .ensures)
 
--- src/words.rt:99:9
 turn-requires : tie.Need-turn-requires
 turn-requires c κs = let u = short _ _ (c .before .pre .0 .going) in (u .1, u .2)
 
--- src/words.rt:100:9
 legal-list-requires : tie.Need-legal-list-requires
 legal-list-requires c κs = short _ _ (c .before .before .pre .0 .going)
 
--- src/words.rt:101:33
 code-requires : tie.Need-code-requires
 code-requires c κs = let d = sym (c .before .before .before .pre .2) ∙ c .before .before .if1 .left in
     let j = one-of-two _ _ (c .before .before .before .pre .0) d in
     let u = short _ _ (c .before .before .before .pre .0 .going) in
     (omega (arith, c .before .turn .ensures), u .1, u .2)
 
--- src/words.rt:101:5
 decision-requires : tie.Need-decision-requires
 decision-requires c κs = let d = sym (c .before .before .before .before .pre .2) ∙ c .before .before .before .if1 .left in
     let j = one-of-two _ _ (c .before .before .before .before .pre .0) d in
     (omega (arith, c .before .before .turn .ensures), omega (arith, c .before .legal-list .ensures .0), omega (arith, c .code .ensures, code-is _ _ (c .before .before .before .before .pre .0) d _ (c .before .before .turn .ensures), code-small _ _ (c .before .before .before .before .pre .0) d), c .before .before .before .before .pre .1, omega arith)
 
--- src/words.rt:92:1
 returns-2 : tie.Need-returns-2
 returns-2 c = word-is _ _ (c .before .before .before .before .before .pre .0) (sym (c .before .before .before .before .before .pre .2) ∙ c .before .before .before .before .if1 .left) _ _ _ _ _ _ (c .before .before .before .turn .ensures) (c .before .before .legal-list .ensures .0) (search needs) (c .before .before .legal-list .ensures .1) (c .before .code .ensures) (c .decision .ensures)
 

@@ -1,33 +1,25 @@
+-- The place of a child. Assumes nothing.
 use denote.Ref.{now}
-use Rattle.reply.proofs.Picking as picking
 use borrow.Author.Needs.{needs}
 use Rattle.reply.proofs.pick.child.Statement.{statement}
+use Rattle.reply.proofs.Picking as picking
 use Rattle.reply.proofs.pick.child.Tie as tie
-use Rattle.reply.proofs.pick.child.Reads as reads
-use Rattle.reply.proofs.pick.child.Lts as lts
-use Rattle.arena.proofs.walk.behind.Reads as behind-reads
 
--- src/pick.rt:18:18
 add-first : tie.Need-add-first
 add-first c = search needs
 
--- src/pick.rt:20:9
 returns : tie.Need-returns
 returns c = picking.first (now (c .before .before .args .w)) (c .before .before .args .a) (c .before .before .args .c) (c .if1 .taken)
 
--- src/pick.rt:22:9
 behind-requires : tie.Need-behind-requires
 behind-requires c κs = search needs
 
--- src/pick.rt:24:9
 returns-2 : tie.Need-returns-2
 returns-2 c = picking.second (now (c .before .before .before .before .args .w)) (c .before .before .before .before .args .a) (c .before .before .before .before .args .c) (c .before .behind .result) (c .before .behind .ensures) (c .if2 .taken)
 
--- src/pick.rt:26:5
 behind-requires-2 : tie.Need-behind-requires-2
 behind-requires-2 c κs = search needs
 
--- src/pick.rt:14:1
 returns-3 : tie.Need-returns-3
 returns-3 c = picking.third (now (c .before .before .before .before .before .args .w)) (c .before .before .before .before .before .args .a) (c .before .before .before .before .before .args .c) (c .before .before .behind .result) (c .behind2 .result) (c .before .before .before .if1 .left) (c .before .if2 .left) (c .before .before .behind .ensures) (c .behind2 .ensures)
 

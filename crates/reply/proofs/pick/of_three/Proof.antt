@@ -1,22 +1,17 @@
-use Rattle.reply.proofs.Picking as picking
+-- The greatest of three sums. Assumes nothing.
 use Rattle.reply.proofs.pick.of_three.Statement.{statement}
+use Rattle.reply.proofs.Picking as picking
 use Rattle.reply.proofs.pick.of_three.Tie as tie
-use Rattle.reply.proofs.pick.of_three.Reads as reads
-use Rattle.reply.proofs.pick.of_three.Lts as lts
 
--- src/pick.rt:42:13
 returns : tie.Need-returns
 returns c = picking.three-last _ _ _ (c .before .if1 .taken) (c .if2 .taken)
 
--- src/pick.rt:44:9
 returns-2 : tie.Need-returns-2
 returns-2 c = picking.three-middle _ _ _ (c .before .if1 .taken) (c .if2 .left)
 
--- src/pick.rt:47:9
 returns-3 : tie.Need-returns-3
 returns-3 c = picking.three-up _ _ _ (c .before .if1 .left) (c .if3 .taken)
 
--- src/pick.rt:37:1
 returns-4 : tie.Need-returns-4
 returns-4 c = picking.three-stays _ _ _ (c .before .if1 .left) (c .if3 .left)
 

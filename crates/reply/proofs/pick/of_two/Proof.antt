@@ -1,14 +1,11 @@
-use Rattle.reply.proofs.Picking as picking
+-- The greater of two sums. Assumes nothing.
 use Rattle.reply.proofs.pick.of_two.Statement.{statement}
+use Rattle.reply.proofs.Picking as picking
 use Rattle.reply.proofs.pick.of_two.Tie as tie
-use Rattle.reply.proofs.pick.of_two.Reads as reads
-use Rattle.reply.proofs.pick.of_two.Lts as lts
 
--- src/pick.rt:30:1
 returns : tie.Need-returns
 returns c = picking.two-up _ _ (c .if1 .taken)
 
--- src/pick.rt:30:1
 returns-2 : tie.Need-returns-2
 returns-2 c = picking.two-stays _ _ (c .if1 .left)
 

@@ -1,20 +1,18 @@
+-- Value and choice, which call each other: the remaining depth falls. Assumes nothing.
 use lib.ListN.{length}
-use Rattle.reply.specs.Valued.{Chosen}
+use Rattle.reply.specs.Valued.{Chosen, ValuedAll}
 use denote.Ref.{now}
 use mathlib.Core.Path.{_≡_, refl, sym, ap, _∙_, subst}
-use Prim.Native.Nat.{_%_}
-use Rattle.arena.specs.Words.{kindOf, actorOf, nextOf, laterOf, setOf, actionsOf}
-use Rattle.units.proofs.Six.{times-fits}
-use Rattle.reply.specs.Valued.{ValuedAll}
+use Prim.Native.Nat.{_%_, _+_, _*_, _-_, ℕ, _<_}
+use Rattle.arena.specs.Words.{laterOf, actionsOf}
 use native.Mathlib.Omega.{arith}
-use Prim.Native.Nat.{_+_, _*_, _-_, _≤_}
 use borrow.Author.Needs.{needs}
-use Rattle.reply.proofs.Valuing as valuing
-use Rattle.reply.proofs.Choosing as choosing
-use Rattle.arena.proofs.payoffs.lifted.Reads as lifted-reads
-use Prim.Native.Nat.{ℕ, _<_}
 use borrow.Fn.Kinds.{In}
 use borrow.Fn.PlainCycle.{Measures, is, falls, and}
+use Rattle.reply.proofs.values.+below+choose+own+row+total+value.{statement}
+use Rattle.reply.proofs.values.+below+choose+own+row+total+value.Tie.{close}
+use Rattle.reply.proofs.Valuing as valuing
+use Rattle.reply.proofs.Choosing as choosing
 use Rattle.reply.proofs.values.below.Reads as below
 use Rattle.reply.proofs.values.below.Kinds as below-kinds
 use Rattle.reply.proofs.values.+below+choose+own+row+total+value.Lts-below as below-lts
@@ -47,8 +45,6 @@ use Rattle.reply.proofs.pick.of_three.Reads as of-three-reads
 use Rattle.reply.proofs.pick.of_two.Reads as of-two-reads
 use Rattle.reply.proofs.values.ended.Reads as ended-reads
 use Rattle.std.proofs.num.wrapping_add_u64.Reads as wrapping-add-u64-reads
-use Rattle.reply.proofs.values.+below+choose+own+row+total+value.{statement}
-use Rattle.reply.proofs.values.+below+choose+own+row+total+value.Tie.{close}
 
 abbrev μ-below : Measures 1 below-kinds.ps ℕ
 μ-below κs a = 5 * a .1 .1 .1 .0 + 1
@@ -104,7 +100,6 @@ value-at t = and 1 value-kinds.ps (is 1 value-kinds.ps μ-value t) value.Pre
 abbrev value-below : ℕ → In 1 value-kinds.ps
 value-below t = and 1 value-kinds.ps (falls 1 value-kinds.ps _<_ μ-value t) value.Pre
 
--- src/values.rt:80:9
 below-word-requires : (t : ℕ) → below-lts.Need-word-requires (
   word-reads.Asked,
   word-reads.Learnt,
@@ -117,7 +112,6 @@ below-word-requires : (t : ℕ) → below-lts.Need-word-requires (
 ) (below-at t) below.Post
 below-word-requires t c κs = search needs
 
--- src/values.rt:81:8
 below-kind-requires : (t : ℕ) → below-lts.Need-kind-requires (
   word-reads.Asked,
   word-reads.Learnt,
@@ -130,7 +124,6 @@ below-kind-requires : (t : ℕ) → below-lts.Need-kind-requires (
 ) (below-at t) below.Post
 below-kind-requires t c κs = search needs
 
--- src/values.rt:82:9
 below-ended-requires : (t : ℕ) → below-lts.Need-ended-requires (
   word-reads.Asked,
   word-reads.Learnt,
@@ -143,7 +136,6 @@ below-ended-requires : (t : ℕ) → below-lts.Need-ended-requires (
 ) (below-at t) below.Post
 below-ended-requires t c κs = (c .before .before .before .before .before .before .pre .1 .seat, omega (arith, c .before .before .before .before .before .before .pre .1 .place, c .before .before .before .before .before .before .pre .1 .units))
 
--- src/values.rt:82:9
 below-same-length : (t : ℕ) → below-lts.Need-same-length (
   word-reads.Asked,
   word-reads.Learnt,
@@ -156,7 +148,6 @@ below-same-length : (t : ℕ) → below-lts.Need-same-length (
 ) (below-at t) below.Post
 below-same-length t c = search needs
 
--- src/values.rt:82:9
 below-returns : (t : ℕ) → below-lts.Need-returns (
   word-reads.Asked,
   word-reads.Learnt,
@@ -169,7 +160,6 @@ below-returns : (t : ℕ) → below-lts.Need-returns (
 ) (below-at t) below.Post
 below-returns t c = valuing.value-ended (c .before .before .before .before .before .before .before .args .seat) (c .before .before .before .before .before .before .before .args .depth) (c .before .before .before .before .before .before .before .args .heads) (c .before .before .before .before .before .before .before .args .units) (c .before .before .before .before .before .before .before .args .kept) (c .before .before .before .before .before .before .before .args .a) (now (c .before .before .before .before .before .before .before .args .w)) (c .before .before .before .before .word .result) (c .before .before .before .before .word .ensures) _ (sym (c .before .before .before .kind .ensures) ∙ c .before .before .if1 .taken) (c .ended .ensures)
 
--- src/values.rt:84:5
 below-value-requires : (t : ℕ) → below-lts.Need-value-requires (
   word-reads.Asked,
   word-reads.Learnt,
@@ -182,7 +172,6 @@ below-value-requires : (t : ℕ) → below-lts.Need-value-requires (
 ) (below-at t) below.Post
 below-value-requires t c κs = (omega (arith, c .before .before .before .before .before .before .pre .0), c .before .before .before .before .before .before .pre .1)
 
--- src/values.rt:68:1
 below-same-length-2 : (t : ℕ) → below-lts.Need-same-length-2 (
   word-reads.Asked,
   word-reads.Learnt,
@@ -195,7 +184,6 @@ below-same-length-2 : (t : ℕ) → below-lts.Need-same-length-2 (
 ) (below-at t) below.Post
 below-same-length-2 t c = search needs
 
--- src/values.rt:68:1
 below-returns-2 : (t : ℕ) → below-lts.Need-returns-2 (
   word-reads.Asked,
   word-reads.Learnt,
@@ -208,7 +196,6 @@ below-returns-2 : (t : ℕ) → below-lts.Need-returns-2 (
 ) (below-at t) below.Post
 below-returns-2 t c = c .before .before .value .ensures
 
--- src/values.rt:148:25
 choose-add-word : (t : ℕ) → choose-lts.Need-add-word (
   word-reads.Asked,
   word-reads.Learnt,
@@ -223,7 +210,6 @@ choose-add-word : (t : ℕ) → choose-lts.Need-add-word (
 ) (choose-at t) choose.Post
 choose-add-word t c = record { fits = omega (arith, c .before .before .pre .1 .kept, c .before .before .pre .1 .place) }
 
--- src/values.rt:148:9
 choose-word-requires : (t : ℕ) → choose-lts.Need-word-requires (
   word-reads.Asked,
   word-reads.Learnt,
@@ -238,7 +224,6 @@ choose-word-requires : (t : ℕ) → choose-lts.Need-word-requires (
 ) (choose-at t) choose.Post
 choose-word-requires t c κs = search needs
 
--- src/values.rt:150:16
 choose-sub-result : (t : ℕ) → choose-lts.Need-sub-result (
   word-reads.Asked,
   word-reads.Learnt,
@@ -253,7 +238,6 @@ choose-sub-result : (t : ℕ) → choose-lts.Need-sub-result (
 ) (choose-at t) choose.Post
 choose-sub-result t c = omega (arith, c .if1 .taken)
 
--- src/values.rt:150:9
 choose-same-length : (t : ℕ) → choose-lts.Need-same-length (
   word-reads.Asked,
   word-reads.Learnt,
@@ -268,7 +252,6 @@ choose-same-length : (t : ℕ) → choose-lts.Need-same-length (
 ) (choose-at t) choose.Post
 choose-same-length t c = search needs
 
--- src/values.rt:150:9
 choose-returns : (t : ℕ) → choose-lts.Need-returns (
   word-reads.Asked,
   word-reads.Learnt,
@@ -283,7 +266,6 @@ choose-returns : (t : ℕ) → choose-lts.Need-returns (
 ) (choose-at t) choose.Post
 choose-returns t c = choosing.chosen-known (c .before .before .before .before .args .seat) (c .before .before .before .before .args .depth) (c .before .before .before .before .args .heads) (c .before .before .before .before .args .units) (c .before .before .before .before .args .kept) (c .before .before .before .before .args .first) (c .before .before .before .before .args .count) (now (c .before .before .before .before .args .w)) (c .before .word .result) _ (c .before .word .ensures) (c .if1 .taken) refl
 
--- src/values.rt:152:9
 choose-total-requires : (t : ℕ) → choose-lts.Need-total-requires (
   word-reads.Asked,
   word-reads.Learnt,
@@ -298,7 +280,6 @@ choose-total-requires : (t : ℕ) → choose-lts.Need-total-requires (
 ) (choose-at t) choose.Post
 choose-total-requires t c κs = (omega (arith, c .before .before .before .before .before .pre .0), c .before .before .before .before .before .pre .1)
 
--- src/values.rt:153:9
 choose-total-requires-2 : (t : ℕ) → choose-lts.Need-total-requires-2 (
   word-reads.Asked,
   word-reads.Learnt,
@@ -313,7 +294,6 @@ choose-total-requires-2 : (t : ℕ) → choose-lts.Need-total-requires-2 (
 ) (choose-at t) choose.Post
 choose-total-requires-2 t c κs = (omega (arith, c .before .before .before .before .before .before .before .before .before .pre .0), c .before .before .before .before .before .before .before .before .before .pre .1)
 
--- src/values.rt:155:13
 choose-of-two-requires : (t : ℕ) → choose-lts.Need-of-two-requires (
   word-reads.Asked,
   word-reads.Learnt,
@@ -328,7 +308,6 @@ choose-of-two-requires : (t : ℕ) → choose-lts.Need-of-two-requires (
 ) (choose-at t) choose.Post
 choose-of-two-requires t c κs = search needs
 
--- src/values.rt:156:16
 choose-add-put : (t : ℕ) → choose-lts.Need-add-put (
   word-reads.Asked,
   word-reads.Learnt,
@@ -343,7 +322,6 @@ choose-add-put : (t : ℕ) → choose-lts.Need-add-put (
 ) (choose-at t) choose.Post
 choose-add-put t c = record { fits = omega (arith, c .before .before .before .before .before .before .before .before .before .before .before .before .before .before .before .pre .1 .kept, c .before .before .before .before .before .before .before .before .before .before .before .before .before .before .before .pre .1 .place) }
 
--- src/values.rt:156:30
 choose-add-put-2 : (t : ℕ) → choose-lts.Need-add-put-2 (
   word-reads.Asked,
   word-reads.Learnt,
@@ -358,7 +336,6 @@ choose-add-put-2 : (t : ℕ) → choose-lts.Need-add-put-2 (
 ) (choose-at t) choose.Post
 choose-add-put-2 t c = record { fits = omega (arith, valuing.two-few (c .before .before .before .before .before .before .before .before .before .total .result) (c .before .before .before .before .before .total2 .result), c .before .of-two .ensures) }
 
--- src/values.rt:156:9
 choose-put-requires : (t : ℕ) → choose-lts.Need-put-requires (
   word-reads.Asked,
   word-reads.Learnt,
@@ -373,7 +350,6 @@ choose-put-requires : (t : ℕ) → choose-lts.Need-put-requires (
 ) (choose-at t) choose.Post
 choose-put-requires t c κs = search needs
 
--- src/values.rt:157:9
 choose-same-length-2 : (t : ℕ) → choose-lts.Need-same-length-2 (
   word-reads.Asked,
   word-reads.Learnt,
@@ -388,7 +364,6 @@ choose-same-length-2 : (t : ℕ) → choose-lts.Need-same-length-2 (
 ) (choose-at t) choose.Post
 choose-same-length-2 t c = search needs
 
--- src/values.rt:157:9
 choose-returns-2 : (t : ℕ) → choose-lts.Need-returns-2 (
   word-reads.Asked,
   word-reads.Learnt,
@@ -403,7 +378,6 @@ choose-returns-2 : (t : ℕ) → choose-lts.Need-returns-2 (
 ) (choose-at t) choose.Post
 choose-returns-2 t c = choosing.chosen-two (c .before .before .before .before .before .before .before .before .before .before .before .before .before .before .before .before .before .before .args .seat) (c .before .before .before .before .before .before .before .before .before .before .before .before .before .before .before .before .before .before .args .depth) (c .before .before .before .before .before .before .before .before .before .before .before .before .before .before .before .before .before .before .args .heads) (c .before .before .before .before .before .before .before .before .before .before .before .before .before .before .before .before .before .before .args .units) (c .before .before .before .before .before .before .before .before .before .before .before .before .before .before .before .before .before .before .args .kept) (c .before .before .before .before .before .before .before .before .before .before .before .before .before .before .before .before .before .before .args .first) (c .before .before .before .before .before .before .before .before .before .before .before .before .before .before .before .before .before .before .args .count) (now (c .before .before .before .before .before .before .before .before .before .before .before .before .before .before .before .before .before .before .args .w)) (c .before .before .before .before .before .before .before .before .before .before .before .before .total .last .0) (c .before .before .before .before .before .before .before .before .total2 .last .0) (c .before .before .put .last .0) (c .before .before .before .before .before .before .before .before .before .before .before .before .total .result) (c .before .before .before .before .before .before .before .before .total2 .result) (c .before .before .before .before .of-two .result) (c .before .before .before .before .before .before .before .before .before .before .before .before .total .ensures) (c .before .before .before .before .before .before .before .before .total2 .ensures) (c .before .before .before .before .before .if2 .taken) (c .before .before .before .before .of-two .ensures) (c .before .before .put .ensures)
 
--- src/values.rt:159:9
 choose-total-requires-3 : (t : ℕ) → choose-lts.Need-total-requires-3 (
   word-reads.Asked,
   word-reads.Learnt,
@@ -418,7 +392,6 @@ choose-total-requires-3 : (t : ℕ) → choose-lts.Need-total-requires-3 (
 ) (choose-at t) choose.Post
 choose-total-requires-3 t c κs = (omega (arith, c .before .before .before .before .before .before .before .before .before .before .before .before .before .before .pre .0), c .before .before .before .before .before .before .before .before .before .before .before .before .before .before .pre .1)
 
--- src/values.rt:160:9
 choose-of-three-requires : (t : ℕ) → choose-lts.Need-of-three-requires (
   word-reads.Asked,
   word-reads.Learnt,
@@ -433,7 +406,6 @@ choose-of-three-requires : (t : ℕ) → choose-lts.Need-of-three-requires (
 ) (choose-at t) choose.Post
 choose-of-three-requires t c κs = search needs
 
--- src/values.rt:161:12
 choose-add-put-3 : (t : ℕ) → choose-lts.Need-add-put-3 (
   word-reads.Asked,
   word-reads.Learnt,
@@ -448,7 +420,6 @@ choose-add-put-3 : (t : ℕ) → choose-lts.Need-add-put-3 (
 ) (choose-at t) choose.Post
 choose-add-put-3 t c = record { fits = omega (arith, c .before .before .before .before .before .before .before .before .before .before .before .before .before .before .before .before .before .before .before .pre .1 .kept, c .before .before .before .before .before .before .before .before .before .before .before .before .before .before .before .before .before .before .before .pre .1 .place) }
 
--- src/values.rt:161:26
 choose-add-put-4 : (t : ℕ) → choose-lts.Need-add-put-4 (
   word-reads.Asked,
   word-reads.Learnt,
@@ -463,7 +434,6 @@ choose-add-put-4 : (t : ℕ) → choose-lts.Need-add-put-4 (
 ) (choose-at t) choose.Post
 choose-add-put-4 t c = record { fits = omega (arith, valuing.three-few (c .before .before .before .before .before .before .before .before .before .before .before .before .before .total .result) (c .before .before .before .before .before .before .before .before .before .total2 .result) (c .before .before .before .before .total3 .result), c .before .of-three .ensures) }
 
--- src/values.rt:161:5
 choose-put-requires-2 : (t : ℕ) → choose-lts.Need-put-requires-2 (
   word-reads.Asked,
   word-reads.Learnt,
@@ -478,7 +448,6 @@ choose-put-requires-2 : (t : ℕ) → choose-lts.Need-put-requires-2 (
 ) (choose-at t) choose.Post
 choose-put-requires-2 t c κs = search needs
 
--- src/values.rt:135:1
 choose-same-length-3 : (t : ℕ) → choose-lts.Need-same-length-3 (
   word-reads.Asked,
   word-reads.Learnt,
@@ -493,7 +462,6 @@ choose-same-length-3 : (t : ℕ) → choose-lts.Need-same-length-3 (
 ) (choose-at t) choose.Post
 choose-same-length-3 t c = search needs
 
--- src/values.rt:135:1
 choose-returns-3 : (t : ℕ) → choose-lts.Need-returns-3 (
   word-reads.Asked,
   word-reads.Learnt,
@@ -508,7 +476,6 @@ choose-returns-3 : (t : ℕ) → choose-lts.Need-returns-3 (
 ) (choose-at t) choose.Post
 choose-returns-3 t c = choosing.chosen-three (c .before .before .before .before .before .before .before .before .before .before .before .before .before .before .before .before .before .before .before .before .before .before .args .seat) (c .before .before .before .before .before .before .before .before .before .before .before .before .before .before .before .before .before .before .before .before .before .before .args .depth) (c .before .before .before .before .before .before .before .before .before .before .before .before .before .before .before .before .before .before .before .before .before .before .args .heads) (c .before .before .before .before .before .before .before .before .before .before .before .before .before .before .before .before .before .before .before .before .before .before .args .units) (c .before .before .before .before .before .before .before .before .before .before .before .before .before .before .before .before .before .before .before .before .before .before .args .kept) (c .before .before .before .before .before .before .before .before .before .before .before .before .before .before .before .before .before .before .before .before .before .before .args .first) (c .before .before .before .before .before .before .before .before .before .before .before .before .before .before .before .before .before .before .before .before .before .before .args .count) (now (c .before .before .before .before .before .before .before .before .before .before .before .before .before .before .before .before .before .before .before .before .before .before .args .w)) (c .before .before .before .before .before .before .before .before .before .before .before .before .before .before .before .before .total .last .0) (c .before .before .before .before .before .before .before .before .before .before .before .before .total2 .last .0) (c .before .before .before .before .before .before .before .total3 .last .0) (c .before .before .put2 .last .0) (c .before .before .before .before .before .before .before .before .before .before .before .before .before .before .before .before .total .result) (c .before .before .before .before .before .before .before .before .before .before .before .before .total2 .result) (c .before .before .before .before .before .before .before .total3 .result) (c .before .before .before .before .of-three .result) (c .before .before .before .before .before .before .before .before .before .before .before .before .before .before .before .before .total .ensures) (c .before .before .before .before .before .before .before .before .before .before .before .before .total2 .ensures) (c .before .before .before .before .before .before .before .total3 .ensures) (c .before .before .before .before .before .before .before .before .before .if2 .left) (c .before .before .before .before .of-three .ensures) (c .before .before .put2 .ensures)
 
--- src/values.rt:129:28
 own-set-requires : (t : ℕ) → own-lts.Need-set-requires (
   set-reads.Asked,
   set-reads.Learnt,
@@ -523,7 +490,6 @@ own-set-requires : (t : ℕ) → own-lts.Need-set-requires (
 ) (own-at t) own.Post
 own-set-requires t c κs = search needs
 
--- src/values.rt:129:36
 own-actions-requires : (t : ℕ) → own-lts.Need-actions-requires (
   set-reads.Asked,
   set-reads.Learnt,
@@ -538,7 +504,6 @@ own-actions-requires : (t : ℕ) → own-lts.Need-actions-requires (
 ) (own-at t) own.Post
 own-actions-requires t c κs = search needs
 
--- src/values.rt:129:9
 own-choose-requires : (t : ℕ) → own-lts.Need-choose-requires (
   set-reads.Asked,
   set-reads.Learnt,
@@ -553,7 +518,6 @@ own-choose-requires : (t : ℕ) → own-lts.Need-choose-requires (
 ) (own-at t) own.Post
 own-choose-requires t c κs = (omega (arith, c .before .before .before .before .pre .0), valuing.walk-at (c .before .before .before .before .args .a + 1) (c .before .before .before .before .args .seat) (c .before .before .before .before .args .depth) (c .before .before .before .before .args .heads) (c .before .before .before .before .args .units) (c .before .before .before .before .args .kept) (c .before .before .before .before .pre .1) (c .before .set .result) (c .before .before .before .before .args .depth) (omega arith) (omega (arith, c .before .set .ensures, c .before .before .before .before .pre .1 .shallow)))
 
--- src/values.rt:130:9
 own-child-requires : (t : ℕ) → own-lts.Need-child-requires (
   set-reads.Asked,
   set-reads.Learnt,
@@ -568,7 +532,6 @@ own-child-requires : (t : ℕ) → own-lts.Need-child-requires (
 ) (own-at t) own.Post
 own-child-requires t c κs = omega (arith, c .before .before .before .before .before .before .before .before .pre .1 .place)
 
--- src/values.rt:131:5
 own-below-requires : (t : ℕ) → own-lts.Need-below-requires (
   set-reads.Asked,
   set-reads.Learnt,
@@ -583,7 +546,6 @@ own-below-requires : (t : ℕ) → own-lts.Need-below-requires (
 ) (own-at t) own.Post
 own-below-requires t c κs = (omega (arith, c .before .before .before .before .before .before .before .before .before .before .pre .0), valuing.walk-at (c .before .before .before .before .before .before .before .before .before .before .args .a + 1) (c .before .before .before .before .before .before .before .before .before .before .args .seat) (c .before .before .before .before .before .before .before .before .before .before .args .depth) (c .before .before .before .before .before .before .before .before .before .before .args .heads) (c .before .before .before .before .before .before .before .before .before .before .args .units) (c .before .before .before .before .before .before .before .before .before .before .args .kept) (c .before .before .before .before .before .before .before .before .before .before .pre .1) (c .before .child .result) (c .before .before .before .before .before .before .before .before .before .before .args .depth) (omega arith) (omega (arith, c .before .child .ensures .near, c .before .before .before .before .before .before .before .before .before .before .pre .1 .shallow)))
 
--- src/values.rt:116:1
 own-same-length : (t : ℕ) → own-lts.Need-same-length (
   set-reads.Asked,
   set-reads.Learnt,
@@ -598,7 +560,6 @@ own-same-length : (t : ℕ) → own-lts.Need-same-length (
 ) (own-at t) own.Post
 own-same-length t c = search needs
 
--- src/values.rt:116:1
 own-returns : (t : ℕ) → own-lts.Need-returns (
   set-reads.Asked,
   set-reads.Learnt,
@@ -619,7 +580,6 @@ row-Inv-loop w₀ a end seat depth heads units kept sum₀ at₀ w sum at = valu
 abbrev row-μ-loop : row-lts.MeasureT-loop
 row-μ-loop w₀ a end seat depth heads units kept sum₀ at₀ w sum at = end - at
 
--- src/values.rt:103:5
 row-loop-holds : (t : ℕ) → row-lts.Need-loop-holds (
   below-below t,
   below.Post,
@@ -630,7 +590,6 @@ row-loop-holds : (t : ℕ) → row-lts.Need-loop-holds (
 ) (row-at t) row.Post row-Inv-loop row-μ-loop
 row-loop-holds t c = (valuing.along-start (c .before .args .seat) (c .before .args .depth) (c .before .args .heads) (c .before .args .units) (c .before .args .kept) (c .before .args .a) (c .before .args .end) (now (c .before .args .w)), c .before .pre .1 .place, refl)
 
--- src/values.rt:104:13
 row-below-requires : (t : ℕ) → row-lts.Need-below-requires (
   below-below t,
   below.Post,
@@ -641,7 +600,6 @@ row-below-requires : (t : ℕ) → row-lts.Need-below-requires (
 ) (row-at t) row.Post row-Inv-loop row-μ-loop
 row-below-requires t c κs = (omega (arith, c .before .before .before .before .pre .0), valuing.walk-at (c .before .before .before .before .args .a) (c .before .before .before .before .args .seat) (c .before .before .before .before .args .depth) (c .before .before .before .before .args .heads) (c .before .before .before .before .args .units) (c .before .before .before .before .args .kept) (c .before .before .before .before .pre .1) (c .before .before .loop .at) (c .before .before .before .before .args .depth) (omega arith) (c .before .before .loop .inv .1))
 
--- src/values.rt:105:9
 row-wrapping-add-u64-requires : (t : ℕ) → row-lts.Need-wrapping-add-u64-requires (
   below-below t,
   below.Post,
@@ -652,7 +610,6 @@ row-wrapping-add-u64-requires : (t : ℕ) → row-lts.Need-wrapping-add-u64-requ
 ) (row-at t) row.Post row-Inv-loop row-μ-loop
 row-wrapping-add-u64-requires t c κs = search needs
 
--- src/values.rt:106:13
 row-behind-requires : (t : ℕ) → row-lts.Need-behind-requires (
   below-below t,
   below.Post,
@@ -663,7 +620,6 @@ row-behind-requires : (t : ℕ) → row-lts.Need-behind-requires (
 ) (row-at t) row.Post row-Inv-loop row-μ-loop
 row-behind-requires t c κs = omega (arith, c .before .before .before .before .before .before .before .loop .inv .1)
 
--- src/values.rt:108:13
 row-same-length : (t : ℕ) → row-lts.Need-same-length (
   below-below t,
   below.Post,
@@ -674,7 +630,6 @@ row-same-length : (t : ℕ) → row-lts.Need-same-length (
 ) (row-at t) row.Post row-Inv-loop row-μ-loop
 row-same-length t c = search needs
 
--- src/values.rt:108:13
 row-returns : (t : ℕ) → row-lts.Need-returns (
   below-below t,
   below.Post,
@@ -685,7 +640,6 @@ row-returns : (t : ℕ) → row-lts.Need-returns (
 ) (row-at t) row.Post row-Inv-loop row-μ-loop
 row-returns t c = valuing.along-stuck (c .before .before .before .before .before .before .before .before .before .before .before .args .seat) (c .before .before .before .before .before .before .before .before .before .before .before .args .depth) (c .before .before .before .before .before .before .before .before .before .before .before .args .heads) (c .before .before .before .before .before .before .before .before .before .before .before .args .units) (c .before .before .before .before .before .before .before .before .before .before .before .args .kept) (c .before .before .before .before .before .before .before .before .before .before .before .args .a) (c .before .before .before .before .before .before .before .before .before .before .before .args .end) (now (c .before .before .before .before .before .before .before .before .before .before .before .args .w)) (c .before .before .before .before .before .before .before .before .before .loop .w) (c .before .before .before .before .before .before .below .last .0) (c .before .before .before .before .before .before .before .before .before .loop .at) (c .before .before .before .before .before .before .before .before .before .loop .sum) (c .before .before .before .before .before .before .below .result) (c .before .before .before .wrapping-add-u64 .result) (c .before .behind .result) (c .before .before .before .before .before .before .before .before .before .loop .inv .0) (c .before .before .before .before .before .before .before .before .loop-test .taken) (c .before .before .before .before .before .before .below .ensures) (c .before .behind .ensures) (c .if1 .taken)
 
--- src/values.rt:103:5
 row-loop-less : (t : ℕ) → row-lts.Need-loop-less (
   below-below t,
   below.Post,
@@ -696,7 +650,6 @@ row-loop-less : (t : ℕ) → row-lts.Need-loop-less (
 ) (row-at t) row.Post row-Inv-loop row-μ-loop
 row-loop-less t c = omega (arith, c .before .before .before .before .before .before .before .before .loop-test .taken, c .if1 .left)
 
--- src/values.rt:103:5
 row-loop-again : (t : ℕ) → row-lts.Need-loop-again (
   below-below t,
   below.Post,
@@ -707,7 +660,6 @@ row-loop-again : (t : ℕ) → row-lts.Need-loop-again (
 ) (row-at t) row.Post row-Inv-loop row-μ-loop
 row-loop-again t c = (valuing.along-more (c .before .before .before .before .before .before .before .before .before .before .before .args .seat) (c .before .before .before .before .before .before .before .before .before .before .before .args .depth) (c .before .before .before .before .before .before .before .before .before .before .before .args .heads) (c .before .before .before .before .before .before .before .before .before .before .before .args .units) (c .before .before .before .before .before .before .before .before .before .before .before .args .kept) (c .before .before .before .before .before .before .before .before .before .before .before .args .a) (c .before .before .before .before .before .before .before .before .before .before .before .args .end) (now (c .before .before .before .before .before .before .before .before .before .before .before .args .w)) (c .before .before .before .before .before .before .before .before .before .loop .w) (c .before .before .before .before .before .before .below .last .0) (c .before .before .before .before .before .before .before .before .before .loop .at) (c .before .before .before .before .before .before .before .before .before .loop .sum) (c .before .before .before .before .before .before .below .result) (c .before .before .before .wrapping-add-u64 .result) (c .before .behind .result) (c .before .before .before .before .before .before .before .before .before .loop .inv .0) (c .before .before .before .before .before .before .before .before .loop-test .taken) (c .before .before .before .before .before .before .below .ensures) (c .before .before .before .wrapping-add-u64 .ensures) (c .before .behind .ensures), omega (arith, c .before .behind .ensures .near, c .before .before .before .before .before .before .before .before .before .before .before .pre .1 .shallow), omega (arith, c .before .before .before .before .before .before .below .kept .0, c .before .before .before .before .before .before .before .before .before .loop .inv .2))
 
--- src/values.rt:88:1
 row-same-length-2 : (t : ℕ) → row-lts.Need-same-length-2 (
   below-below t,
   below.Post,
@@ -718,7 +670,6 @@ row-same-length-2 : (t : ℕ) → row-lts.Need-same-length-2 (
 ) (row-at t) row.Post row-Inv-loop row-μ-loop
 row-same-length-2 t c = search needs
 
--- src/values.rt:88:1
 row-returns-2 : (t : ℕ) → row-lts.Need-returns-2 (
   below-below t,
   below.Post,
@@ -735,7 +686,6 @@ total-Inv-loop w₀ first action seat depth heads units kept sum₀ at₀ w sum 
 abbrev total-μ-loop : total-lts.MeasureT-loop
 total-μ-loop w₀ first action seat depth heads units kept sum₀ at₀ w sum at = 2097152 - at
 
--- src/values.rt:180:27
 total-add-word : (t : ℕ) → total-lts.Need-add-word (
   word-reads.Asked,
   word-reads.Learnt,
@@ -750,7 +700,6 @@ total-add-word : (t : ℕ) → total-lts.Need-add-word (
 ) (total-at t) total.Post total-Inv-loop total-μ-loop
 total-add-word t c = record { fits = omega (arith, c .before .before .pre .1 .heads, c .before .before .pre .1 .place) }
 
--- src/values.rt:180:19
 total-word-requires : (t : ℕ) → total-lts.Need-word-requires (
   word-reads.Asked,
   word-reads.Learnt,
@@ -765,7 +714,6 @@ total-word-requires : (t : ℕ) → total-lts.Need-word-requires (
 ) (total-at t) total.Post total-Inv-loop total-μ-loop
 total-word-requires t c κs = search needs
 
--- src/values.rt:181:5
 total-loop-holds : (t : ℕ) → total-lts.Need-loop-holds (
   word-reads.Asked,
   word-reads.Learnt,
@@ -780,7 +728,6 @@ total-loop-holds : (t : ℕ) → total-lts.Need-loop-holds (
 ) (total-at t) total.Post total-Inv-loop total-μ-loop
 total-loop-holds t c = (choosing.summed-start (c .before .before .before .args .seat) (c .before .before .before .args .depth) (c .before .before .before .args .heads) (c .before .before .before .args .units) (c .before .before .before .args .kept) (c .before .before .before .args .first) (c .before .before .before .args .action) (now (c .before .before .before .args .w)) _ (ap (λ j. j % 2097152) (c .word .ensures)), omega arith, refl)
 
--- src/values.rt:182:13
 total-child-requires : (t : ℕ) → total-lts.Need-child-requires (
   word-reads.Asked,
   word-reads.Learnt,
@@ -795,7 +742,6 @@ total-child-requires : (t : ℕ) → total-lts.Need-child-requires (
 ) (total-at t) total.Post total-Inv-loop total-μ-loop
 total-child-requires t c κs = omega (arith, c .before .before .loop .inv .1)
 
--- src/values.rt:183:13
 total-below-requires : (t : ℕ) → total-lts.Need-below-requires (
   word-reads.Asked,
   word-reads.Learnt,
@@ -810,7 +756,6 @@ total-below-requires : (t : ℕ) → total-lts.Need-below-requires (
 ) (total-at t) total.Post total-Inv-loop total-μ-loop
 total-below-requires t c κs = (omega (arith, c .before .before .before .before .before .before .before .before .pre .0), valuing.walk-at (c .before .before .before .before .before .before .before .before .args .first) (c .before .before .before .before .before .before .before .before .args .seat) (c .before .before .before .before .before .before .before .before .args .depth) (c .before .before .before .before .before .before .before .before .args .heads) (c .before .before .before .before .before .before .before .before .args .units) (c .before .before .before .before .before .before .before .before .args .kept) (c .before .before .before .before .before .before .before .before .pre .1) (c .before .child .result) (c .before .before .before .before .before .before .before .before .args .depth) (omega arith) (omega (arith, c .before .child .ensures .near, c .before .before .before .before .before .before .before .before .pre .1 .shallow)))
 
--- src/values.rt:184:9
 total-wrapping-add-u64-requires : (t : ℕ) → total-lts.Need-wrapping-add-u64-requires (
   word-reads.Asked,
   word-reads.Learnt,
@@ -825,7 +770,6 @@ total-wrapping-add-u64-requires : (t : ℕ) → total-lts.Need-wrapping-add-u64-
 ) (total-at t) total.Post total-Inv-loop total-μ-loop
 total-wrapping-add-u64-requires t c κs = search needs
 
--- src/values.rt:185:26
 total-word-requires-2 : (t : ℕ) → total-lts.Need-word-requires-2 (
   word-reads.Asked,
   word-reads.Learnt,
@@ -840,7 +784,6 @@ total-word-requires-2 : (t : ℕ) → total-lts.Need-word-requires-2 (
 ) (total-at t) total.Post total-Inv-loop total-μ-loop
 total-word-requires-2 t c κs = search needs
 
--- src/values.rt:185:13
 total-later-requires : (t : ℕ) → total-lts.Need-later-requires (
   word-reads.Asked,
   word-reads.Learnt,
@@ -855,7 +798,6 @@ total-later-requires : (t : ℕ) → total-lts.Need-later-requires (
 ) (total-at t) total.Post total-Inv-loop total-μ-loop
 total-later-requires t c κs = search needs
 
--- src/values.rt:187:13
 total-same-length : (t : ℕ) → total-lts.Need-same-length (
   word-reads.Asked,
   word-reads.Learnt,
@@ -870,7 +812,6 @@ total-same-length : (t : ℕ) → total-lts.Need-same-length (
 ) (total-at t) total.Post total-Inv-loop total-μ-loop
 total-same-length t c = search needs
 
--- src/values.rt:187:13
 total-returns : (t : ℕ) → total-lts.Need-returns (
   word-reads.Asked,
   word-reads.Learnt,
@@ -885,7 +826,6 @@ total-returns : (t : ℕ) → total-lts.Need-returns (
 ) (total-at t) total.Post total-Inv-loop total-μ-loop
 total-returns t c = choosing.summed-stuck (c .before .before .before .before .before .before .before .before .before .before .before .before .before .before .before .before .args .seat) (c .before .before .before .before .before .before .before .before .before .before .before .before .before .before .before .before .args .depth) (c .before .before .before .before .before .before .before .before .before .before .before .before .before .before .before .before .args .heads) (c .before .before .before .before .before .before .before .before .before .before .before .before .before .before .before .before .args .units) (c .before .before .before .before .before .before .before .before .before .before .before .before .before .before .before .before .args .kept) (c .before .before .before .before .before .before .before .before .before .before .before .before .before .before .before .before .args .first) (c .before .before .before .before .before .before .before .before .before .before .before .before .before .before .before .before .args .action) (now (c .before .before .before .before .before .before .before .before .before .before .before .before .before .before .before .before .args .w)) (c .before .before .before .before .before .before .before .before .before .before .before .before .loop .w) (c .before .before .before .before .before .before .before .below .last .0) (c .before .before .before .before .before .before .before .before .before .before .before .before .loop .at) (c .before .before .before .before .before .before .before .before .before .before .before .before .loop .sum) (c .before .before .before .before .before .before .before .before .before .child .result) (c .before .before .before .before .before .before .before .below .result) (c .before .before .before .before .wrapping-add-u64 .result) (c .before .later .result) (c .before .before .before .before .before .before .before .before .before .before .before .before .loop .inv .0) (c .before .before .before .before .before .before .before .before .before .before .before .loop-test .taken) (c .before .before .before .before .before .before .before .before .before .child .ensures) (c .before .before .before .before .before .before .before .below .ensures) (c .before .before .before .before .wrapping-add-u64 .ensures) (c .before .later .ensures ∙ ap laterOf (c .before .before .word2 .ensures)) (c .if1 .taken)
 
--- src/values.rt:181:5
 total-loop-less : (t : ℕ) → total-lts.Need-loop-less (
   word-reads.Asked,
   word-reads.Learnt,
@@ -900,7 +840,6 @@ total-loop-less : (t : ℕ) → total-lts.Need-loop-less (
 ) (total-at t) total.Post total-Inv-loop total-μ-loop
 total-loop-less t c = omega (arith, c .if1 .left, c .before .before .before .before .before .before .before .before .before .before .before .before .loop .inv .1)
 
--- src/values.rt:181:5
 total-loop-again : (t : ℕ) → total-lts.Need-loop-again (
   word-reads.Asked,
   word-reads.Learnt,
@@ -915,7 +854,6 @@ total-loop-again : (t : ℕ) → total-lts.Need-loop-again (
 ) (total-at t) total.Post total-Inv-loop total-μ-loop
 total-loop-again t c = (choosing.summed-more (c .before .before .before .before .before .before .before .before .before .before .before .before .before .before .before .before .args .seat) (c .before .before .before .before .before .before .before .before .before .before .before .before .before .before .before .before .args .depth) (c .before .before .before .before .before .before .before .before .before .before .before .before .before .before .before .before .args .heads) (c .before .before .before .before .before .before .before .before .before .before .before .before .before .before .before .before .args .units) (c .before .before .before .before .before .before .before .before .before .before .before .before .before .before .before .before .args .kept) (c .before .before .before .before .before .before .before .before .before .before .before .before .before .before .before .before .args .first) (c .before .before .before .before .before .before .before .before .before .before .before .before .before .before .before .before .args .action) (now (c .before .before .before .before .before .before .before .before .before .before .before .before .before .before .before .before .args .w)) (c .before .before .before .before .before .before .before .before .before .before .before .before .loop .w) (c .before .before .before .before .before .before .before .below .last .0) (c .before .before .before .before .before .before .before .before .before .before .before .before .loop .at) (c .before .before .before .before .before .before .before .before .before .before .before .before .loop .sum) (c .before .before .before .before .before .before .before .before .before .child .result) (c .before .before .before .before .before .before .before .below .result) (c .before .before .before .before .wrapping-add-u64 .result) (c .before .later .result) (c .before .before .before .before .before .before .before .before .before .before .before .before .loop .inv .0) (c .before .before .before .before .before .before .before .before .before .before .before .loop-test .taken) (c .before .before .before .before .before .before .before .before .before .child .ensures) (c .before .before .before .before .before .before .before .below .ensures) (c .before .before .before .before .wrapping-add-u64 .ensures) (c .before .later .ensures ∙ ap laterOf (c .before .before .word2 .ensures)), omega (arith, c .before .later .ensures), omega (arith, c .before .before .before .before .before .before .before .below .kept .0, c .before .before .before .before .before .before .before .before .before .before .before .before .loop .inv .2))
 
--- src/values.rt:166:1
 total-same-length-2 : (t : ℕ) → total-lts.Need-same-length-2 (
   word-reads.Asked,
   word-reads.Learnt,
@@ -930,7 +868,6 @@ total-same-length-2 : (t : ℕ) → total-lts.Need-same-length-2 (
 ) (total-at t) total.Post total-Inv-loop total-μ-loop
 total-same-length-2 t c = search needs
 
--- src/values.rt:166:1
 total-returns-2 : (t : ℕ) → total-lts.Need-returns-2 (
   word-reads.Asked,
   word-reads.Learnt,
@@ -945,7 +882,6 @@ total-returns-2 : (t : ℕ) → total-lts.Need-returns-2 (
 ) (total-at t) total.Post total-Inv-loop total-μ-loop
 total-returns-2 t c = choosing.summed-end (c .before .before .before .before .before .args .seat) (c .before .before .before .before .before .args .depth) (c .before .before .before .before .before .args .heads) (c .before .before .before .before .before .args .units) (c .before .before .before .before .before .args .kept) (c .before .before .before .before .before .args .first) (c .before .before .before .before .before .args .action) (now (c .before .before .before .before .before .args .w)) (c .before .loop .w) (c .before .loop .at) (c .before .loop .sum) (c .before .loop .inv .0) (λ l. omega (arith, l, c .loop-test .left))
 
--- src/values.rt:51:9
 value-returns : (t : ℕ) → value-lts.Need-returns (
   word-reads.Asked,
   word-reads.Learnt,
@@ -964,7 +900,6 @@ value-returns : (t : ℕ) → value-lts.Need-returns (
 ) (value-at t) value.Post
 value-returns t c = valuing.value-none (c .before .before .args .seat) (c .before .before .args .depth) (c .before .before .args .heads) (c .before .before .args .units) (c .before .before .args .kept) (c .before .before .args .a) (now (c .before .before .args .w)) 0 (c .if1 .taken)
 
--- src/values.rt:53:9
 value-word-requires : (t : ℕ) → value-lts.Need-word-requires (
   word-reads.Asked,
   word-reads.Learnt,
@@ -983,7 +918,6 @@ value-word-requires : (t : ℕ) → value-lts.Need-word-requires (
 ) (value-at t) value.Post
 value-word-requires t c κs = search needs
 
--- src/values.rt:54:9
 value-kind-requires : (t : ℕ) → value-lts.Need-kind-requires (
   word-reads.Asked,
   word-reads.Learnt,
@@ -1002,7 +936,6 @@ value-kind-requires : (t : ℕ) → value-lts.Need-kind-requires (
 ) (value-at t) value.Post
 value-kind-requires t c κs = search needs
 
--- src/values.rt:56:9
 value-ended-requires : (t : ℕ) → value-lts.Need-ended-requires (
   word-reads.Asked,
   word-reads.Learnt,
@@ -1021,7 +954,6 @@ value-ended-requires : (t : ℕ) → value-lts.Need-ended-requires (
 ) (value-at t) value.Post
 value-ended-requires t c κs = (c .before .before .before .before .before .before .before .pre .1 .seat, omega (arith, c .before .before .before .before .before .before .before .pre .1 .place, c .before .before .before .before .before .before .before .pre .1 .units))
 
--- src/values.rt:56:9
 value-same-length : (t : ℕ) → value-lts.Need-same-length (
   word-reads.Asked,
   word-reads.Learnt,
@@ -1040,7 +972,6 @@ value-same-length : (t : ℕ) → value-lts.Need-same-length (
 ) (value-at t) value.Post
 value-same-length t c = search needs
 
--- src/values.rt:56:9
 value-returns-2 : (t : ℕ) → value-lts.Need-returns-2 (
   word-reads.Asked,
   word-reads.Learnt,
@@ -1059,7 +990,6 @@ value-returns-2 : (t : ℕ) → value-lts.Need-returns-2 (
 ) (value-at t) value.Post
 value-returns-2 t c = valuing.value-ended (c .before .before .before .before .before .before .before .before .args .seat) (c .before .before .before .before .before .before .before .before .args .depth) (c .before .before .before .before .before .before .before .before .args .heads) (c .before .before .before .before .before .before .before .before .args .units) (c .before .before .before .before .before .before .before .before .args .kept) (c .before .before .before .before .before .before .before .before .args .a) (now (c .before .before .before .before .before .before .before .before .args .w)) (c .before .before .before .before .word .result) (c .before .before .before .before .word .ensures) _ (sym (c .before .before .before .kind .ensures) ∙ c .before .before .if2 .taken) (c .ended .ensures)
 
--- src/values.rt:59:23
 value-add-row : (t : ℕ) → value-lts.Need-add-row (
   word-reads.Asked,
   word-reads.Learnt,
@@ -1078,7 +1008,6 @@ value-add-row : (t : ℕ) → value-lts.Need-add-row (
 ) (value-at t) value.Post
 value-add-row t c = record { fits = omega (arith, c .before .before .before .before .before .before .before .before .pre .1 .place) }
 
--- src/values.rt:59:30
 value-next-requires : (t : ℕ) → value-lts.Need-next-requires (
   word-reads.Asked,
   word-reads.Learnt,
@@ -1097,7 +1026,6 @@ value-next-requires : (t : ℕ) → value-lts.Need-next-requires (
 ) (value-at t) value.Post
 value-next-requires t c κs = search needs
 
--- src/values.rt:59:45
 value-sub-row : (t : ℕ) → value-lts.Need-sub-row (
   word-reads.Asked,
   word-reads.Learnt,
@@ -1116,7 +1044,6 @@ value-sub-row : (t : ℕ) → value-lts.Need-sub-row (
 ) (value-at t) value.Post
 value-sub-row t c = omega (arith, c .before .before .before .before .before .before .before .if1 .left)
 
--- src/values.rt:59:9
 value-row-requires : (t : ℕ) → value-lts.Need-row-requires (
   word-reads.Asked,
   word-reads.Learnt,
@@ -1135,7 +1062,6 @@ value-row-requires : (t : ℕ) → value-lts.Need-row-requires (
 ) (value-at t) value.Post
 value-row-requires t c κs = (omega (arith, c .before .before .before .before .before .before .before .before .before .pre .0, c .before .before .before .before .before .before .before .if1 .left), valuing.walk-at (c .before .before .before .before .before .before .before .before .before .args .a) (c .before .before .before .before .before .before .before .before .before .args .seat) (c .before .before .before .before .before .before .before .before .before .args .depth) (c .before .before .before .before .before .before .before .before .before .args .heads) (c .before .before .before .before .before .before .before .before .before .args .units) (c .before .before .before .before .before .before .before .before .before .args .kept) (c .before .before .before .before .before .before .before .before .before .pre .1) (c .before .before .before .before .before .before .before .before .before .args .a + 1) (c .before .before .before .before .before .before .before .before .before .args .depth - 1) (omega arith) (omega (arith, c .before .before .before .before .before .before .before .before .before .pre .1 .place, c .before .before .before .before .before .before .before .if1 .left)))
 
--- src/values.rt:59:9
 value-same-length-2 : (t : ℕ) → value-lts.Need-same-length-2 (
   word-reads.Asked,
   word-reads.Learnt,
@@ -1154,7 +1080,6 @@ value-same-length-2 : (t : ℕ) → value-lts.Need-same-length-2 (
 ) (value-at t) value.Post
 value-same-length-2 t c = search needs
 
--- src/values.rt:59:9
 value-returns-3 : (t : ℕ) → value-lts.Need-returns-3 (
   word-reads.Asked,
   word-reads.Learnt,
@@ -1173,7 +1098,6 @@ value-returns-3 : (t : ℕ) → value-lts.Need-returns-3 (
 ) (value-at t) value.Post
 value-returns-3 t c = valuing.value-chance (c .before .before .before .before .before .before .before .before .before .before .before .before .args .seat) (c .before .before .before .before .before .before .before .before .before .before .before .before .args .depth) (c .before .before .before .before .before .before .before .before .before .before .before .before .args .heads) (c .before .before .before .before .before .before .before .before .before .before .before .before .args .units) (c .before .before .before .before .before .before .before .before .before .before .before .before .args .kept) (c .before .before .before .before .before .before .before .before .before .before .before .before .args .a) (now (c .before .before .before .before .before .before .before .before .before .before .before .before .args .w)) (c .before .before .before .before .before .before .before .before .word .result) (c .before .before .before .before .before .before .before .before .word .ensures) (c .before .before .row .last .0) (c .before .before .row .result) (λ q. c .before .before .before .before .before .before .if2 .left (c .before .before .before .before .before .before .before .kind .ensures ∙ q)) (λ q. c .before .before .before .before .before .if3 .taken (c .before .before .before .before .before .before .before .kind .ensures ∙ q)) (subst (λ z. ValuedAll (c .before .before .before .before .before .before .before .before .before .before .before .before .args .seat) (c .before .before .before .before .before .before .before .before .before .before .before .before .args .depth - 1) (c .before .before .before .before .before .before .before .before .before .before .before .before .args .heads) (c .before .before .before .before .before .before .before .before .before .before .before .before .args .units) (c .before .before .before .before .before .before .before .before .before .before .before .before .args .kept) (c .before .before .before .before .before .before .before .before .before .before .before .before .args .a + 1) z (now (c .before .before .before .before .before .before .before .before .before .before .before .before .args .w)) (c .before .before .row .last .0) (c .before .before .row .result)) (c .before .before .before .next .ensures) (c .before .before .row .ensures))
 
--- src/values.rt:61:8
 value-actor-requires : (t : ℕ) → value-lts.Need-actor-requires (
   word-reads.Asked,
   word-reads.Learnt,
@@ -1192,7 +1116,6 @@ value-actor-requires : (t : ℕ) → value-lts.Need-actor-requires (
 ) (value-at t) value.Post
 value-actor-requires t c κs = search needs
 
--- src/values.rt:62:23
 value-add-row-2 : (t : ℕ) → value-lts.Need-add-row-2 (
   word-reads.Asked,
   word-reads.Learnt,
@@ -1211,7 +1134,6 @@ value-add-row-2 : (t : ℕ) → value-lts.Need-add-row-2 (
 ) (value-at t) value.Post
 value-add-row-2 t c = record { fits = omega (arith, c .before .before .before .before .before .before .before .before .before .before .pre .1 .place) }
 
--- src/values.rt:62:30
 value-next-requires-2 : (t : ℕ) → value-lts.Need-next-requires-2 (
   word-reads.Asked,
   word-reads.Learnt,
@@ -1230,7 +1152,6 @@ value-next-requires-2 : (t : ℕ) → value-lts.Need-next-requires-2 (
 ) (value-at t) value.Post
 value-next-requires-2 t c κs = search needs
 
--- src/values.rt:62:45
 value-sub-row-2 : (t : ℕ) → value-lts.Need-sub-row-2 (
   word-reads.Asked,
   word-reads.Learnt,
@@ -1249,7 +1170,6 @@ value-sub-row-2 : (t : ℕ) → value-lts.Need-sub-row-2 (
 ) (value-at t) value.Post
 value-sub-row-2 t c = omega (arith, c .before .before .before .before .before .before .before .before .before .if1 .left)
 
--- src/values.rt:62:9
 value-row-requires-2 : (t : ℕ) → value-lts.Need-row-requires-2 (
   word-reads.Asked,
   word-reads.Learnt,
@@ -1268,7 +1188,6 @@ value-row-requires-2 : (t : ℕ) → value-lts.Need-row-requires-2 (
 ) (value-at t) value.Post
 value-row-requires-2 t c κs = (omega (arith, c .before .before .before .before .before .before .before .before .before .before .before .pre .0, c .before .before .before .before .before .before .before .before .before .if1 .left), valuing.walk-at (c .before .before .before .before .before .before .before .before .before .before .before .args .a) (c .before .before .before .before .before .before .before .before .before .before .before .args .seat) (c .before .before .before .before .before .before .before .before .before .before .before .args .depth) (c .before .before .before .before .before .before .before .before .before .before .before .args .heads) (c .before .before .before .before .before .before .before .before .before .before .before .args .units) (c .before .before .before .before .before .before .before .before .before .before .before .args .kept) (c .before .before .before .before .before .before .before .before .before .before .before .pre .1) (c .before .before .before .before .before .before .before .before .before .before .before .args .a + 1) (c .before .before .before .before .before .before .before .before .before .before .before .args .depth - 1) (omega arith) (omega (arith, c .before .before .before .before .before .before .before .before .before .before .before .pre .1 .place, c .before .before .before .before .before .before .before .before .before .if1 .left)))
 
--- src/values.rt:62:9
 value-same-length-3 : (t : ℕ) → value-lts.Need-same-length-3 (
   word-reads.Asked,
   word-reads.Learnt,
@@ -1287,7 +1206,6 @@ value-same-length-3 : (t : ℕ) → value-lts.Need-same-length-3 (
 ) (value-at t) value.Post
 value-same-length-3 t c = search needs
 
--- src/values.rt:62:9
 value-returns-4 : (t : ℕ) → value-lts.Need-returns-4 (
   word-reads.Asked,
   word-reads.Learnt,
@@ -1306,7 +1224,6 @@ value-returns-4 : (t : ℕ) → value-lts.Need-returns-4 (
 ) (value-at t) value.Post
 value-returns-4 t c = valuing.value-other (c .before .before .before .before .before .before .before .before .before .before .before .before .before .before .args .seat) (c .before .before .before .before .before .before .before .before .before .before .before .before .before .before .args .depth) (c .before .before .before .before .before .before .before .before .before .before .before .before .before .before .args .heads) (c .before .before .before .before .before .before .before .before .before .before .before .before .before .before .args .units) (c .before .before .before .before .before .before .before .before .before .before .before .before .before .before .args .kept) (c .before .before .before .before .before .before .before .before .before .before .before .before .before .before .args .a) (now (c .before .before .before .before .before .before .before .before .before .before .before .before .before .before .args .w)) (c .before .before .before .before .before .before .before .before .before .before .word .result) (c .before .before .before .before .before .before .before .before .before .before .word .ensures) (c .before .before .row2 .last .0) (c .before .before .row2 .result) (sym (c .before .before .before .before .before .before .before .before .before .kind .ensures) ∙ c .before .before .before .before .before .before .before .if3 .left) (λ q. c .before .before .before .before .before .if4 .taken (c .before .before .before .before .before .before .actor .ensures ∙ q)) (subst (λ z. ValuedAll (c .before .before .before .before .before .before .before .before .before .before .before .before .before .before .args .seat) (c .before .before .before .before .before .before .before .before .before .before .before .before .before .before .args .depth - 1) (c .before .before .before .before .before .before .before .before .before .before .before .before .before .before .args .heads) (c .before .before .before .before .before .before .before .before .before .before .before .before .before .before .args .units) (c .before .before .before .before .before .before .before .before .before .before .before .before .before .before .args .kept) (c .before .before .before .before .before .before .before .before .before .before .before .before .before .before .args .a + 1) z (now (c .before .before .before .before .before .before .before .before .before .before .before .before .before .before .args .w)) (c .before .before .row2 .last .0) (c .before .before .row2 .result)) (c .before .before .before .next2 .ensures) (c .before .before .row2 .ensures))
 
--- src/values.rt:64:24
 value-sub-own : (t : ℕ) → value-lts.Need-sub-own (
   word-reads.Asked,
   word-reads.Learnt,
@@ -1325,7 +1242,6 @@ value-sub-own : (t : ℕ) → value-lts.Need-sub-own (
 ) (value-at t) value.Post
 value-sub-own t c = omega (arith, c .before .before .before .before .before .before .before .before .if1 .left)
 
--- src/values.rt:64:5
 value-own-requires : (t : ℕ) → value-lts.Need-own-requires (
   word-reads.Asked,
   word-reads.Learnt,
@@ -1344,7 +1260,6 @@ value-own-requires : (t : ℕ) → value-lts.Need-own-requires (
 ) (value-at t) value.Post
 value-own-requires t c κs = (omega (arith, c .before .before .before .before .before .before .before .before .before .before .pre .0, c .before .before .before .before .before .before .before .before .if1 .left), valuing.walk-at (c .before .before .before .before .before .before .before .before .before .before .args .a) (c .before .before .before .before .before .before .before .before .before .before .args .seat) (c .before .before .before .before .before .before .before .before .before .before .args .depth) (c .before .before .before .before .before .before .before .before .before .before .args .heads) (c .before .before .before .before .before .before .before .before .before .before .args .units) (c .before .before .before .before .before .before .before .before .before .before .args .kept) (c .before .before .before .before .before .before .before .before .before .before .pre .1) (c .before .before .before .before .before .before .before .before .before .before .args .a + 1) (c .before .before .before .before .before .before .before .before .before .before .args .depth - 1) (omega arith) (omega (arith, c .before .before .before .before .before .before .before .before .before .before .pre .1 .place, c .before .before .before .before .before .before .before .before .if1 .left)))
 
--- src/values.rt:38:1
 value-same-length-4 : (t : ℕ) → value-lts.Need-same-length-4 (
   word-reads.Asked,
   word-reads.Learnt,
@@ -1363,7 +1278,6 @@ value-same-length-4 : (t : ℕ) → value-lts.Need-same-length-4 (
 ) (value-at t) value.Post
 value-same-length-4 t c = search needs
 
--- src/values.rt:38:1
 value-returns-5 : (t : ℕ) → value-lts.Need-returns-5 (
   word-reads.Asked,
   word-reads.Learnt,

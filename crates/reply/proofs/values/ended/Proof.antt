@@ -1,32 +1,24 @@
-use mathlib.Core.Path.{_≡_, ap, ap₂, _∙_}
+-- The lifted value of an end. Assumes nothing.
+use mathlib.Core.Path.{ap₂}
 use Prim.Native.Nat.{_*_, _%_}
 use native.Mathlib.Omega.{arith}
 use Rattle.units.proofs.Six.{times-fits}
 use borrow.Author.Needs.{needs}
 use Rattle.reply.proofs.values.ended.Statement.{statement}
 use Rattle.reply.proofs.values.ended.Tie as tie
-use Rattle.reply.proofs.values.ended.Reads as reads
-use Rattle.reply.proofs.values.ended.Lts as lts
-use Rattle.arena.proofs.payoffs.lifted.Reads as lifted-reads
-use Rattle.arena.proofs.words.word.Reads as word-reads
 
--- src/values.rt:34:13
 add-word : tie.Need-add-word
 add-word c = record { fits = omega (arith, c .before .pre .1) }
 
--- src/values.rt:34:5
 word-requires : tie.Need-word-requires
 word-requires c κs = search needs
 
--- src/values.rt:34:34
 lifted-requires : tie.Need-lifted-requires
 lifted-requires c κs = c .before .before .pre .0
 
--- src/values.rt:34:5
 mul-result : tie.Need-mul-result
 mul-result c = times-fits _ _ (omega arith) (c .lifted .ensures .1)
 
--- src/values.rt:30:1
 returns : tie.Need-returns
 returns c = ap₂ (λ x y. x % 144115188075855872 * y) (c .before .word .ensures) (c .lifted .ensures .0)
 

@@ -1,44 +1,33 @@
-use mathlib.Core.Path.{ap, sym, _∙_}
-use Prim.Native.Nat.{_*_, _/_, _<_, _≤_}
+-- A share of units, by an even division or by its own. Assumes nothing.
+use mathlib.Core.Path.{ap, _∙_}
+use Prim.Native.Nat.{_*_, _/_}
 use native.Mathlib.Omega.{arith}
 use Rattle.units.proofs.Passing.{share-few, product-few, even-share, even-few, even-part}
 use borrow.Author.Needs.{needs}
 use Rattle.units.proofs.shares.share.Statement.{statement}
 use Rattle.units.proofs.shares.share.Tie as tie
-use Rattle.units.proofs.shares.share.Reads as reads
-use Rattle.units.proofs.shares.share.Lts as lts
-use Rattle.game.proofs.decision_share.Reads as decision-share-reads
-use Rattle.units.proofs.shares.wide.Reads as wide-reads
 
--- src/shares.rt:20:22
 shared-slice-read-wide : tie.Need-shared-slice-read-wide
 shared-slice-read-wide c = search needs
 
--- src/shares.rt:20:9
 wide-requires : tie.Need-wide-requires
 wide-requires c κs = search needs
 
--- src/shares.rt:23:9
 returns : tie.Need-returns
 returns c = search needs
 
--- src/shares.rt:25:8
 mul-if2 : tie.Need-mul-if2
 mul-if2 c = record { fits = omega (arith, even-few (c .before .before .before .before .args .u) (c .before .before .before .before .args .each) (c .before .before .before .before .args .d) (c .before .before .before .before .pre .1) (c .before .before .before .before .pre .4), c .before .before .before .before .pre .1) }
 
--- src/shares.rt:26:16
 mul-result : tie.Need-mul-result
 mul-result c = record { fits = omega (arith, even-part (c .before .before .before .before .before .args .u) (c .before .before .before .before .before .args .each) (c .before .before .wide .result) (c .before .before .before .before .before .args .d) (c .before .before .before .before .before .pre .1) (omega (arith, c .before .if1 .left)) (c .if2 .taken)) }
 
--- src/shares.rt:26:9
 returns-2 : tie.Need-returns-2
 returns-2 c = (even-part (c .before .before .before .before .before .args .u) (c .before .before .before .before .before .args .each) (c .before .before .wide .result) (c .before .before .before .before .before .args .d) (c .before .before .before .before .before .pre .1) (omega (arith, c .before .if1 .left)) (c .if2 .taken), λ q. even-share (c .before .before .before .before .before .args .u) (c .before .before .before .before .before .args .each) (c .before .before .wide .result) (c .before .before .before .before .before .args .d) (c .before .before .before .before .before .pre .2) (c .if2 .taken) ∙ ap (λ x. c .before .before .before .before .before .args .u * x / c .before .before .before .before .before .args .d) (c .before .before .wide .ensures))
 
--- src/shares.rt:28:5
 decision-share-requires : tie.Need-decision-share-requires
 decision-share-requires c κs = (omega (arith, c .before .before .before .before .before .pre .2), product-few (c .before .before .before .before .before .args .u) (c .before .before .wide .result) (c .before .before .before .before .before .args .d) (c .before .before .before .before .before .pre .1) (omega (arith, c .before .if1 .left)) (c .before .before .before .before .before .pre .3))
 
--- src/shares.rt:16:1
 returns-3 : tie.Need-returns-3
 returns-3 c =
     let e = c .decision-share .ensures in

@@ -6,103 +6,78 @@ use Rattle.units.proofs.sums.add.Reads as reads
 use Rattle.units.proofs.sums.add.Lts as lts
 use Rattle.std.proofs.num.wrapping_add_u64.Reads as wrapping-add-u64-reads
 
--- src/sums.rt:28:29
 array-read-wrapping-add-u64 : tie.Need-array-read-wrapping-add-u64
 array-read-wrapping-add-u64 c = search needs
 
--- src/sums.rt:28:35
 array-read-wrapping-add-u64-2 : tie.Need-array-read-wrapping-add-u64-2
 array-read-wrapping-add-u64-2 c = search needs
 
--- src/sums.rt:28:12
 wrapping-add-u64-requires : tie.Need-wrapping-add-u64-requires
 wrapping-add-u64-requires c κs = search needs
 
--- src/sums.rt:28:5
 array-write-z : tie.Need-array-write-z
 array-write-z c = search needs
 
--- src/sums.rt:29:29
 array-read-wrapping-add-u64-3 : tie.Need-array-read-wrapping-add-u64-3
 array-read-wrapping-add-u64-3 c = search needs
 
--- src/sums.rt:29:35
 array-read-wrapping-add-u64-4 : tie.Need-array-read-wrapping-add-u64-4
 array-read-wrapping-add-u64-4 c = search needs
 
--- src/sums.rt:29:12
 wrapping-add-u64-requires-2 : tie.Need-wrapping-add-u64-requires-2
 wrapping-add-u64-requires-2 c κs = search needs
 
--- src/sums.rt:29:5
 array-write-z-2 : tie.Need-array-write-z-2
 array-write-z-2 c = search needs
 
--- src/sums.rt:30:29
 array-read-wrapping-add-u64-5 : tie.Need-array-read-wrapping-add-u64-5
 array-read-wrapping-add-u64-5 c = search needs
 
--- src/sums.rt:30:35
 array-read-wrapping-add-u64-6 : tie.Need-array-read-wrapping-add-u64-6
 array-read-wrapping-add-u64-6 c = search needs
 
--- src/sums.rt:30:12
 wrapping-add-u64-requires-3 : tie.Need-wrapping-add-u64-requires-3
 wrapping-add-u64-requires-3 c κs = search needs
 
--- src/sums.rt:30:5
 array-write-z-3 : tie.Need-array-write-z-3
 array-write-z-3 c = search needs
 
--- src/sums.rt:31:29
 array-read-wrapping-add-u64-7 : tie.Need-array-read-wrapping-add-u64-7
 array-read-wrapping-add-u64-7 c = search needs
 
--- src/sums.rt:31:35
 array-read-wrapping-add-u64-8 : tie.Need-array-read-wrapping-add-u64-8
 array-read-wrapping-add-u64-8 c = search needs
 
--- src/sums.rt:31:12
 wrapping-add-u64-requires-4 : tie.Need-wrapping-add-u64-requires-4
 wrapping-add-u64-requires-4 c κs = search needs
 
--- src/sums.rt:31:5
 array-write-z-4 : tie.Need-array-write-z-4
 array-write-z-4 c = search needs
 
--- src/sums.rt:32:29
 array-read-wrapping-add-u64-9 : tie.Need-array-read-wrapping-add-u64-9
 array-read-wrapping-add-u64-9 c = search needs
 
--- src/sums.rt:32:35
 array-read-wrapping-add-u64-10 : tie.Need-array-read-wrapping-add-u64-10
 array-read-wrapping-add-u64-10 c = search needs
 
--- src/sums.rt:32:12
 wrapping-add-u64-requires-5 : tie.Need-wrapping-add-u64-requires-5
 wrapping-add-u64-requires-5 c κs = search needs
 
--- src/sums.rt:32:5
 array-write-z-5 : tie.Need-array-write-z-5
 array-write-z-5 c = search needs
 
--- src/sums.rt:33:29
 array-read-wrapping-add-u64-11 : tie.Need-array-read-wrapping-add-u64-11
 array-read-wrapping-add-u64-11 c = search needs
 
--- src/sums.rt:33:35
 array-read-wrapping-add-u64-12 : tie.Need-array-read-wrapping-add-u64-12
 array-read-wrapping-add-u64-12 c = search needs
 
--- src/sums.rt:33:12
 wrapping-add-u64-requires-6 : tie.Need-wrapping-add-u64-requires-6
 wrapping-add-u64-requires-6 c κs = search needs
 
--- src/sums.rt:33:5
 array-write-z-6 : tie.Need-array-write-z-6
 array-write-z-6 c = search needs
 
--- src/sums.rt:22:1
 returns : tie.Need-returns
 returns c = six _ _ _ _ _ _ _ (c .before .before .before .before .before .wrapping-add-u64 .ensures) (c .before .before .before .before .wrapping-add-u642 .ensures) (c .before .before .before .wrapping-add-u643 .ensures) (c .before .before .wrapping-add-u644 .ensures) (c .before .wrapping-add-u645 .ensures) (c .wrapping-add-u646 .ensures)
 

@@ -6,79 +6,60 @@ use Rattle.units.proofs.sums.earned.Reads as reads
 use Rattle.units.proofs.sums.earned.Lts as lts
 use Rattle.arena.proofs.payoffs.lifted.Reads as lifted-reads
 
--- src/sums.rt:43:16
 lifted-requires : tie.Need-lifted-requires
 lifted-requires c κs = search needs
 
--- src/sums.rt:43:12
 mul-z : tie.Need-mul-z
 mul-z c = times-fits _ _ (c .before .pre) (c .lifted .ensures .1)
 
--- src/sums.rt:43:5
 array-write-z : tie.Need-array-write-z
 array-write-z c = search needs
 
--- src/sums.rt:44:16
 lifted-requires-2 : tie.Need-lifted-requires-2
 lifted-requires-2 c κs = search needs
 
--- src/sums.rt:44:12
 mul-z-2 : tie.Need-mul-z-2
 mul-z-2 c = times-fits _ _ (c .before .before .pre) (c .lifted2 .ensures .1)
 
--- src/sums.rt:44:5
 array-write-z-2 : tie.Need-array-write-z-2
 array-write-z-2 c = search needs
 
--- src/sums.rt:45:16
 lifted-requires-3 : tie.Need-lifted-requires-3
 lifted-requires-3 c κs = search needs
 
--- src/sums.rt:45:12
 mul-z-3 : tie.Need-mul-z-3
 mul-z-3 c = times-fits _ _ (c .before .before .before .pre) (c .lifted3 .ensures .1)
 
--- src/sums.rt:45:5
 array-write-z-3 : tie.Need-array-write-z-3
 array-write-z-3 c = search needs
 
--- src/sums.rt:46:16
 lifted-requires-4 : tie.Need-lifted-requires-4
 lifted-requires-4 c κs = search needs
 
--- src/sums.rt:46:12
 mul-z-4 : tie.Need-mul-z-4
 mul-z-4 c = times-fits _ _ (c .before .before .before .before .pre) (c .lifted4 .ensures .1)
 
--- src/sums.rt:46:5
 array-write-z-4 : tie.Need-array-write-z-4
 array-write-z-4 c = search needs
 
--- src/sums.rt:47:16
 lifted-requires-5 : tie.Need-lifted-requires-5
 lifted-requires-5 c κs = search needs
 
--- src/sums.rt:47:12
 mul-z-5 : tie.Need-mul-z-5
 mul-z-5 c = times-fits _ _ (c .before .before .before .before .before .pre) (c .lifted5 .ensures .1)
 
--- src/sums.rt:47:5
 array-write-z-5 : tie.Need-array-write-z-5
 array-write-z-5 c = search needs
 
--- src/sums.rt:48:16
 lifted-requires-6 : tie.Need-lifted-requires-6
 lifted-requires-6 c κs = search needs
 
--- src/sums.rt:48:12
 mul-z-6 : tie.Need-mul-z-6
 mul-z-6 c = times-fits _ _ (c .before .before .before .before .before .before .pre) (c .lifted6 .ensures .1)
 
--- src/sums.rt:48:5
 array-write-z-6 : tie.Need-array-write-z-6
 array-write-z-6 c = search needs
 
--- src/sums.rt:38:1
 returns : tie.Need-returns
 returns c = six _ _ _ _ _ _ _ (product _ _ _ (c .before .before .before .before .before .before .pre) (c .before .before .before .before .before .lifted .ensures)) (product _ _ _ (c .before .before .before .before .before .before .pre) (c .before .before .before .before .lifted2 .ensures)) (product _ _ _ (c .before .before .before .before .before .before .pre) (c .before .before .before .lifted3 .ensures)) (product _ _ _ (c .before .before .before .before .before .before .pre) (c .before .before .lifted4 .ensures)) (product _ _ _ (c .before .before .before .before .before .before .pre) (c .before .lifted5 .ensures)) (product _ _ _ (c .before .before .before .before .before .before .pre) (c .lifted6 .ensures))
 
