@@ -1,8 +1,8 @@
 -- Trees written one after the other: what is held stays held, a row grows by a tree, and a node is put before its row. Assumes nothing.
 use mathlib.Core.Path.{_≡_, refl, sym, ap, _∙_, subst}
 use mathlib.Core.Logic.{_⊎_, inl, inr}
-use mathlib.Core.List.{List, [], _∷_, _++_}
-use Prim.Native.Nat.{ℕ, zero, suc, _+_, _≤_, _<_}
+use mathlib.Core.List.{List}
+use Prim.Native.Nat.{ℕ, suc, _+_, _≤_, _<_}
 use native.Mathlib.Nat as NatL
 use native.Mathlib.Omega.{arith}
 use lib.ListN.{length, getD, set, length-set}

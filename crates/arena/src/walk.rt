@@ -7,7 +7,7 @@ ghost use Prim.Native.Nat.{_<_};
 ghost use Rattle.arena.specs.Walk.{Behind, Fan};
 
 // Every place is below this number.
-const PLACES: usize = 4194304;
+pub const PLACES: usize = 4194304;
 
 // The place behind the subtree of the node at place a.
 pub fn behind(w: &[u64], a: usize) -> usize

@@ -1,36 +1,36 @@
 -- A seat's scene in work memory. Assumes nothing.
 use mathlib.Core.Path.{_≡_, refl, sym, ap, _∙_, subst}
-use mathlib.Core.Logic.{_⊎_, inl, inr}
+use mathlib.Core.Logic.{inl}
 use mathlib.Core.List.{List}
-use Prim.Native.Nat.{ℕ, zero, suc, pred, _+_, _*_, _%_, _^_, _≤_, _<_}
+use Prim.Native.Nat.{ℕ, pred, _+_, _*_, _%_, _^_, _≤_, _<_}
 use native.Mathlib.Nat as NatL
 use native.Mathlib.Omega.{arith}
-use lib.IntN.{ℤ, pos, _+ℤ_, _-ℤ_}
+use lib.IntN.{ℤ, pos, _-ℤ_}
 use mathlib.Core.Bool.{cond}
 use lib.Dec.{eqb}
 use lib.ListN.{length, getD}
 use lib.Seq.{sets}
 use Rattle.game.specs.Tree.{Key, Strategy, Tree, end, chance, decide, Every, Pays, all, Valid}
 use Rattle.game.specs.Reply.{Choice, pure, replyTree, best, bestValue, reply}
-use Rattle.game.specs.Sets.{Decision, size, entries, firstEntry, setCount}
+use Rattle.game.specs.Sets.{size, entries, firstEntry, setCount}
 use Rattle.game.specs.Table.{Table, strategyOf, tableOf, tableBest, replyTable}
 use Rattle.game.proofs.Entries.{entry-inside}
 use Rattle.game.proofs.Against.{every-both}
 use Rattle.game.proofs.TableTheorem.{table-valid}
 use Rattle.tables.specs.declared.Game.{Game}
-use Rattle.tables.specs.Games.{treeOf, C, m, largestPayoff}
+use Rattle.tables.specs.Games.{treeOf, C, m}
 use Rattle.tables.specs.Facts.{nodesOf, entriesOf, setsOf, rootUnits}
 use Rattle.tables.proofs.Facts.{reply-best, games-fit, nodes-are, entries-are, counted-games}
 use Rattle.arena.specs.Words.{CHANCE, kindOf}
 use Rattle.arena.specs.Held.{Says, Held}
-use Rattle.arena.specs.Index.{laterIn, Indexed, Cleared, Kept}
+use Rattle.arena.specs.Index.{laterIn, Indexed, Cleared}
 use Rattle.units.specs.Readable.{Readable}
 use Rattle.units.specs.Gain.{gain, setGain, topmost, Stocked}
 use Rattle.units.proofs.Gains.{gain-bound, set-gain-bound}
 use Rattle.units.proofs.Choices.{best-gains, gain-best}
 use Rattle.stock.specs.Collected.{Storable, Collected}
 use Rattle.stock.proofs.Storing.{stocked-same}
-use Rattle.reply.specs.Valued.{Scene, Known, Noted, Here, Valued, Walkable}
+use Rattle.reply.specs.Valued.{Scene, Noted, Valued, Walkable}
 use Rattle.reply_table.specs.Laid.{Tabled, replied, Laid}
 use Rattle.reply.proofs.Scenes.{root-here}
 use Rattle.stored.specs.Stored.{headsOf, Stored}
@@ -38,9 +38,10 @@ use Rattle.whole.specs.Facts as Whole
 use Rattle.whole.specs.Accepted.{Accepted}
 use Rattle.whole.proofs.Facts.{games-shaped, units-fit, games-readable}
 use Rattle.whole.specs.Places.{unitsAt, keptAt}
-use Rattle.whole.proofs.Lowering.{pays-more, back, few-parts}
+use Rattle.whole.proofs.Lowering.{pays-sixty, back, few-parts}
+use Rattle.whole.proofs.Standing as standing
 use Rattle.whole.proofs.Places.{Roomy, roomy, Deals, root-deals}
-use Rattle.whole.proofs.Standing.{indexed-same}
+use Rattle.whole.proofs.Standing.{indexed-same, some-actions}
 use Rattle.best.specs.Best.{Unbeaten, BestReply}
 use Rattle.best.specs.Staged.{Staged}
 
@@ -70,10 +71,10 @@ module _ (g : Game) (D i : ℕ) (table : Table) (a : Accepted g D table) (l : i 
   entries-is = entries-are g (a .game .seats)
 
   some : Every (λ j k n. 1 ≤ n) T
-  some = every-both (λ j k n. (2 ≤ n) × (n ≤ 3)) (λ j k n. (2 ≤ n) × (n ≤ 3)) (λ j k n. 1 ≤ n) (λ j k n e f. omega (arith, e .0)) T (shaped .actions) (shaped .actions)
+  some = some-actions g (a .game)
 
   pays : Pays 60 i T
-  pays = pays-more (largestPayoff g) 60 i (shaped .payoffs) T (games-fit g (a .game .known) (a .game .seats) .pays i l)
+  pays = pays-sixty g D table a i l
 
   valid : Valid (all D) s T
   valid = table-valid T D table (games-fit g (a .game .known) (a .game .seats) .actions) (a .valid)
@@ -191,7 +192,7 @@ module _ (g : Game) (D i : ℕ) (table : Table) (a : Accepted g D table) (l : i 
 
   module _ (E h n u : ℕ) (p : E ≡ entriesOf g) (q : h ≡ headsOf g) (t : n ≡ nodesOf g) (j : (u ≡ U) × (u < 144115188075855872)) where
     pub storable : Storable 0 u D (h + E) 32
-    storable = record { walk = record { place = omega arith; shallow = omega arith; units = j .1; least = a .least; most = parts-few }; base = omega (arith, near E h n p q t) }
+    storable = standing.storable g D table a h E q p u j
 
     module _ (v w z y : List ℕ) (x : Stored g v) (long : 12 * nodesOf g ≤ length v) (o : Collected table D i (h + E) 0 u 32 v w) (r : Cleared (h + E + n) (h + E + n + E) w z) (sum : ℕ)
         (k : Valued i 32 h (h + E) (h + E + n) 0 z y sum) where

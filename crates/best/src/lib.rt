@@ -5,7 +5,7 @@ use reply::values::value;
 use reply_table::write_reply;
 use stock::collect;
 use tables::Game;
-use whole::DEPTH;
+use units::DEPTH;
 use whole::heads_of;
 use whole::root_units;
 use whole::worths::lowered;

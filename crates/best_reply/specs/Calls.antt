@@ -2,7 +2,7 @@
 use mathlib.Core.List.{List, _++_}
 use Prim.Native.Nat.{ℕ, zero, suc}
 use lib.IntN.{ℤ, pos}
-use lib.ListN.{length, take, drop}
+use lib.ListN.{take, drop}
 use Rattle.refusals.specs.Refusals.{first}
 use Rattle.game.specs.Sets.{entries}
 use Rattle.game.specs.Table.{Table, tableBest, replyTable}

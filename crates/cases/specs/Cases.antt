@@ -21,7 +21,6 @@ use Rattle.leduc.specs.Calls as Leduc
 use Rattle.leduc_positions.specs.Positions.{legal-of}
 use Rattle.leduc.specs.Calls.{legal-refusal, listed, key-of, key-refusal, keyed, written}
 use Rattle.leduc_positions.specs.declared.LeducState.{LeducState}
-use Rattle.refusals.specs.Refusals.{first}
 use Rattle.game.specs.Table.{Table}
 use Rattle.tables.specs.Games.{gameOf}
 use Rattle.tables.specs.declared.Game.{Game}

@@ -1,21 +1,21 @@
 -- No two sets of Kuhn's tree share a code. Assumes nothing.
 use mathlib.Core.Path.{_≡_, refl, sym, ap, ap₂, _∙_}
-use mathlib.Core.Logic.{_⊎_, inl, inr}
+use mathlib.Core.Logic.{inl, inr}
 use mathlib.Core.Bool.{Bool, true, false, not}
 use mathlib.Core.List.{List, [], _∷_, _++_}
-use Prim.Native.Nat.{ℕ, zero, suc, _+_, _*_, _-_, _/_, _%_, _^_, _≤_, _<_, zero-le}
+use Prim.Native.Nat.{ℕ, zero, suc, _+_, _*_, _-_, _^_, _≤_, _<_, zero-le}
 use native.Mathlib.Nat as NatL
 use native.Mathlib.Omega.{arith}
 use lib.Dec.{leb, ltb}
 use lib.ListN.{length, getD, length-append}
 use borrow.Author.Tests.{leb-true, ltb-true, ltb-false}
-use Rattle.finite.specs.Finite.{and, has}
+use Rattle.finite.specs.Finite.{has}
 use Rattle.finite.proofs.Tests.{Tested, holds, fails, tested, and-left}
-use Rattle.game.specs.Tree.{Key, Tree, decide, Trees, nil, cons, fan, Every, EveryAll}
+use Rattle.game.specs.Tree.{Key, Tree, Every, EveryAll}
 use Rattle.game.proofs.Counting.{In}
 use Rattle.game.proofs.Sets.{every→each, each→every, each-map}
 use Rattle.arena.specs.Index.{Codes}
-use Rattle.kuhn_rules.specs.Rules.{PASS, BET, ended, turn, key, left, remaining}
+use Rattle.kuhn_rules.specs.Rules.{PASS, BET, ended, turn, left, remaining}
 use Rattle.kuhn_tree.specs.Tree.{each, m, kuhnTree}
 use Rattle.kuhn_tree.proofs.Cards.{left-of-in}
 use Rattle.kuhn_tree.proofs.Shape.{hand, deals, kuhn-deals}

@@ -1,12 +1,12 @@
 -- Deals as the builder goes through them: the cards left, one child each, and a hand once all are dealt. Assumes nothing.
-use mathlib.Core.Path.{_≡_, refl, sym, ap, ap₂, _∙_, subst}
+use mathlib.Core.Path.{_≡_, refl, sym, ap, _∙_, subst}
 use mathlib.Core.Bool.{Bool, true, false, not, cond}
 use mathlib.Core.List.{List, [], _∷_, _++_}
-use Prim.Native.Nat.{ℕ, zero, suc, _+_, _*_, _-_, _^_, _≤_, _<_}
+use Prim.Native.Nat.{ℕ, zero, suc, _+_, _*_, _-_, _≤_, _<_}
 use native.Mathlib.Nat as NatL
 use native.Mathlib.Omega.{arith}
 use lib.Dec.{leb}
-use lib.ListN.{length, set, take, length-set}
+use lib.ListN.{set, take, length-set}
 use lib.Seq.{take-suc-set}
 use borrow.Author.Tests.{le-leb}
 use Rattle.finite.specs.Finite.{and, those, has}
@@ -16,16 +16,15 @@ use Rattle.game.specs.Tree.{Tree, chance, Trees, nil, cons}
 use Rattle.game.specs.Sets.{size, sizes}
 use Rattle.arena.specs.Words.{chanceWord}
 use Rattle.arena.specs.Held.{Says}
-use Rattle.arena.specs.Index.{unlinked}
 use Rattle.arena.specs.Built.{Built, Row, Room}
 use Rattle.arena.proofs.Packing.{chance-kind, chance-next}
-use Rattle.arena.proofs.Building.{size-some, row-none, row-one, row-join, join, join-nil, sizes-join, built-chance}
-use Rattle.kuhn_rules.specs.Rules.{ended, left, remaining}
+use Rattle.arena.proofs.Building.{size-some, row-none, row-join, join, join-nil, sizes-join, built-chance}
+use Rattle.kuhn_rules.specs.Rules.{left, remaining}
 use Rattle.kuhn_rules.specs.Stakes.{ante, stake}
 use Rattle.kuhn_positions.specs.declared.KuhnState.{KuhnState}
-use Rattle.kuhn_positions.specs.Positions.{cardsOf, historyOf, with-card}
-use Rattle.kuhn_tree.specs.Tree.{each, m}
-use Rattle.kuhn_tree.proofs.Shape.{hand, deals}
+use Rattle.kuhn_positions.specs.Positions.{cardsOf, with-card}
+use Rattle.kuhn_tree.specs.Tree.{each}
+use Rattle.kuhn_tree.proofs.Shape.{deals}
 use Rattle.kuhn_arena.specs.Layout.{numberFrom, codeOf, handAt, dealAt, childrenTo, childAt, Playing, Dealing}
 
 -- ---- rows of children

@@ -14,9 +14,9 @@ use borrow.Author.Tests.{eqb-true, eqb-false, ltb-true, lt-ltb}
 use Rattle.finite.specs.Finite.{or, places}
 use Rattle.finite.proofs.Lists.{getD-places}
 use Rattle.finite.proofs.Tests.{Tested, holds, fails, tested, true≢false, or-false-left, or-false-right}
-use Rattle.game.specs.Tree.{Key, Tree, end, decide, Trees, nil, cons, fan}
-use Rattle.game.specs.Sets.{size, sizes}
-use Rattle.arena.specs.Words.{END, DECISION, kindOf, payoffOf, decisionWord}
+use Rattle.game.specs.Tree.{Tree, end, decide, Trees, nil, cons, fan}
+use Rattle.game.specs.Sets.{size}
+use Rattle.arena.specs.Words.{decisionWord}
 use Rattle.arena.specs.Payoffs.{Pays}
 use Rattle.arena.specs.Held.{Says}
 use Rattle.arena.specs.Index.{unlinked}

@@ -6,7 +6,7 @@ use Prim.Native.Nat.{ℕ, zero, suc, _+_, _*_, _≤_, _<_}
 use native.Mathlib.Nat as NatL
 use native.Mathlib.Omega.{arith}
 use lib.ListN.{length}
-use Rattle.game.specs.Tree.{Tree, Every}
+use Rattle.game.specs.Tree.{Tree}
 use Rattle.game.specs.Sets.{size, entries}
 use Rattle.arena.specs.Index.{unlinked, Cleared, Coded, Indexed, Indexes}
 use Rattle.arena.specs.Built.{Built, Room}
@@ -18,7 +18,7 @@ use Rattle.kuhn_positions.specs.declared.KuhnState.{KuhnState}
 use Rattle.kuhn_positions.specs.Positions.{initial}
 use Rattle.kuhn_tree.specs.Tree.{kuhnTree}
 use Rattle.kuhn_tree.specs.Counts.{dealNodes, kuhnNodes, kuhnEntries}
-use Rattle.kuhn_tree.proofs.Shape.{deals, kuhn-deals}
+use Rattle.kuhn_tree.proofs.Shape.{kuhn-deals}
 use Rattle.kuhn_tree.proofs.Facts.{counted}
 use Rattle.kuhn_arena.specs.Layout.{codeOf, codeCount, dealAt, Dealing}
 

@@ -1,7 +1,7 @@
 -- Leduc's tree as the builder goes through it: positions with so many cards and actions to come at most, and their moves. Definitions only; nothing is assumed.
 use mathlib.Core.Path.{_≡_}
 use mathlib.Core.Bool.{Bool, false, true, not, cond}
-use mathlib.Core.List.{List, map}
+use mathlib.Core.List.{map}
 use Prim.Native.Nat.{ℕ, _+_, _≤_, _<_}
 use lib.Dec.{eqb}
 use lib.ListN.{length}

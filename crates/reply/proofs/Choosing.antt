@@ -3,31 +3,31 @@ use mathlib.Core.Path.{_≡_, refl, sym, ap, _∙_, subst}
 use mathlib.Core.Logic.{_⊎_, inl, inr}
 use mathlib.Core.Bool.{Bool, true, false, cond}
 use mathlib.Core.List.{List, [], _∷_, map}
-use Prim.Native.Nat.{ℕ, zero, suc, pred, _+_, _-_, _*_, _%_, _^_, _≤_, _<_}
+use Prim.Native.Nat.{ℕ, zero, suc, pred, _+_, _-_, _%_, _^_, _≤_, _<_}
 use native.Mathlib.Nat as NatL
 use native.Mathlib.Omega.{arith}
-use lib.Dec.{eqb, ltb}
+use lib.Dec.{eqb}
 use borrow.Author.Tests.{eq-eqb, eqb-true, eqb-false}
 use lib.ListN.{length, getD, set, length-set}
 use lib.Seq.{getD-set-same, getD-set-other}
 use Rattle.finite.proofs.Tests.{Tested, holds, fails, tested}
 use Rattle.game.specs.Sums.{sumℕ}
-use Rattle.game.specs.Tree.{Key, Tree, chance, decide, Trees, fan, Every}
+use Rattle.game.specs.Tree.{Key, Tree, fan, Every}
 use Rattle.game.specs.Reply.{share}
-use Rattle.game.specs.Sets.{Decision, size, sizes, decisions, decides, numbers, preorder, entries, firstEntry, setMembers}
+use Rattle.game.specs.Sets.{size, decides, numbers, preorder, entries, firstEntry, setMembers}
 use Rattle.game.proofs.Counting.{In}
 use Rattle.game.proofs.Entries.{entry-inside, entry-apart}
-use Rattle.arena.specs.Words.{CHANCE, DECISION, kindOf, laterOf}
+use Rattle.arena.specs.Words.{DECISION, kindOf, laterOf}
 use Rattle.arena.specs.Held.{Says, Held}
-use Rattle.arena.specs.Index.{firstOf, laterIn, Indexed, Linked}
+use Rattle.arena.specs.Index.{firstOf, laterIn, Linked}
 use Rattle.arena.proofs.Members.{members-linked}
 use Rattle.arena.proofs.Numbering.{in-every, every-in}
-use Rattle.units.specs.Gain.{Member, given, gain, gainPick, found, setGain, topmost}
+use Rattle.units.specs.Gain.{Member, gainPick, found, setGain, topmost}
 use Rattle.units.proofs.Found.{places-found}
 use Rattle.units.proofs.Six.{sum-wraps}
 use Rattle.reply.specs.Valued.{Child, Scene, Known, Noted, Here, HereAll, gained, behindAction, placeOf, Valued, Chosen, Totalled}
 use Rattle.reply.proofs.Scenes.{kids-decide, pick-child, known-of, root-here, EachFound, each-found}
-use Rattle.reply.proofs.Valuing.{held-in-all, choice-few, topmost-few}
+use Rattle.reply.proofs.Valuing.{held-in-all, topmost-few}
 
 -- ---- the lowest of the greatest
 topmost-same : (p q : ℕ → ℕ) (n : ℕ) → ((a : ℕ) → a ≤ n → p a ≡ q a) → topmost p n ≡ topmost q n

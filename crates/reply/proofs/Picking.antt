@@ -2,13 +2,12 @@
 use mathlib.Core.Path.{_≡_, refl, sym, ap, _∙_, subst}
 use mathlib.Core.List.{[], _∷_}
 use mathlib.Core.List.{List}
-use Prim.Native.Nat.{ℕ, zero, suc, _+_, _%_, _≤_, _<_}
+use Prim.Native.Nat.{ℕ, suc, _+_, _%_, _≤_, _<_}
 use native.Mathlib.Nat as NatL
 use native.Mathlib.Omega.{arith}
-use lib.Dec.{ltb}
 use lib.ListN.{getD}
 use borrow.Author.Tests.{lt-ltb, le-ltb}
-use Rattle.game.specs.Tree.{Key, Tree, Trees, nil, cons, fan}
+use Rattle.game.specs.Tree.{Key, Trees, nil, cons, fan}
 use Rattle.game.specs.Sets.{size, sizes}
 use Rattle.arena.specs.Held.{Held, HeldAll}
 use Rattle.arena.specs.Walk.{Behind}

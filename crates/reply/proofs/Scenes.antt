@@ -1,26 +1,22 @@
 -- Ways down a stored tree: from a node to its children, and to the members of a set. Assumes nothing.
-use mathlib.Core.Path.{_≡_, refl, sym, ap, _∙_, subst}
+use mathlib.Core.Path.{_≡_, refl, subst}
 use mathlib.Core.Bool.{Bool, true, false, cond}
 use mathlib.Core.List.{List, [], _∷_, _++_}
-use Prim.Native.Nat.{ℕ, zero, suc, pred, _+_, _*_, _/_, _≤_, _<_}
+use Prim.Native.Nat.{ℕ, zero, suc, pred, _+_, _/_, _<_}
 use native.Mathlib.Nat as NatL
 use native.Mathlib.Omega.{arith}
 use lib.Dec.{eqb}
-use lib.ListN.{length, getD}
 use Rattle.finite.proofs.Tests.{Tested, holds, fails, tested}
-use Rattle.game.specs.Tree.{Key, Tree, end, chance, decide, Trees, nil, cons, fan, Every, EveryAll, Pays, PaysAll}
+use Rattle.game.specs.Tree.{Key, Tree, end, chance, decide, Trees, nil, cons, fan, Every, Pays}
 use Rattle.game.specs.Reply.{share, same}
-use Rattle.game.specs.Sets.{Levels, LevelsAll}
-use Rattle.game.specs.Sets.{Decision, size, sizes, decisions, firstEntry}
+use Rattle.game.specs.Sets.{Levels}
+use Rattle.game.specs.Sets.{size}
 use Rattle.game.proofs.Tests.{T-of, same→eq, eqb-is}
-use Rattle.game.proofs.Counting.{In}
-use Rattle.arena.specs.Held.{Held, HeldAll}
-use Rattle.arena.specs.Index.{laterIn, Indexed}
-use Rattle.arena.proofs.Building.{size-some}
+use Rattle.arena.specs.Held.{Held}
 use Rattle.arena.proofs.Numbering.{in-every, every-in}
-use Rattle.units.specs.Gain.{Member, given, gain, gainAll, gainPick, found, foundAll, Stocked, StockedAll}
+use Rattle.units.specs.Gain.{Member, given, gain, gainPick, found, foundAll, Stocked}
 use Rattle.units.proofs.Passing.{share-few}
-use Rattle.reply.specs.Valued.{placeOf, Scene, Known, Noted, Here, HereAll, gained, gainedAll}
+use Rattle.reply.specs.Valued.{placeOf, Scene, Known, Here, HereAll, gained}
 
 pub levels-some : (v : ℕ → Key → ℕ) (d : ℕ) (t : Tree) → Levels v d t → 0 < d
 unfolding Levels

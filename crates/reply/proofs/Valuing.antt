@@ -5,24 +5,22 @@ use mathlib.Core.List.{List, [], _∷_}
 use Prim.Native.Nat.{ℕ, zero, suc, pred, _+_, _-_, _*_, _/_, _%_, _^_, _≤_, _<_}
 use native.Mathlib.Nat as NatL
 use native.Mathlib.Omega.{arith}
-use lib.Dec.{eqb, ltb}
-use lib.ListN.{length, getD}
+use lib.Dec.{ltb}
+use lib.ListN.{getD}
 use borrow.Author.Tests.{eq-eqb, ne-eqb}
-use Rattle.finite.proofs.Tests.{Tested, holds, fails, tested}
-use Rattle.game.specs.Tree.{Key, Tree, end, chance, decide, Trees, nil, cons, fan, Every, Pays}
-use Rattle.game.specs.Reply.{share}
-use Rattle.game.specs.Sets.{Levels, LevelsAll}
+use Rattle.game.specs.Tree.{Key, Tree, end, chance, decide, Trees, nil, cons, fan, Every}
+use Rattle.game.specs.Sets.{Levels}
 use Rattle.game.specs.Sets.{size, sizes, firstEntry}
-use Rattle.arena.specs.Words.{END, CHANCE, DECISION, kindOf, actorOf, actionsOf, setOf, nextOf, byteOf, payoffOf}
+use Rattle.arena.specs.Words.{END, DECISION, kindOf, actorOf, actionsOf, setOf, nextOf, byteOf, payoffOf}
 use Rattle.arena.specs.Held.{Says, Held, HeldAll}
 use Rattle.arena.specs.Index.{laterIn}
 use Rattle.arena.specs.Walk.{Behind}
 use Rattle.arena.proofs.Building.{size-some, held-same, held-same-all}
 use Rattle.units.specs.Lifted.{lift}
-use Rattle.units.specs.Gain.{given, gain, gainAll, gainPick, Stocked, topmost}
+use Rattle.units.specs.Gain.{given, gain, gainPick, Stocked, topmost}
 use Rattle.units.proofs.Lifting.{lift-back}
 use Rattle.units.proofs.Six.{product, sum-wraps}
-use Rattle.reply.specs.Valued.{Child, Walkable, Scene, Known, Noted, Here, HereAll, gained, gainedAll, behindAction, placeOf, Valued, ValuedAll, ValuedOwn, Chosen, Totalled}
+use Rattle.reply.specs.Valued.{Child, Walkable, Scene, Known, Noted, Here, HereAll, gained, gainedAll, behindAction, placeOf, Valued, ValuedAll, ValuedOwn, Chosen}
 use Rattle.reply.proofs.Scenes.{levels-some, kids-chance, kids-decide, first, rest, pick-child, known-of}
 
 -- ---- a node by its word

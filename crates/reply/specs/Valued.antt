@@ -7,12 +7,12 @@ use lib.ListN.{length, getD}
 use Rattle.game.specs.Tree.{Key, Tree, decide, Trees, nil, cons, fan, Strategy, Every, EveryAll, Pays, PaysAll}
 use Rattle.game.specs.Reply.{Choice}
 use Rattle.game.specs.Sets.{Levels, LevelsAll}
-use Rattle.game.specs.Sets.{Decision, size, sizes, decisions, entries, firstEntry, SameActions}
+use Rattle.game.specs.Sets.{size, sizes, decisions, entries, firstEntry, SameActions}
 use Rattle.game.proofs.Counting.{In}
-use Rattle.arena.specs.Words.{CHANCE, kindOf, actorOf, actionsOf, setOf}
+use Rattle.arena.specs.Words.{CHANCE, kindOf, actionsOf, setOf}
 use Rattle.arena.specs.Held.{Held, HeldAll}
 use Rattle.arena.specs.Index.{laterIn, Indexed}
-use Rattle.units.specs.Gain.{given, gain, gainAll, gainPick, setGain, Stocked, StockedAll, topmost}
+use Rattle.units.specs.Gain.{gain, gainAll, setGain, Stocked, StockedAll, topmost}
 
 -- the place of child c in a row that starts at place a
 unfoldable pub placeOf : ℕ → Trees → ℕ → ℕ

@@ -1,4 +1,5 @@
 // The child behind an action, and the lowest action with the greatest sum.
+use arena::walk::PLACES;
 use arena::walk::behind;
 ghost use mathlib.Core.Path.{_≡_};
 ghost use mathlib.Core.List.{[], _∷_};
@@ -6,9 +7,6 @@ ghost use Prim.Native.Nat.{_<_};
 ghost use lib.ListN.{getD};
 ghost use Rattle.units.specs.Gain.{topmost};
 ghost use Rattle.reply.specs.Valued.{Child};
-
-// Every place is below this number.
-const PLACES: usize = 4194304;
 
 // The place of child c, at most the third, of the node at place a.
 pub fn child(w: &[u64], a: usize, c: usize) -> usize

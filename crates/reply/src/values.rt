@@ -17,14 +17,12 @@ use arena::words::put;
 use arena::words::set;
 use arena::words::word;
 use std::num::wrapping_add_u64;
+use units::UNITS;
 ghost use mathlib.Core.Path.{_≡_};
 ghost use Prim.Native.Nat.{_+_, _*_, _%_, _<_};
 ghost use lib.ListN.{getD};
 ghost use Rattle.arena.specs.Words.{byteOf};
 ghost use Rattle.reply.specs.Valued.{Walkable, Valued, ValuedAll, ValuedOwn, Totalled, Chosen};
-
-// Units are below this number, 2^57.
-const UNITS: u64 = 144115188075855872;
 
 // The lifted value of the end at place a with word x.
 fn ended(w: &[u64], a: usize, x: u64, seat: usize, units: usize) -> u64

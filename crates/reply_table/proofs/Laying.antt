@@ -1,7 +1,7 @@
 -- What is written of a reply, set by set. Assumes nothing.
 use mathlib.Core.Path.{_≡_, refl, sym, ap, _∙_, subst}
-use mathlib.Core.Logic.{_⊎_, inl, inr}
-use mathlib.Core.Bool.{Bool, true, false, cond}
+use mathlib.Core.Logic.{inl, inr}
+use mathlib.Core.Bool.{false, cond}
 use mathlib.Core.List.{List, [], _∷_, _++_, append-assoc, append-nil}
 use Prim.Native.Nat.{ℕ, zero, suc, pred, _+_, _%_, _≤_, _<_}
 use native.Mathlib.Nat as NatL
@@ -15,14 +15,14 @@ use Rattle.game.specs.Sums.{sumℕ}
 use Rattle.game.specs.Tree.{Key, Tree, end, chance, decide, Trees, nil, cons, fan, Strategy, Every, EveryAll}
 use Rattle.game.specs.Reply.{pure, same}
 use Rattle.game.specs.Sets.{Levels, LevelsAll}
-use Rattle.game.specs.Sets.{Decision, size, preorder, decisions, decisionOf, decisionsOf, isOf, decides, numbers, setMembers, before, entriesOf, firstEntry, setCount}
+use Rattle.game.specs.Sets.{Decision, size, preorder, decisionOf, decisionsOf, isOf, decides, numbers, setMembers, before, entriesOf, firstEntry, setCount}
 use Rattle.game.specs.Sets as Sets
 use Rattle.game.specs.Table.{Table, listed, laidOut, tableOf}
 use Rattle.game.proofs.Tests.{T-of, same→eq, same-self, eqb-is}
 use Rattle.game.proofs.Sets.{preorder-length, decisions-of-nodes, Distinct, sets-distinct, unmet, clash, isOf-self}
 use Rattle.game.proofs.Entries.{entriesOf-append, entry-inside}
 use Rattle.game.proofs.Tables.{laidOut-length}
-use Rattle.game.proofs.Counting.{In, in-right, in-append, each-in, sets-in}
+use Rattle.game.proofs.Counting.{In, in-right, each-in, sets-in}
 use Rattle.arena.specs.Words.{actorOf, actionsOf}
 use Rattle.arena.specs.Held.{Says}
 use Rattle.arena.specs.Index.{firstOf, laterIn}

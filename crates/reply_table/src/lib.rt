@@ -3,6 +3,7 @@ use arena::words::actions;
 use arena::words::actor;
 use arena::words::word;
 use reply::values::choose;
+use units::DEPTH;
 ghost use mathlib.Core.Path.{_≡_};
 ghost use mathlib.Core.Bool.{cond};
 ghost use mathlib.Core.List.{[], _∷_};
@@ -12,9 +13,6 @@ ghost use lib.ListN.{getD, set, take};
 ghost use lib.Seq.{sets};
 ghost use Rattle.reply.specs.Valued.{Walkable};
 ghost use Rattle.reply_table.specs.Laid.{LaidSet, Laid};
-
-// The depth of a walk: no path of a game has more nodes.
-const DEPTH: usize = 32;
 
 // The byte at place i, 0 where there is none.
 fn byte(table: &[u8], i: usize) -> u8

@@ -2,6 +2,7 @@
 use arena::words::END;
 use arena::words::kind;
 use arena::words::word;
+use units::UNITS;
 use units::sums::Sums;
 use units::sums::add;
 use units::sums::earned;
@@ -9,9 +10,6 @@ use units::sums::none;
 ghost use Prim.Native.Nat.{_≤_, _<_};
 ghost use Rattle.units.specs.Sums.{Summed};
 ghost use Rattle.stock.specs.Ends.{endGains, WithNode};
-
-// Units are below this number, 2^57.
-const UNITS: u64 = 144115188075855872;
 
 // The sums, and what y units of the node with word x are worth.
 fn with_node(sums: Sums, x: u64, y: u64) -> Sums

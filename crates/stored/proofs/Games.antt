@@ -1,20 +1,16 @@
 -- What numbers 1 to 4 leave of the games, and their trees once stored. Assumes nothing.
-use mathlib.Core.Path.{_≡_, refl, sym, ap, _∙_, subst}
+use mathlib.Core.Path.{_≡_, refl, sym, _∙_}
 use mathlib.Core.Logic.{inl}
-use mathlib.Core.Bool.{cond, false, true}
 use mathlib.Core.List.{List}
-use Prim.Native.Nat.{ℕ, zero, suc, _+_, _*_, _≤_, _<_}
-use native.Mathlib.Nat as NatL
+use Prim.Native.Nat.{ℕ, zero, suc, _+_, _*_, _≤_}
 use native.Mathlib.Omega.{arith}
 use lib.Dec.{eqb}
-use lib.ListN.{length, getD}
+use lib.ListN.{length}
 use borrow.Author.Tests.{eq-eqb, ne-eqb}
-use Rattle.finite.specs.Finite.{or}
 use Rattle.finite.proofs.Tests.{or-false-left, or-false-right}
 use borrow.Author.Tests.{ltb-false, eqb-true, not-false}
-use Rattle.game.specs.Tree.{Tree}
 use Rattle.game.specs.Sets.{size}
-use Rattle.arena.specs.Index.{unlinked, Cleared, Coded, Indexed, Indexes}
+use Rattle.arena.specs.Index.{unlinked, Cleared, Indexed, Indexes}
 use Rattle.arena.specs.Built.{Built}
 use Rattle.arena.proofs.Building.{held-same}
 use Rattle.kuhn_rules.specs.Stakes as Kuhn-stakes
@@ -27,10 +23,10 @@ use Rattle.kuhn_arena.specs.Layout.{codeCount}
 use Rattle.leduc_arena.specs.Codes.{codeOf}
 use Rattle.leduc_arena.proofs.Sets.{leduc-coded}
 use Rattle.tables.specs.declared.Game.{Game}
-use Rattle.tables.specs.Games.{isKuhn, treeOf}
+use Rattle.tables.specs.Games.{treeOf}
 use Rattle.tables.proofs.Facts.{kuhn-out, leduc-out}
 use Rattle.tables.specs.Facts.{nodesOf}
-use Rattle.stored.specs.Stored.{Fit, headsOf, Stored}
+use Rattle.stored.specs.Stored.{Fit, Stored}
 
 -- Kuhn with more than six seats has too many nodes
 pub six-seats : (n : ℕ) → n ≤ 10 → kuhnNodes n ≤ 4000000 → n ≤ 6

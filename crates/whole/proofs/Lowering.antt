@@ -85,7 +85,7 @@ module _ (g : Game) (D : ℕ) (table : Table) (a : Accepted g D table) where
   lift-of i = lifted D (strategyOf (treeOf g) table) i U (treeOf g)
 
   module _ (i : ℕ) (l : i < g .seats) where
-    pays-sixty : Pays 60 i (treeOf g)
+    pub pays-sixty : Pays 60 i (treeOf g)
     pays-sixty = pays-more (largestPayoff g) 60 i (games-shaped g (a .game) .payoffs) (treeOf g) (games-fit g (a .game .known) (a .game .seats) .pays i l)
 
     lift-is : pos (lift-of i) ≡ tableWorth (treeOf g) D U table i +ℤ pos (64 * U)

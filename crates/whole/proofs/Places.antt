@@ -1,26 +1,23 @@
 -- The places of work memory, by game. Assumes nothing.
-use mathlib.Core.Path.{_≡_, refl, sym, ap, _∙_, subst}
-use mathlib.Core.Bool.{true, false, cond}
+use mathlib.Core.Path.{_≡_, refl, sym, _∙_, subst}
 use mathlib.Core.List.{List, [], _∷_}
-use Prim.Native.Nat.{ℕ, zero, suc, _+_, _*_, _≤_, _<_}
+use Prim.Native.Nat.{ℕ, zero, suc, _+_, _*_, _≤_}
 use native.Mathlib.Omega.{arith}
 use lib.Dec.{eqb}
 use lib.ListN.{getD}
-use borrow.Author.Tests.{eq-eqb, ne-eqb, eqb-true, eqb-false}
+use borrow.Author.Tests.{eq-eqb, ne-eqb, eqb-true}
 use Rattle.finite.proofs.Tests.{Tested, holds, fails, tested}
 use Rattle.game.specs.Tree.{Tree, end, chance, decide}
 use Rattle.kuhn_tree.specs.Counts.{dealNodes, kuhnNodes, kuhnEntries, kuhnSets}
-use Rattle.kuhn_tree.specs.Tree.{kuhnTree}
 use Rattle.kuhn_tree.proofs.Shape.{deals, kuhn-deals}
 use Rattle.kuhn_arena.specs.Layout.{codeCount}
-use Rattle.leduc_tree.specs.Tree.{leducTree}
 use Rattle.leduc_tree.proofs.Facts as Leduc-facts
 use Rattle.tables.specs.declared.Game.{Game}
-use Rattle.tables.specs.Games.{isKuhn, treeOf}
+use Rattle.tables.specs.Games.{treeOf}
 use Rattle.tables.specs.Facts.{nodesOf, entriesOf, setsOf}
 use Rattle.stored.specs.Stored.{headsOf}
 use Rattle.whole.specs.Facts.{Known}
-use Rattle.whole.specs.Places.{unitsAt, keptAt}
+use Rattle.whole.specs.Places.{keptAt}
 use Rattle.whole.proofs.Facts.{each-seats, kuhn-two, kuhn-six}
 
 -- a chance node

@@ -27,6 +27,7 @@ use Rattle.stored.specs.Stored.{headsOf, Stored}
 use Rattle.whole.specs.Accepted.{Accepted}
 use Rattle.whole.proofs.Facts.{games-shaped, games-readable}
 use Rattle.whole.proofs.Lowering.{few-parts}
+use Rattle.whole.specs.Facts.{Known}
 use Rattle.whole.proofs.Places.{Roomy, roomy}
 
 -- ---- an index stands where its words do
@@ -36,6 +37,10 @@ indexed-same n h v w t some l e x = record {
   heads = in-every (λ j k a. getD w (h + firstEntry t j k) 0 ≡ firstOf (setMembers t j k)) t
       (λ d m. e (h + firstEntry t (d .0) (d .1)) (omega (arith, entry-inside t some d m)) ∙ every-in (λ j k a. getD v (h + firstEntry t j k) 0 ≡ firstOf (setMembers t j k)) t (x .heads) d m);
 }
+
+-- ---- every decision has an action
+pub some-actions : (g : Game) → Known g → Every (λ j k n. 1 ≤ n) (treeOf g)
+some-actions g k = let f = games-shaped g k .actions in every-both (λ j k n. (2 ≤ n) × (n ≤ 3)) (λ j k n. (2 ≤ n) × (n ≤ 3)) (λ j k n. 1 ≤ n) (λ j k n e f. omega (arith, e .0)) (treeOf g) f f
 
 -- ---- units of a table that is not refused, by the numbers in hand: h where the first members stand, E entries, u units at the root
 module _ (g : Game) (D : ℕ) (table : Table) (a : Accepted g D table) (h E : ℕ) (q : h ≡ headsOf g) (p : E ≡ entriesOf g) where
@@ -52,7 +57,7 @@ module _ (g : Game) (D : ℕ) (table : Table) (a : Accepted g D table) (h E : �
   entries-is = entries-are g (a .game .seats)
 
   some : Every (λ j k n. 1 ≤ n) T
-  some = let f = games-shaped g (a .game) .actions in every-both (λ j k n. (2 ≤ n) × (n ≤ 3)) (λ j k n. (2 ≤ n) × (n ≤ 3)) (λ j k n. 1 ≤ n) (λ j k n e f. omega (arith, e .0)) T f f
+  some = some-actions g (a .game)
 
   pub units-near : h + E ≤ 8388608
   units-near = omega (arith, room .near)

@@ -34,9 +34,6 @@ const KUHN_HEADS: [usize; 7] = [0, 0, 82, 745, 8526, 119509, 1958356];
 
 const LEDUC_HEADS: usize = 19621;
 
-// The depth of a walk: no path of a game has more nodes.
-pub const DEPTH: usize = 32;
-
 // c × d^m, which is below 2^57.
 fn times_power(c: u64, d: usize, m: usize) -> u64
     requires { ⌜ (1 ≤ d) × (c * d ^ m < 144115188075855872) ⌝ }

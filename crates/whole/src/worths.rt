@@ -1,10 +1,10 @@
 // What a table is worth to each seat, from the game's tree in work memory.
-use crate::DEPTH;
 use crate::heads_of;
 use crate::root_units;
 use stock::collect;
 use stock::ends::end_sums;
 use tables::Game;
+use units::DEPTH;
 use units::sums::Sums;
 ghost use mathlib.Core.Path.{_≡_};
 ghost use Prim.Native.Nat.{ℕ, _*_, _≤_, _<_};

@@ -2,10 +2,6 @@ use borrow.Author.Needs.{needs}
 use Rattle.kuhn_arena.proofs.Start.{starts, start-room, built-tree}
 use Rattle.kuhn_arena.proofs.build.Statement.{statement}
 use Rattle.kuhn_arena.proofs.build.Tie as tie
-use Rattle.kuhn_arena.proofs.build.Reads as reads
-use Rattle.kuhn_arena.proofs.build.Lts as lts
-use Rattle.kuhn_arena.proofs.deal.Reads as deal-reads
-use Rattle.kuhn_positions.proofs.KuhnState.new.Reads as new-reads
 
 new-requires : tie.Need-new-requires
 new-requires c κs = search needs

@@ -6,8 +6,6 @@ use Rattle.kuhn_arena.specs.Layout.{codeCount}
 use Rattle.kuhn_arena.proofs.Start.{by-seats}
 use Rattle.kuhn_arena.proofs.codes.Statement.{statement}
 use Rattle.kuhn_arena.proofs.codes.Tie as tie
-use Rattle.kuhn_arena.proofs.codes.Reads as reads
-use Rattle.kuhn_arena.proofs.codes.Lts as lts
 
 mul-result : tie.Need-mul-result
 mul-result c = search needs

@@ -5,10 +5,6 @@ use native.Mathlib.Omega.{arith}
 use Rattle.kuhn_arena.proofs.Hands.{set-sum}
 use Rattle.kuhn_arena.proofs.decision_word.Statement.{statement}
 use Rattle.kuhn_arena.proofs.decision_word.Tie as tie
-use Rattle.kuhn_arena.proofs.decision_word.Reads as reads
-use Rattle.kuhn_arena.proofs.decision_word.Lts as lts
-use Rattle.arena.proofs.words.decision.Reads as decision-reads
-use Rattle.kuhn_arena.proofs.card.Reads as card-reads
 
 rem-seat : tie.Need-rem-seat
 rem-seat c = search needs

@@ -5,10 +5,6 @@ use lib.ListN.{length}
 use Rattle.kuhn_arena.proofs.Hands.{bits-small, ends}
 use Rattle.kuhn_arena.proofs.end_word.Statement.{statement}
 use Rattle.kuhn_arena.proofs.end_word.Tie as tie
-use Rattle.kuhn_arena.proofs.end_word.Reads as reads
-use Rattle.kuhn_arena.proofs.end_word.Lts as lts
-use Rattle.arena.proofs.payoffs.end.Reads as end-reads
-use Rattle.kuhn_rules.proofs.money.payoffs.Reads as payoffs-reads
 
 slice-aggregate-payoffs : tie.Need-slice-aggregate-payoffs
 slice-aggregate-payoffs c = search needs

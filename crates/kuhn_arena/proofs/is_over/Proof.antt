@@ -6,9 +6,6 @@ use borrow.Author.Tests.{eq-eqb, ne-eqb}
 use Rattle.finite.proofs.Tests.{or-left, or-rest}
 use Rattle.kuhn_arena.proofs.is_over.Statement.{statement}
 use Rattle.kuhn_arena.proofs.is_over.Tie as tie
-use Rattle.kuhn_arena.proofs.is_over.Reads as reads
-use Rattle.kuhn_arena.proofs.is_over.Lts as lts
-use Rattle.kuhn_rules.proofs.betting.is_terminal.Reads as is-terminal-reads
 
 returns : tie.Need-returns
 returns c = sym (or-left _ (eq-eqb _ 0 (c .if1 .taken)))

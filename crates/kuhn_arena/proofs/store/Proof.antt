@@ -1,15 +1,8 @@
 use borrow.Author.Needs.{needs}
-use mathlib.Core.Path.{_∙_}
 use native.Mathlib.Omega.{arith}
 use Rattle.kuhn_arena.proofs.Start as start
 use Rattle.kuhn_arena.proofs.store.Statement.{statement}
 use Rattle.kuhn_arena.proofs.store.Tie as tie
-use Rattle.kuhn_arena.proofs.store.Reads as reads
-use Rattle.kuhn_arena.proofs.store.Lts as lts
-use Rattle.arena.proofs.index.clear.Reads as clear-reads
-use Rattle.arena.proofs.index.index.Reads as index-reads
-use Rattle.kuhn_arena.proofs.build.Reads as build-reads
-use Rattle.kuhn_arena.proofs.codes.Reads as codes-reads
 
 build-requires : tie.Need-build-requires
 build-requires c κs = search needs

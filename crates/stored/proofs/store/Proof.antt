@@ -1,12 +1,7 @@
 use borrow.Author.Needs.{needs}
-use denote.Ref.{now}
 use Rattle.stored.proofs.Games.{two-seats, few-seats, kuhn-words, kuhn-stored, leduc-words, leduc-stored}
 use Rattle.stored.proofs.store.Statement.{statement}
 use Rattle.stored.proofs.store.Tie as tie
-use Rattle.stored.proofs.store.Reads as reads
-use Rattle.stored.proofs.store.Lts as lts
-use Rattle.kuhn_arena.proofs.store.Reads as store-reads
-use Rattle.stored.proofs.store_leduc.Reads as store-leduc-reads
 
 store-requires : tie.Need-store-requires
 store-requires c κs =

@@ -2,11 +2,6 @@ use borrow.Author.Needs.{needs}
 use Rattle.stored.proofs.Games.{leduc-index}
 use Rattle.stored.proofs.store_leduc.Statement.{statement}
 use Rattle.stored.proofs.store_leduc.Tie as tie
-use Rattle.stored.proofs.store_leduc.Reads as reads
-use Rattle.stored.proofs.store_leduc.Lts as lts
-use Rattle.arena.proofs.index.clear.Reads as clear-reads
-use Rattle.arena.proofs.index.index.Reads as index-reads
-use Rattle.leduc_arena.proofs.build.Reads as build-reads
 
 build-requires : tie.Need-build-requires
 build-requires c κs = search needs

@@ -4,8 +4,6 @@ use Rattle.whole.proofs.Facts.{kuhn-two, kuhn-six}
 use Rattle.whole.proofs.Places as places
 use Rattle.whole.proofs.heads_of.Statement.{statement}
 use Rattle.whole.proofs.heads_of.Tie as tie
-use Rattle.whole.proofs.heads_of.Reads as reads
-use Rattle.whole.proofs.heads_of.Lts as lts
 
 mul-result : tie.Need-mul-result
 mul-result c = omega (arith, kuhn-two (c .before .before .args .g) (c .before .before .pre) (c .if1 .taken), kuhn-six (c .before .before .args .g) (c .before .before .pre) (c .if1 .taken))

@@ -7,9 +7,6 @@ use Rattle.arena.specs.Index.{Cleared}
 use Rattle.arena.proofs.Steps.{clear-none, clear-more}
 use Rattle.arena.proofs.index.clear.Statement.{statement}
 use Rattle.arena.proofs.index.clear.Tie as tie
-use Rattle.arena.proofs.index.clear.Reads as reads
-use Rattle.arena.proofs.index.clear.Lts as lts
-use Rattle.arena.proofs.words.put.Reads as put-reads
 
 abbrev Inv-loop : tie.InvT-loop
 Inv-loop w₀ lo hi i₀ w i = Cleared lo i w₀ w × (lo ≤ i) × (i ≤ hi)

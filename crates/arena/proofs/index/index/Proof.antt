@@ -2,10 +2,6 @@ use borrow.Author.Needs.{needs}
 use mathlib.Core.Path.{refl}
 use Rattle.arena.proofs.index.index.Statement.{statement}
 use Rattle.arena.proofs.index.index.Tie as tie
-use Rattle.arena.proofs.index.index.Reads as reads
-use Rattle.arena.proofs.index.index.Lts as lts
-use Rattle.arena.proofs.index.link.Reads as link-reads
-use Rattle.arena.proofs.index.number.Reads as number-reads
 
 number-requires : tie.Need-number-requires
 number-requires c κs = search needs

@@ -6,9 +6,6 @@ use borrow.Author.Needs.{needs}
 use Rattle.arena.proofs.Linking.{Linked, linked-end, linked-more, linked-start, linked-long}
 use Rattle.arena.proofs.index.link.Statement.{statement}
 use Rattle.arena.proofs.index.link.Tie as tie
-use Rattle.arena.proofs.index.link.Reads as reads
-use Rattle.arena.proofs.index.link.Lts as lts
-use Rattle.arena.proofs.index.link_node.Reads as link-node-reads
 
 abbrev Inv-loop : tie.InvT-loop
 Inv-loop w₀ nodes heads a₀ w a = Linked nodes heads w₀ w a × (a ≤ nodes) × (length w ≡ length w₀)

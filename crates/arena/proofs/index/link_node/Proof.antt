@@ -1,22 +1,12 @@
 use borrow.Author.Needs.{needs}
 use mathlib.Core.Path.{refl, sym, ap, _∙_}
 use denote.Ref.{now}
-use Prim.Native.Nat.{_+_, _-_, _%_}
-use lib.ListN.{getD, set}
-use Rattle.arena.specs.Words.{kindOf, setOf, decisionWord}
+use Prim.Native.Nat.{_+_, _-_}
+use lib.ListN.{getD}
+use Rattle.arena.specs.Words.{kindOf, setOf}
 use Rattle.arena.proofs.Steps.{linked-kind, linked-unknown, linked-by}
 use Rattle.arena.proofs.index.link_node.Statement.{statement}
 use Rattle.arena.proofs.index.link_node.Tie as tie
-use Rattle.arena.proofs.index.link_node.Reads as reads
-use Rattle.arena.proofs.index.link_node.Lts as lts
-use Rattle.arena.proofs.words.actions.Reads as actions-reads
-use Rattle.arena.proofs.words.actor.Reads as actor-reads
-use Rattle.arena.proofs.words.decision.Reads as decision-reads
-use Rattle.arena.proofs.words.kind.Reads as kind-reads
-use Rattle.arena.proofs.words.next.Reads as next-reads
-use Rattle.arena.proofs.words.put.Reads as put-reads
-use Rattle.arena.proofs.words.set.Reads as set-reads
-use Rattle.arena.proofs.words.word.Reads as word-reads
 
 word-requires : tie.Need-word-requires
 word-requires c κs = search needs

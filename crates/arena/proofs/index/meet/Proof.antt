@@ -1,18 +1,11 @@
 use borrow.Author.Needs.{needs}
-use mathlib.Core.Path.{_≡_, sym, ap, _∙_}
+use mathlib.Core.Path.{sym, ap, _∙_}
 use denote.Ref.{now}
 use Prim.Native.Nat.{_+_}
 use lib.ListN.{getD, set}
 use Rattle.arena.proofs.Steps.{met-kind, met-known, met-new}
 use Rattle.arena.proofs.index.meet.Statement.{statement}
 use Rattle.arena.proofs.index.meet.Tie as tie
-use Rattle.arena.proofs.index.meet.Reads as reads
-use Rattle.arena.proofs.index.meet.Lts as lts
-use Rattle.arena.proofs.words.actions.Reads as actions-reads
-use Rattle.arena.proofs.words.kind.Reads as kind-reads
-use Rattle.arena.proofs.words.put.Reads as put-reads
-use Rattle.arena.proofs.words.set.Reads as set-reads
-use Rattle.arena.proofs.words.word.Reads as word-reads
 
 kind-requires : tie.Need-kind-requires
 kind-requires c κs = search needs

@@ -6,10 +6,6 @@ use borrow.Author.Needs.{needs}
 use Rattle.arena.proofs.Numbering.{Walked, walked-start, walked-more, walked-end, met-few}
 use Rattle.arena.proofs.index.number.Statement.{statement}
 use Rattle.arena.proofs.index.number.Tie as tie
-use Rattle.arena.proofs.index.number.Reads as reads
-use Rattle.arena.proofs.index.number.Lts as lts
-use Rattle.arena.proofs.index.meet.Reads as meet-reads
-use Rattle.arena.proofs.words.word.Reads as word-reads
 
 abbrev Inv-loop : tie.InvT-loop
 Inv-loop w₀ nodes entry₀ a₀ w entry a = Walked nodes w₀ w entry a × (a ≤ nodes) × (entry ≤ 4 * a) × (length w ≡ length w₀)

@@ -1,8 +1,6 @@
 use Rattle.arena.proofs.Bytes.{lifted-fits, raised-casts, raised-byte}
 use Rattle.arena.proofs.payoffs.byte.Statement.{statement}
 use Rattle.arena.proofs.payoffs.byte.Tie as tie
-use Rattle.arena.proofs.payoffs.byte.Reads as reads
-use Rattle.arena.proofs.payoffs.byte.Lts as lts
 
 add-result : tie.Need-add-result
 add-result c = lifted-fits (c .args .payoff) (c .pre)

@@ -2,9 +2,6 @@ use Rattle.arena.proofs.Bytes.{own-byte, six-pays}
 use borrow.Author.Needs.{needs}
 use Rattle.arena.proofs.payoffs.end.Statement.{statement}
 use Rattle.arena.proofs.payoffs.end.Tie as tie
-use Rattle.arena.proofs.payoffs.end.Reads as reads
-use Rattle.arena.proofs.payoffs.end.Lts as lts
-use Rattle.arena.proofs.payoffs.byte.Reads as byte-reads
 
 byte-requires : tie.Need-byte-requires
 byte-requires c κs = search needs

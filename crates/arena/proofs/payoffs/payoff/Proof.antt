@@ -4,8 +4,6 @@ use Rattle.arena.specs.Words.{byteOf}
 use borrow.Author.Needs.{needs}
 use Rattle.arena.proofs.payoffs.payoff.Statement.{statement}
 use Rattle.arena.proofs.payoffs.payoff.Tie as tie
-use Rattle.arena.proofs.payoffs.payoff.Reads as reads
-use Rattle.arena.proofs.payoffs.payoff.Lts as lts
 
 mul-bits : tie.Need-mul-bits
 mul-bits c = search needs

@@ -1,17 +1,11 @@
 use borrow.Author.Needs.{needs}
 use denote.Ref.{now}
-use mathlib.Core.Path.{_≡_, sym, ap, _∙_, subst}
-use native.Mathlib.Omega.{arith}
+use mathlib.Core.Path.{sym, ap, _∙_, subst}
 use Rattle.arena.specs.Words.{kindOf, nextOf}
 use Rattle.arena.specs.Walk.{Behind}
 use Rattle.arena.proofs.Walking.{at-end, elsewhere}
 use Rattle.arena.proofs.walk.behind.Statement.{statement}
 use Rattle.arena.proofs.walk.behind.Tie as tie
-use Rattle.arena.proofs.walk.behind.Reads as reads
-use Rattle.arena.proofs.walk.behind.Lts as lts
-use Rattle.arena.proofs.words.kind.Reads as kind-reads
-use Rattle.arena.proofs.words.next.Reads as next-reads
-use Rattle.arena.proofs.words.word.Reads as word-reads
 
 word-requires : tie.Need-word-requires
 word-requires c κs = search needs

@@ -1,12 +1,8 @@
 use Prim.Native.Nat.{_-_, _≤_, _<_}
 use native.Mathlib.Omega.{arith}
-use borrow.Author.Needs.{needs}
 use Rattle.arena.proofs.Walking.{Along, along-start, along-more, along-end, along-stuck}
 use Rattle.arena.proofs.walk.fan.Statement.{statement}
 use Rattle.arena.proofs.walk.fan.Tie as tie
-use Rattle.arena.proofs.walk.fan.Reads as reads
-use Rattle.arena.proofs.walk.fan.Lts as lts
-use Rattle.arena.proofs.walk.behind.Reads as behind-reads
 
 abbrev Inv-loop : tie.InvT-loop
 Inv-loop w a end count₀ at₀ count at = Along w a end at count × (count ≤ at) × (at < 8388608)

@@ -5,11 +5,6 @@ use native.Mathlib.Omega.{arith}
 use Rattle.stock.proofs.Summing.{Reached, reached-start, reached-more, reached-end}
 use Rattle.stock.proofs.ends.end_sums.Statement.{statement}
 use Rattle.stock.proofs.ends.end_sums.Tie as tie
-use Rattle.stock.proofs.ends.end_sums.Reads as reads
-use Rattle.stock.proofs.ends.end_sums.Lts as lts
-use Rattle.arena.proofs.words.word.Reads as word-reads
-use Rattle.stock.proofs.ends.with_node.Reads as with-node-reads
-use Rattle.units.proofs.sums.none.Reads as none-reads
 
 abbrev Inv-loop : tie.InvT-loop
 Inv-loop w nodes units sums₀ a₀ sums a = (a ≤ nodes) × Reached w units a (sums .of)

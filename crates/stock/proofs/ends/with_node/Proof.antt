@@ -4,11 +4,6 @@ use Rattle.stock.proofs.Summing.{with-none, with-end}
 use borrow.Author.Needs.{needs}
 use Rattle.stock.proofs.ends.with_node.Statement.{statement}
 use Rattle.stock.proofs.ends.with_node.Tie as tie
-use Rattle.stock.proofs.ends.with_node.Reads as reads
-use Rattle.stock.proofs.ends.with_node.Lts as lts
-use Rattle.arena.proofs.words.kind.Reads as kind-reads
-use Rattle.units.proofs.sums.add.Reads as add-reads
-use Rattle.units.proofs.sums.earned.Reads as earned-reads
 
 kind-requires : tie.Need-kind-requires
 kind-requires c κs = search needs

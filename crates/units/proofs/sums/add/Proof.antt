@@ -2,9 +2,6 @@ use borrow.Author.Needs.{needs}
 use Rattle.units.proofs.Six.{six}
 use Rattle.units.proofs.sums.add.Statement.{statement}
 use Rattle.units.proofs.sums.add.Tie as tie
-use Rattle.units.proofs.sums.add.Reads as reads
-use Rattle.units.proofs.sums.add.Lts as lts
-use Rattle.std.proofs.num.wrapping_add_u64.Reads as wrapping-add-u64-reads
 
 array-read-wrapping-add-u64 : tie.Need-array-read-wrapping-add-u64
 array-read-wrapping-add-u64 c = search needs

@@ -2,9 +2,6 @@ use borrow.Author.Needs.{needs}
 use Rattle.units.proofs.Six.{six, times-fits, product}
 use Rattle.units.proofs.sums.earned.Statement.{statement}
 use Rattle.units.proofs.sums.earned.Tie as tie
-use Rattle.units.proofs.sums.earned.Reads as reads
-use Rattle.units.proofs.sums.earned.Lts as lts
-use Rattle.arena.proofs.payoffs.lifted.Reads as lifted-reads
 
 lifted-requires : tie.Need-lifted-requires
 lifted-requires c κs = search needs

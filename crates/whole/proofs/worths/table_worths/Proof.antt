@@ -7,15 +7,6 @@ use Rattle.whole.proofs.Standing.{units-near, nodes-near, storable, sti
 use borrow.Author.Needs.{needs}
 use Rattle.whole.proofs.worths.table_worths.Statement.{statement}
 use Rattle.whole.proofs.worths.table_worths.Tie as tie
-use Rattle.whole.proofs.worths.table_worths.Reads as reads
-use Rattle.whole.proofs.worths.table_worths.Lts as lts
-use Rattle.stock.proofs.collect.Reads as collect-reads
-use Rattle.stock.proofs.ends.end_sums.Reads as end-sums-reads
-use Rattle.tables.proofs.Game.entries.Reads as entries-reads
-use Rattle.tables.proofs.Game.nodes.Reads as nodes-reads
-use Rattle.whole.proofs.heads_of.Reads as heads-of-reads
-use Rattle.whole.proofs.root_units.Reads as root-units-reads
-use Rattle.whole.proofs.worths.lowered_all.Reads as lowered-all-reads
 
 heads-of-requires : tie.Need-heads-of-requires
 heads-of-requires c κs = search needs
