@@ -1,3 +1,6 @@
+pub mod Numbers
+pub mod Bets
+pub mod Ends
 pub mod Hands
 pub mod Deals
 pub mod Start

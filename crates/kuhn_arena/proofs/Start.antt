@@ -6,6 +6,7 @@ use Prim.Native.Nat.{ℕ, zero, suc, _+_, _*_, _≤_, _<_}
 use native.Mathlib.Nat as NatL
 use native.Mathlib.Omega.{arith}
 use lib.ListN.{length}
+use Rattle.finite.specs.Finite.{places}
 use Rattle.game.specs.Tree.{Tree}
 use Rattle.game.specs.Sets.{size, entries}
 use Rattle.arena.specs.Index.{unlinked, Cleared, Coded, Indexed, Indexes}
@@ -13,14 +14,13 @@ use Rattle.arena.specs.Built.{Built, Room}
 use Rattle.arena.proofs.Building.{held-same}
 use Rattle.kuhn_tree.proofs.Units.{kuhn-every}
 use Rattle.kuhn_arena.proofs.Apart.{kuhn-codes}
+use Rattle.kuhn_rules.specs.Reached.{start}
 use Rattle.kuhn_rules.specs.Stakes.{ante, stake}
-use Rattle.kuhn_positions.specs.declared.KuhnState.{KuhnState}
-use Rattle.kuhn_positions.specs.Positions.{initial}
 use Rattle.kuhn_tree.specs.Tree.{kuhnTree}
 use Rattle.kuhn_tree.specs.Counts.{dealNodes, kuhnNodes, kuhnEntries}
 use Rattle.kuhn_tree.proofs.Shape.{kuhn-deals}
 use Rattle.kuhn_tree.proofs.Facts.{counted}
-use Rattle.kuhn_arena.specs.Layout.{codeOf, codeCount, dealAt, Dealing}
+use Rattle.kuhn_arena.specs.Layout.{codeOf, codeCount, cardsIn, dealAt, Dealing}
 
 -- the five numbers of seats, one by one
 pub by-seats : (P : ℕ → Type 0) → P 2 → P 3 → P 4 → P 5 → P 6 → (n : ℕ) → 2 ≤ n → n ≤ 6 → P n
@@ -38,21 +38,22 @@ pub nodes-few : (n : ℕ) → 2 ≤ n → n ≤ 6 → kuhnNodes n < 2097152
 unfolding dealNodes
 nodes-few = by-seats (λ n. kuhnNodes n < 2097152) (omega arith) (omega arith) (omega arith) (omega arith) (omega arith)
 
-module _ (n : ℕ) (two : 2 ≤ n) (six : n ≤ 6) (s : KuhnState) (e : s ≡ initial) where
-  pub starts : Dealing n s n
-  starts = rw e (record { least = two; most = six; fresh = refl; cards = NatL.zero-add n; places = refl; tens = refl })
+module _ (n : ℕ) (two : 2 ≤ n) (six : n ≤ 6) where
+  pub starts : Dealing n 0 0 n
+  unfolding cardsIn places
+  starts = record { least = two; most = six; cards = NatL.zero-add n; small = omega arith; reached = start }
 
-  pub tree-is : dealAt n s n ≡ kuhnTree ante stake n
-  unfolding dealAt
-  tree-is = rw e (sym (kuhn-deals ante stake n))
+  pub tree-is : dealAt n 0 0 n ≡ kuhnTree ante stake n
+  unfolding dealAt cardsIn places
+  tree-is = sym (kuhn-deals ante stake n)
 
-  pub tree-size : size (dealAt n s n) ≡ kuhnNodes n
+  pub tree-size : size (dealAt n 0 0 n) ≡ kuhnNodes n
   tree-size = ap size tree-is ∙ counted ante stake n (omega arith) .0
 
-  pub start-room : (w : List ℕ) → kuhnNodes n ≤ length w → Room 0 w (size (dealAt n s n))
+  pub start-room : (w : List ℕ) → kuhnNodes n ≤ length w → Room 0 w (size (dealAt n 0 0 n))
   start-room w h = rw tree-size (record { words = omega arith; places = omega (arith, nodes-few n two six) })
 
-  pub built-tree : (v w : List ℕ) (r : ℕ) → Built n (codeOf n) 0 v w (dealAt n s n) r → Built n (codeOf n) 0 v w (kuhnTree ante stake n) r
+  pub built-tree : (v w : List ℕ) (r : ℕ) → Built n (codeOf n) 0 v w (dealAt n 0 0 n) r → Built n (codeOf n) 0 v w (kuhnTree ante stake n) r
   built-tree v w r b = rw tree-is at b
 
 -- ---- the index

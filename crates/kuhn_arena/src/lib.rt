@@ -1,141 +1,242 @@
 // Kuhn's tree, laid out in work memory: the deals, and below each full deal a hand.
 use arena::index::clear;
 use arena::index::index;
-use arena::payoffs::end;
 use arena::words::chance;
 use arena::words::decision;
 use arena::words::put;
-use kuhn_positions::KuhnState;
-use kuhn_rules::betting::is_terminal;
-use kuhn_rules::cards::contains;
-use kuhn_rules::money::payoffs;
 ghost use mathlib.Core.Path.{_≡_};
-ghost use Prim.Native.Nat.{_+_, _*_, _%_, _<_, _≤_};
-ghost use lib.Dec.{eqb};
-ghost use lib.ListN.{length, getD};
+ghost use mathlib.Core.Bool.{cond};
+ghost use Prim.Native.Nat.{_+_, _*_, _-_, _%_, _^_, _<_, _≤_};
+ghost use lib.Dec.{ltb};
+ghost use lib.ListN.{length};
 ghost use Rattle.kuhn_rules.specs.Stakes.{ante, stake};
 ghost use Rattle.kuhn_tree.specs.Tree.{kuhnTree};
 ghost use Rattle.kuhn_tree.specs.Counts.{kuhnNodes};
-ghost use Rattle.finite.specs.Finite.{or};
-ghost use Rattle.kuhn_rules.specs.Rules.{ended};
-ghost use Rattle.kuhn_positions.specs.Positions.{historyOf};
+ghost use Rattle.finite.specs.Finite.{has};
 ghost use Rattle.game.specs.Sets.{size, sizes};
 ghost use Rattle.arena.specs.Words.{decisionWord};
 ghost use Rattle.arena.specs.Built.{Built, Row, Room};
 ghost use Rattle.arena.specs.Index.{Indexed};
-ghost use Rattle.kuhn_arena.specs.Layout.{codeOf, codeCount, handAt, dealAt, childrenTo, childAt, Ends, Playing, Dealing};
+ghost use Rattle.kuhn_arena.specs.Layout.{codeOf, codeCount, historyAt, cardAt, cardsIn, unitOf, afterAt, beforeAt, dealAt, childrenTo, childAt, Betting, Passing, Top, Dealing};
 
-const PASS: usize = 0;
+// The word of an end at which each of six seats has lost its ante.
+const ANTES: u64 = 278163506396412;
 
-const BET: usize = 1;
-
-// The word of the end that a position is.
-fn end_word(n: usize, state: KuhnState) -> u64
-    requires { ⌜ (2 ≤ n) × (n ≤ 6) × (state .dealt ≡ n) × (state .acted ≤ 19) ⌝ }
-    ensures { λ r. ⌜ Ends n state r ⌝ }
+// The card of a seat, of cards in four bits each.
+fn card_of(cards: u64, seat: usize) -> usize
+    requires { ⌜ seat < 6 ⌝ }
+    ensures { λ r. ⌜ r ≡ cardAt cards seat ⌝ }
 {
-    let cards = state.cards;
-    let history = state.history;
-    let acted = state.acted;
-    let p = payoffs(&cards, &history, acted, n);
-    end(p[0], p[1], p[2], p[3], p[4], p[5])
+    let shifted = cards >> (4 * seat);
+    (shifted % 16) as usize
 }
 
-// A card as a number.
-fn card(x: u8) -> usize
-    ensures { λ r. ⌜ (r ≡ x) × (r < 256) ⌝ }
+// A unit of a seat's payoff in the word of an end.
+fn unit(seat: usize) -> u64
+    requires { ⌜ seat < 6 ⌝ }
+    ensures { λ r. ⌜ (r ≡ unitOf seat) × (r ≤ 4398046511104) ⌝ }
 {
-    x as usize
+    4 << (8 * seat)
 }
 
-// The word of the decision that a position is, of a history with the given number.
-fn decision_word(n: usize, state: KuhnState, number: usize, next: usize) -> u64
-    requires { ⌜ (2 ≤ n) × (n ≤ 6) × (number ≤ 2046) × (next < 2097152) ⌝ }
-    ensures { λ r. ⌜ (r ≡ decisionWord (state .acted % n) 2 (number * (n + 1) + getD (state .cards) (state .acted % n) 0) next 0) × (getD (state .cards) (state .acted % n) 0 < 256) ⌝ }
+// The word of an end: all seats lose what they have paid, and one wins the pot.
+fn end_word(pays: u64, pot: u64, win: usize) -> u64
+    requires { ⌜ (pays < 1125899906842624) × (pot ≤ 12) × (win < 6) ⌝ }
+    ensures { λ r. ⌜ r ≡ pays + pot * unitOf win ⌝ }
 {
-    let cards = state.cards;
-    let seat = state.acted % n;
-    let set = number * (n + 1) + card(cards[seat]);
+    pays + pot * unit(win)
+}
+
+// The word of the decision of a seat, of a history with the given number.
+fn decision_word(n: usize, cards: u64, number: usize, seat: usize, next: usize) -> u64
+    requires { ⌜ (n ≤ 6) × (number ≤ 2046) × (seat < n) × (next < 2097152) ⌝ }
+    ensures { λ r. ⌜ r ≡ decisionWord seat 2 (number * (n + 1) + cardAt cards seat) next 0 ⌝ }
+{
+    let set = number * (n + 1) + card_of(cards, seat);
     decision(seat, 2, set, next, 0)
 }
 
-// Lays out the hand from a position on, of at most left actions, at place at; the place behind it.
-fn hand(w: &mut [u64], at: usize, n: usize, state: KuhnState, number: usize, left: usize) -> usize
-    requires { ⌜ Playing n state number left ⌝ }
-    requires { ⌜ Room at (now w) (size (handAt n state left)) ⌝ }
-    ensures { λ r. ⌜ Built n (codeOf n) at (now (w .entry)) (now (w .exit)) (handAt n state left) r ⌝ }
+// The seat that acts after a seat.
+fn following(n: usize, seat: usize) -> usize
+    requires { ⌜ (seat < n) × (n ≤ 6) ⌝ }
+    ensures { λ r. ⌜ r ≡ (seat + 1) % n ⌝ }
 {
-    if is_over(n, state, left) {
-        put(w, at, end_word(n, state));
+    if seat + 1 == n { 0 } else { seat + 1 }
+}
+
+// Of two seats the one with the higher card, the first if they are equal.
+fn higher(cards: u64, first: usize, second: usize) -> usize
+    requires { ⌜ (first < 6) × (second < 6) ⌝ }
+    ensures { λ r. ⌜ r ≡ cond (ltb (cardAt cards first) (cardAt cards second)) second first ⌝ }
+{
+    if card_of(cards, first) < card_of(cards, second) {
+        second
+    } else {
+        first
+    }
+}
+
+// The seat with the highest card.
+fn highest(n: usize, cards: u64) -> usize
+    requires { ⌜ (1 ≤ n) × (n ≤ 6) ⌝ }
+    ensures { λ r. ⌜ Top n cards r ⌝ }
+{
+    let mut top = 0;
+    let mut seat = 1;
+    while seat < n {
+        top = higher(cards, top, seat);
+        seat += 1;
+    }
+    top
+}
+
+// Lays out a hand with a bet, of left actions to come, at place at; the place behind it.
+fn after_bet(
+    w: &mut [u64],
+    at: usize,
+    n: usize,
+    cards: u64,
+    number: usize,
+    seat: usize,
+    left: usize,
+    pays: u64,
+    pot: u64,
+    win: usize,
+) -> usize
+    requires { ⌜ Betting n (cardsIn n cards) (historyAt number) seat left pays pot win × ((number + 2) * 2 ^ left ≤ 4096) ⌝ }
+    requires { ⌜ Room at (now w) (size (afterAt n cards number left)) ⌝ }
+    ensures { λ r. ⌜ Built n (codeOf n) at (now (w .entry)) (now (w .exit)) (afterAt n cards number left) r ⌝ }
+{
+    if left == 0 {
+        put(w, at, end_word(pays, pot, win));
         return at + 1;
     }
-    let bet = hand(
+    let after = following(n, seat);
+    let bet = after_bet(
         w,
         at + 1,
         n,
-        state.with_action(PASS),
+        cards,
         2 * number + 1,
+        after,
         left - 1,
+        pays,
+        pot,
+        win,
     );
-    let next = hand(w, bet, n, state.with_action(BET), 2 * number + 2, left - 1);
-    put(w, at, decision_word(n, state, number, next));
+    let next = after_bet(
+        w,
+        bet,
+        n,
+        cards,
+        2 * number + 2,
+        after,
+        left - 1,
+        pays - unit(seat),
+        pot + 1,
+        higher(cards, win, seat),
+    );
+    put(w, at, decision_word(n, cards, number, seat, next));
     next
 }
 
-// Whether no action is left, or the hand has ended.
-fn is_over(n: usize, state: KuhnState, left: usize) -> bool
-    requires { ⌜ (1 ≤ n) × (n ≤ 10) × (state .acted ≤ 19) ⌝ }
-    ensures { λ r. ⌜ r ≡ or (eqb left 0) (ended n (historyOf state)) ⌝ }
+// Lays out a hand without a bet from a seat's turn on, at place at; the place behind it.
+fn before_bet(w: &mut [u64], at: usize, n: usize, cards: u64, number: usize, seat: usize) -> usize
+    requires { ⌜ Passing n (cardsIn n cards) (historyAt number) seat number ⌝ }
+    requires { ⌜ Room at (now w) (size (beforeAt n cards number (n - seat))) ⌝ }
+    ensures { λ r. ⌜ Built n (codeOf n) at (now (w .entry)) (now (w .exit)) (beforeAt n cards number (n - seat)) r ⌝ }
 {
-    if left == 0 {
-        return true;
+    if seat == n {
+        put(w, at, end_word(ANTES, n as u64, highest(n, cards)));
+        return at + 1;
     }
-    let history = state.history;
-    let acted = state.acted;
-    is_terminal(&history, acted, n)
+    let bet = before_bet(w, at + 1, n, cards, 2 * number + 1, seat + 1);
+    let next = after_bet(
+        w,
+        bet,
+        n,
+        cards,
+        2 * number + 2,
+        following(n, seat),
+        n - 1,
+        ANTES - unit(seat),
+        n as u64 + 1,
+        seat,
+    );
+    put(w, at, decision_word(n, cards, number, seat, next));
+    next
 }
 
-// Lays out the tree of a position without actions, with left cards to deal.
-fn deal(w: &mut [u64], at: usize, n: usize, state: KuhnState, left: usize) -> usize
-    requires { ⌜ Dealing n state left ⌝ }
-    requires { ⌜ Room at (now w) (size (dealAt n state left)) ⌝ }
-    ensures { λ r. ⌜ Built n (codeOf n) at (now (w .entry)) (now (w .exit)) (dealAt n state left) r ⌝ }
+// Whether one of the first seats has a card.
+fn is_dealt(cards: u64, dealt: usize, card: usize) -> bool
+    requires { ⌜ dealt ≤ 6 ⌝ }
+    ensures { λ r. ⌜ r ≡ has card (cardsIn dealt cards) ⌝ }
+{
+    let mut seat = 0;
+    while seat < dealt {
+        if card_of(cards, seat) == card {
+            return true;
+        }
+        seat += 1;
+    }
+    false
+}
+
+// Deals a card to the next seat.
+fn with_card(cards: u64, dealt: usize, card: usize) -> u64
+    requires { ⌜ (dealt < 6) × (cards < 2 ^ (4 * dealt)) × (card < 16) ⌝ }
+    ensures { λ r. ⌜ r ≡ cards + card * 2 ^ (4 * dealt) ⌝ }
+{
+    cards + ((card as u64) << (4 * dealt))
+}
+
+// Lays out the tree below a deal to the first seats, with left cards to deal.
+fn deal(w: &mut [u64], at: usize, n: usize, cards: u64, dealt: usize, left: usize) -> usize
+    requires { ⌜ Dealing n cards dealt left ⌝ }
+    requires { ⌜ Room at (now w) (size (dealAt n cards dealt left)) ⌝ }
+    ensures { λ r. ⌜ Built n (codeOf n) at (now (w .entry)) (now (w .exit)) (dealAt n cards dealt left) r ⌝ }
 {
     if left == 0 {
-        return hand(w, at, n, state, 0, 2 * n - 1);
+        return before_bet(w, at, n, cards, 0, 0);
     }
-    let next = children(w, at + 1, n, state, left - 1);
+    let next = children(w, at + 1, n, cards, dealt, left - 1);
     put(w, at, chance(next));
     next
 }
 
 // Lays out the children of a deal, one for each card left, ascending; left cards are to deal after it.
-fn children(w: &mut [u64], at: usize, n: usize, state: KuhnState, left: usize) -> usize
-    requires { ⌜ Dealing n state (left + 1) ⌝ }
-    requires { ⌜ Room at (now w) (sizes (childrenTo n state left (n + 1))) ⌝ }
-    ensures { λ r. ⌜ Row n (codeOf n) at (now (w .entry)) (now (w .exit)) (childrenTo n state left (n + 1)) r ⌝ }
+fn children(w: &mut [u64], at: usize, n: usize, cards: u64, dealt: usize, left: usize) -> usize
+    requires { ⌜ Dealing n cards dealt (left + 1) ⌝ }
+    requires { ⌜ Room at (now w) (sizes (childrenTo n cards dealt left (n + 1))) ⌝ }
+    ensures { λ r. ⌜ Row n (codeOf n) at (now (w .entry)) (now (w .exit)) (childrenTo n cards dealt left (n + 1)) r ⌝ }
 {
     let mut next = at;
     let mut card = 0;
     while card <= n {
-        next = child(w, next, n, state, left, card);
+        next = child(w, next, n, cards, dealt, left, card);
         card += 1;
     }
     next
 }
 
 // Lays out the child of a card, if that is left.
-fn child(w: &mut [u64], at: usize, n: usize, state: KuhnState, left: usize, card: usize) -> usize
-    requires { ⌜ Dealing n state (left + 1) × (card ≤ n) ⌝ }
-    requires { ⌜ Room at (now w) (sizes (childAt n state left card)) ⌝ }
-    ensures { λ r. ⌜ Row n (codeOf n) at (now (w .entry)) (now (w .exit)) (childAt n state left card) r ⌝ }
+fn child(
+    w: &mut [u64],
+    at: usize,
+    n: usize,
+    cards: u64,
+    dealt: usize,
+    left: usize,
+    card: usize,
+) -> usize
+    requires { ⌜ Dealing n cards dealt (left + 1) × (card ≤ n) ⌝ }
+    requires { ⌜ Room at (now w) (sizes (childAt n cards dealt left card)) ⌝ }
+    ensures { λ r. ⌜ Row n (codeOf n) at (now (w .entry)) (now (w .exit)) (childAt n cards dealt left card) r ⌝ }
 {
-    let cards = state.cards;
-    let dealt = state.dealt;
-    if contains(&cards, dealt, card) {
+    if is_dealt(cards, dealt, card) {
         return at;
     }
-    deal(w, at, n, state.with_card(card), left)
+    deal(w, at, n, with_card(cards, dealt, card), dealt + 1, left)
 }
 
 // Lays out Kuhn's tree for n seats from place 0 on; the place behind it.
@@ -143,7 +244,7 @@ pub fn build(w: &mut [u64], n: usize) -> usize
     requires { ⌜ (2 ≤ n) × (n ≤ 6) × (kuhnNodes n ≤ length (now w)) ⌝ }
     ensures { λ r. ⌜ Built n (codeOf n) 0 (now (w .entry)) (now (w .exit)) (kuhnTree ante stake n) r ⌝ }
 {
-    deal(w, 0, n, KuhnState::new(), n)
+    deal(w, 0, n, 0, 0, n)
 }
 
 const CODES: [usize; 7] = [0, 0, 24, 128, 640, 3072, 14336];
