@@ -1,17 +1,17 @@
 -- One action more in a hand: who has bet, what the seats have paid, and who wins. Assumes nothing.
-use mathlib.Core.Path.{_≡_, refl, sym, ap, ap₂, _∙_, subst}
+use mathlib.Core.Path.{_≡_, refl, sym, ap, ap₂, _∙_}
 use mathlib.Core.Logic.{_⊎_, inl, inr}
 use mathlib.Core.Bool.{Bool, true, false, not, cond}
 use mathlib.Core.List.{List, [], _∷_, _++_}
-use Prim.Native.Nat.{ℕ, zero, suc, _+_, _*_, _-_, _%_, _≤_, _<_}
+use Prim.Native.Nat.{ℕ, zero, suc, _+_, _*_, _%_, _≤_, _<_}
 use native.Mathlib.Nat as NatL
 use native.Mathlib.Omega.{arith}
 use lib.Dec.{eqb, leb, ltb}
-use lib.ListN.{length, getD, take, length-append}
+use lib.ListN.{length, getD, length-append}
 use lib.Seq.{take-append-seam, getD-at}
 use borrow.Author.Tests.{eq-eqb, ne-eqb, eqb-true, eqb-false, ltb-true, ltb-false, leb-true, le-leb}
-use Rattle.finite.specs.Finite.{and, or, some, every, sum}
-use Rattle.finite.proofs.Tests.{Tested, holds, fails, tested, true≢false, both, and-left, and-right, and-left-fails, and-right-fails, or-left, or-right, or-rest, or-cases, or-false-left, or-false-right, neither, none, every-at, all}
+use Rattle.finite.specs.Finite.{and, or, some, sum}
+use Rattle.finite.proofs.Tests.{Tested, holds, fails, tested, true≢false, both, and-left, and-right, and-right-fails, or-left, or-right, or-rest, or-cases, or-false-left, or-false-right, neither, none, every-at, all}
 use Rattle.finite.proofs.Lists.{sum-same, sum-without}
 use Rattle.kuhn_rules.specs.Rules.{PASS, BET, turn, bet-made, after-bet, bets, stands, wins, contribution}
 use Rattle.kuhn_rules.specs.Stakes.{ante, stake}
@@ -120,13 +120,6 @@ module _ (n : ℕ) (h : List ℕ) where
       at : (b : Bool) → (1 + cond b 1 0 ≡ 1) ⊎ (1 + cond b 1 0 ≡ 2)
       at true = inr refl
       at false = inl refl
-
-  pub paid-some : (i : ℕ) → 1 ≤ contribution ante stake n h i
-  paid-some i = at (paid i)
-    where
-      at : (contribution ante stake n h i ≡ 1) ⊎ (contribution ante stake n h i ≡ 2) → 1 ≤ contribution ante stake n h i
-      at (inl e) = omega arith
-      at (inr e) = omega arith
 
   pub paid-few : (i : ℕ) → contribution ante stake n h i ≤ 2
   paid-few i = at (paid i)

@@ -1,14 +1,13 @@
 -- The word of an end: six bytes, one of which has the pot. Assumes nothing.
-use mathlib.Core.Path.{_≡_, refl, sym, ap, ap₂, _∙_, subst}
+use mathlib.Core.Path.{_≡_, refl, sym, ap, _∙_}
 use mathlib.Core.Logic.{_⊎_, inl, inr}
-use mathlib.Core.Bool.{Bool, true, false, cond}
+use mathlib.Core.Bool.{true, false, cond}
 use mathlib.Core.List.{List, [], _∷_, _++_}
-use Prim.Native.Nat.{ℕ, zero, suc, _+_, _*_, _-_, _/_, _%_, _^_, _≤_, _<_}
+use Prim.Native.Nat.{ℕ, zero, suc, _+_, _*_, _-_, _%_, _^_, _≤_, _<_}
 use native.Mathlib.Nat as NatL
 use native.Mathlib.Omega.{arith}
 use lib.Dec.{eqb}
-use lib.IntN.{ℤ, pos, negℤ, _+ℤ_, _-ℤ_, +ℤ-negℤ-cancel, pos-+ℤ-pos}
-use lib.ListN.{length, getD}
+use lib.IntN.{pos, negℤ, _+ℤ_, _-ℤ_, +ℤ-negℤ-cancel, pos-+ℤ-pos}
 use borrow.Author.Tests.{eqb-true}
 use Rattle.finite.specs.Finite.{sum}
 use Rattle.finite.proofs.Tests.{Tested, holds, fails, tested}

@@ -1,15 +1,15 @@
 -- Hands as the builder goes through them: what it carries after an action, and how a hand is laid out. Assumes nothing.
 use mathlib.Core.Path.{_≡_, refl, sym, ap, ap₂, _∙_, subst, fun-ext}
-use mathlib.Core.Bool.{Bool, true, false, cond}
+use mathlib.Core.Bool.{true, false, cond}
 use mathlib.Core.List.{List, [], _∷_, _++_}
 use Prim.Native.Nat.{ℕ, zero, suc, _+_, _*_, _-_, _%_, _^_, _≤_, _<_}
 use native.Mathlib.Nat as NatL
 use native.Mathlib.Omega.{arith}
-use lib.Dec.{eqb, ltb}
+use lib.Dec.{ltb}
 use lib.ListN.{length, getD, set}
 use borrow.Author.Tests.{eq-eqb, ne-eqb, ltb-true, ltb-false}
-use Rattle.finite.specs.Finite.{sum, or}
-use Rattle.finite.proofs.Tests.{Tested, holds, fails, tested, neither, true≢false}
+use Rattle.finite.specs.Finite.{sum}
+use Rattle.finite.proofs.Tests.{Tested, holds, fails, tested, neither}
 use Rattle.game.specs.Tree.{Tree, end, decide, Trees, nil, cons, fan}
 use Rattle.game.specs.Sets.{size}
 use Rattle.arena.specs.Words.{decisionWord}
@@ -21,9 +21,9 @@ use Rattle.arena.proofs.Building.{size-some, built-end, built-decide, row-none,
 use Rattle.kuhn_rules.specs.Rules.{PASS, BET, turn, bet-made, after-bet, ended, bets, key, contribution, wins, payoff}
 use Rattle.kuhn_rules.specs.Stakes.{ante, stake}
 use Rattle.kuhn_tree.proofs.Shape.{hand}
-use Rattle.kuhn_arena.specs.Layout.{numberFrom, codeOf, historyAt, cardAt, cardsIn, afterBet, beforeBet, afterAt, beforeAt, unitOf, losses, Dealt, Betting, Passing, Top}
-use Rattle.kuhn_arena.proofs.Numbers.{history-pass, history-bet, number-of, less-left, last-left, card-of, set-sum}
-use Rattle.kuhn_arena.proofs.Bets.{longer, bet-made-more, after-bet-more, after-bet-first, no-bets, bets-pass, bets-bet, contribution-pass, contribution-bet, paid-ante, sum-one-more, sum-ones, wins-quiet, opened-more, opened-bet, quiet-pass, wins-first, wins-pass, wins-bet}
+use Rattle.kuhn_arena.specs.Layout.{codeOf, historyAt, cardAt, cardsIn, afterBet, beforeBet, afterAt, beforeAt, unitOf, losses, Dealt, Betting, Passing, Top}
+use Rattle.kuhn_arena.proofs.Numbers.{history-pass, history-bet, number-of, card-of, set-sum}
+use Rattle.kuhn_arena.proofs.Bets.{longer, after-bet-more, after-bet-first, no-bets, bets-pass, bets-bet, contribution-pass, contribution-bet, paid-ante, sum-one-more, sum-ones, wins-quiet, opened-more, opened-bet, quiet-pass, wins-first, wins-pass, wins-bet}
 use Rattle.kuhn_arena.proofs.Ends.{losses-few, pot-few, losses-pass, losses-bet, losses-quiet, end-kind, end-pays}
 
 -- ---- turns

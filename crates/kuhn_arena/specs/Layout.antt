@@ -5,7 +5,7 @@ use mathlib.Core.List.{List, [], _∷_, _++_}
 use Prim.Native.Nat.{ℕ, zero, suc, _+_, _*_, _-_, _/_, _%_, _^_, _≤_, _<_}
 use Rattle.finite.specs.Finite.{those, sum, places}
 use Rattle.game.specs.Tree.{Key, Tree, end, decide, Trees, nil, cons}
-use lib.ListN.{length, getD}
+use lib.ListN.{length}
 use Rattle.kuhn_rules.specs.Rules.{PASS, BET, turn, bet-made, bets, key, left, contribution, wins, payoff}
 use Rattle.kuhn_rules.specs.Reached.{Reached, fair}
 use Rattle.kuhn_rules.specs.Stakes.{ante, stake}

@@ -151,7 +151,7 @@ fn before_bet(w: &mut [u64], at: usize, n: usize, cards: u64, number: usize, sea
         return at + 1;
     }
     let bet = before_bet(w, at + 1, n, cards, 2 * number + 1, seat + 1);
-    let next = after_bet(
+    let behind = after_bet(
         w,
         bet,
         n,
@@ -163,8 +163,8 @@ fn before_bet(w: &mut [u64], at: usize, n: usize, cards: u64, number: usize, sea
         n as u64 + 1,
         seat,
     );
-    put(w, at, decision_word(n, cards, number, seat, next));
-    next
+    put(w, at, decision_word(n, cards, number, seat, behind));
+    behind
 }
 
 // Whether one of the first seats has a card.

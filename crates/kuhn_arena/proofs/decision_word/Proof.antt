@@ -1,5 +1,4 @@
 use borrow.Author.Needs.{needs}
-use Prim.Native.Nat.{_%_, _<_}
 use native.Mathlib.Omega.{arith}
 use Rattle.kuhn_arena.proofs.Numbers.{set-sum}
 use Rattle.kuhn_arena.proofs.decision_word.Statement.{statement}

@@ -1,6 +1,6 @@
 use Prim.Native.Nat.{_≤_, _-_}
 use borrow.Author.Needs.{needs}
-use mathlib.Core.Path.{_≡_, subst}
+use mathlib.Core.Path.{subst}
 use native.Mathlib.Omega.{arith}
 use Rattle.kuhn_arena.specs.Layout.{Top}
 use Rattle.kuhn_arena.proofs.Numbers.{top-one, top-more}

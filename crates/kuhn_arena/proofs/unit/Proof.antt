@@ -2,7 +2,6 @@ use borrow.Author.Needs.{needs}
 use Rattle.kuhn_arena.proofs.Ends.{unit-most, unit-shifted}
 use Rattle.kuhn_arena.proofs.unit.Statement.{statement}
 use Rattle.kuhn_arena.proofs.unit.Tie as tie
-use mathlib.Core.Path.{_≡_}
 use native.Mathlib.Omega.{arith}
 
 mul-result : tie.Need-mul-result

@@ -1,5 +1,5 @@
 use borrow.Author.Needs.{needs}
-use mathlib.Core.Path.{_≡_, ap}
+use mathlib.Core.Path.{ap}
 use Prim.Native.Nat.{_+_, _*_, _^_, _≤_}
 use native.Mathlib.Nat.{mod-eq-of-lt, pow-le-pow-right}
 use native.Mathlib.Omega.{arith}
