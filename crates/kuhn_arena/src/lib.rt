@@ -20,7 +20,7 @@ ghost use Rattle.arena.specs.Index.{Indexed};
 ghost use Rattle.kuhn_arena.specs.Layout.{codeOf, codeCount, historyAt, cardAt, cardsIn, unitOf, afterAt, beforeAt, dealAt, childrenTo, childAt, Betting, Passing, Top, Dealing};
 
 // The word of an end at which each of six seats has lost its ante.
-const ANTES: u64 = 278163506396412;
+const ANTES: u64 = 0xFCFCFCFCFCFC;
 
 // The card of a seat, of cards in four bits each.
 fn card_of(cards: u64, seat: usize) -> usize
