@@ -122,7 +122,7 @@ module _ (n x d k at : ℕ) (w : List ℕ) (p : Dealing n x d k) (g : Room at w 
       acted = refl;
       few = omega arith;
       quiet = refl;
-      small = omega arith;
+      passes = omega arith;
     }
 
     pub deal-ends : (v : List ℕ) (r : ℕ) → Built n (codeOf n) at w v (beforeAt n x 0 (n - 0)) r → Built n (codeOf n) at w v (dealAt n x d k) r

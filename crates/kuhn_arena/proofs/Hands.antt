@@ -108,7 +108,7 @@ module _ (n : ℕ) (cs h : List ℕ) (seat number : ℕ) (p : Passing n cs h sea
       acted = longer h PASS ∙ ap suc (p .acted) ∙ (let e : suc seat ≡ seat + 1 = omega arith in e);
       few = omega (arith, p .few, z);
       quiet = quiet-pass n h (p .quiet);
-      small = let e : seat + 1 ≡ suc seat = omega arith in rw (e, NatL.pow-succ' 2 seat) (omega (arith, p .small));
+      passes = let e : seat + 1 ≡ suc seat = omega arith in rw (e, NatL.pow-succ' 2 seat) (omega (arith, p .passes));
     }
 
     pub betting-first : Betting n cs (h ++ (BET ∷ [])) ((seat + 1) % n) (n - 1) (278163506396412 - unitOf seat) (n + 1) seat
@@ -131,7 +131,7 @@ module _ (n : ℕ) (cs h : List ℕ) (seat number : ℕ) (p : Passing n cs h sea
     power = NatL.pow-le-pow-right {n = 2} (omega arith) {i = seat} {j = 5} (omega (arith, p .few, z, p .deal .most))
 
     pub number-few : number ≤ 31
-    number-few = omega (arith, p .small, power)
+    number-few = omega (arith, p .passes, power)
 
     pub first-left : (2 * number + 2 + 2) * 2 ^ (n - 1) ≤ 4096
     first-left = NatL.le-trans (NatL.mul-le-mul {n₁ = 2 * number + 2 + 2} {m₁ = 2 ^ (n - 1)} {n₂ = 66} {m₂ = 32} (omega (arith, number-few)) (NatL.pow-le-pow-right {n = 2} (omega arith) {i = n - 1} {j = 5} (omega (arith, p .deal .most)))) (omega arith)
@@ -258,6 +258,63 @@ module _ (n cards number seat r pays pot win at : ℕ) (w : List ℕ) (b : Betti
         → Betting n (cardsIn n cards) (historyAt (2 * number + 2)) after (r - 1) (pays - unit) (pot + 1) top
     after-raise unit top e i = rw (f, e, history-bet number) (betting-bet n (cardsIn n cards) (historyAt number) seat r pays pot win b z top
         (i ∙ ap₂ (λ x y. cond (ltb x y) seat win) (sym (card-of n cards win (b .seated))) (sym (card-of n cards seat (after-seat .0)))))
+
+  -- one action is left
+  module _ (e : r ≡ 1) where
+    pub one-betting : Betting n (cardsIn n cards) (historyAt number) seat 1 pays pot win
+    one-betting = rw e at b
+
+    pub one-room : Room at w (size (afterAt n cards number 1))
+    one-room = rw e at g
+
+    pub one-built : (v : List ℕ) (q : ℕ) → Built n (codeOf n) at w v (afterAt n cards number 1) q → Built n (codeOf n) at w v (afterAt n cards number r) q
+    one-built v q c = rw e c
+
+pub some-left : (r : ℕ) → 1 ≤ r → r ≡ 0 → ⊥
+some-left r l e = omega arith
+
+-- ---- the last action after a bet
+module _ (n cards number seat pays pot win at : ℕ) (w : List ℕ) (b : Betting n (cardsIn n cards) (historyAt number) seat 1 pays pot win) (g : Room at w (size (afterAt n cards number 1))) where
+  one : _≡_ {A = ℕ} 1 0 → ⊥
+  one e = omega arith
+
+  abbrev after : ℕ
+  after = (seat + 1) % n
+
+  last-node : afterAt n cards number 1 ≡ node n cards number (afterAt n cards (2 * number + 1) 0) (afterAt n cards (2 * number + 2) 0)
+  last-node = after-goes-on n cards number seat 1 pays pot win at w b g one
+
+  last-passed : Betting n (cardsIn n cards) (historyAt (2 * number + 1)) after 0 pays pot win
+  last-passed = after-pass n cards number seat 1 pays pot win at w b g one after refl
+
+  pub last-unit : (unit : ℕ) → unit ≡ unitOf seat → unit ≤ pays
+  last-unit = after-unit n cards number seat 1 pays pot win at w b g one after refl
+
+  module _ (x : ℕ) (v : List ℕ) (e : x ≡ pays + pot * unitOf win) (i : v ≡ set w (at + 1) x) where
+    first-end : Built n (codeOf n) (at + 1) w v (afterAt n cards (2 * number + 1) 0) (at + 1 + 1)
+    first-end = after-ends n cards (2 * number + 1) after 0 pays pot win (at + 1) w last-passed (first-room n cards number at w _ _ _ last-node g) refl x v e i
+
+    module _ (unit top : ℕ) (f : unit ≡ unitOf seat) (k : top ≡ cond (ltb (cardAt cards win) (cardAt cards seat)) seat win) where
+      last-bet : Betting n (cardsIn n cards) (historyAt (2 * number + 2)) after 0 (pays - unit) (pot + 1) top
+      last-bet = after-raise n cards number seat 1 pays pot win at w b g one after refl unit top f k
+
+      last-room : Room (at + 1 + 1) v (size (afterAt n cards (2 * number + 2) 0))
+      last-room = second-room n cards number at w _ _ _ last-node g v (at + 1 + 1) first-end
+
+      pub last-words : (pays - unit < 1125899906842624) × (pot + 1 ≤ 12) × (top < 6)
+      last-words = after-words n cards (2 * number + 2) after 0 (pays - unit) (pot + 1) top (at + 1 + 1) v last-bet last-room
+
+      module _ (y : ℕ) (u : List ℕ) (q : y ≡ pays - unit + (pot + 1) * unitOf top) (j : u ≡ set v (at + 2) y) where
+        second-end : Built n (codeOf n) (at + 1 + 1) v u (afterAt n cards (2 * number + 2) 0) (at + 3)
+        second-end = subst (λ p. Built n (codeOf n) (at + 1 + 1) v u (afterAt n cards (2 * number + 2) 0) p) (let s : at + 1 + 1 + 1 ≡ at + 3 = omega arith in s)
+            (after-ends n cards (2 * number + 2) after 0 (pays - unit) (pot + 1) top (at + 1 + 1) v last-bet last-room refl y u q (j ∙ ap (λ p. set v p y) (let s : at + 2 ≡ at + 1 + 1 = omega arith in s)))
+
+        pub last-few : at + 3 < 2097152
+        last-few = behind-few n cards number at w _ _ _ last-node g v (at + 1 + 1) first-end u (at + 3) second-end
+
+        pub last-decision : (z : ℕ) (new : List ℕ) → number ≤ 2046 → z ≡ decisionWord seat 2 (number * (n + 1) + cardAt cards seat) (at + 3) 0 → new ≡ set u at z → Built n (codeOf n) at w new (afterAt n cards number 1) (at + 3)
+        last-decision z new small = lays-decision n cards number at w _ _ _ last-node g v (at + 1 + 1) first-end u (at + 3) second-end seat z new (b .deal .most)
+            (after-seat n cards number seat 1 pays pot win at w b g .0) (b .acts) small
 
 -- ---- before a bet
 module _ (n cards number seat at : ℕ) (w : List ℕ) (p : Passing n (cardsIn n cards) (historyAt number) seat number) (g : Room at w (size (beforeAt n cards number (n - seat)))) where

@@ -105,13 +105,13 @@ pub record Betting (n : ℕ) (cs h : List ℕ) (seat r pays pot win : ℕ) : Typ
   pub seated : win < n
   pub leads : wins n cs h win ≡ true
 
--- seat passes without a bet
+-- history h of as many passes as seat, and its number
 pub record Passing (n : ℕ) (cs h : List ℕ) (seat number : ℕ) : Type 0 where
   pub deal : Dealt n cs
   pub acted : length h ≡ seat
   pub few : seat ≤ n
   pub quiet : bet-made h ≡ false
-  pub small : number + 1 ≡ 2 ^ seat
+  pub passes : number + 1 ≡ 2 ^ seat
 
 -- no seat has a higher card than seat r
 pub record Top (n cards r : ℕ) : Type 0 where

@@ -90,6 +90,29 @@ fn highest(n: usize, cards: u64) -> usize
     top
 }
 
+// Lays out the last decision of a hand with a bet, and the ends behind its two actions, at place at; the place behind them.
+fn last_action(
+    w: &mut [u64],
+    at: usize,
+    n: usize,
+    cards: u64,
+    number: usize,
+    seat: usize,
+    pays: u64,
+    pot: u64,
+    win: usize,
+) -> usize
+    requires { ⌜ Betting n (cardsIn n cards) (historyAt number) seat 1 pays pot win × (number ≤ 2046) ⌝ }
+    requires { ⌜ Room at (now w) (size (afterAt n cards number 1)) ⌝ }
+    ensures { λ r. ⌜ Built n (codeOf n) at (now (w .entry)) (now (w .exit)) (afterAt n cards number 1) r ⌝ }
+{
+    put(w, at + 1, end_word(pays, pot, win));
+    let top = higher(cards, win, seat);
+    put(w, at + 2, end_word(pays - unit(seat), pot + 1, top));
+    put(w, at, decision_word(n, cards, number, seat, at + 3));
+    at + 3
+}
+
 // Lays out a hand with a bet, of left actions to come, at place at; the place behind it.
 fn after_bet(
     w: &mut [u64],
@@ -103,13 +126,12 @@ fn after_bet(
     pot: u64,
     win: usize,
 ) -> usize
-    requires { ⌜ Betting n (cardsIn n cards) (historyAt number) seat left pays pot win × ((number + 2) * 2 ^ left ≤ 4096) ⌝ }
+    requires { ⌜ Betting n (cardsIn n cards) (historyAt number) seat left pays pot win × (1 ≤ left) × ((number + 2) * 2 ^ left ≤ 4096) ⌝ }
     requires { ⌜ Room at (now w) (size (afterAt n cards number left)) ⌝ }
     ensures { λ r. ⌜ Built n (codeOf n) at (now (w .entry)) (now (w .exit)) (afterAt n cards number left) r ⌝ }
 {
-    if left == 0 {
-        put(w, at, end_word(pays, pot, win));
-        return at + 1;
+    if left == 1 {
+        return last_action(w, at, n, cards, number, seat, pays, pot, win);
     }
     let after = following(n, seat);
     let bet = after_bet(

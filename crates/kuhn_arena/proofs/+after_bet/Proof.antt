@@ -11,9 +11,9 @@ use Rattle.kuhn_arena.proofs.after_bet.Kinds as after-bet-kinds
 use Rattle.kuhn_arena.proofs.+after_bet.Lts-after_bet as after-bet-lts
 use Rattle.arena.proofs.words.put.Reads as put-reads
 use Rattle.kuhn_arena.proofs.decision_word.Reads as decision-word-reads
-use Rattle.kuhn_arena.proofs.end_word.Reads as end-word-reads
 use Rattle.kuhn_arena.proofs.following.Reads as following-reads
 use Rattle.kuhn_arena.proofs.higher.Reads as higher-reads
+use Rattle.kuhn_arena.proofs.last_action.Reads as last-action-reads
 use Rattle.kuhn_arena.proofs.unit.Reads as unit-reads
 use Rattle.kuhn_arena.proofs.+after_bet.{statement}
 use Rattle.kuhn_arena.proofs.+after_bet.Tie.{close}
@@ -28,11 +28,9 @@ abbrev after-bet-below : ℕ → In 1 after-bet-kinds.ps
 after-bet-below t =
     and 1 after-bet-kinds.ps (falls 1 after-bet-kinds.ps _<_ μ-after-bet t) after-bet.Pre
 
-after-bet-end-word-requires : (t : ℕ) → after-bet-lts.Need-end-word-requires (
-  end-word-reads.Asked,
-  end-word-reads.Learnt,
-  put-reads.Asked,
-  put-reads.Learnt,
+after-bet-last-action-requires : (t : ℕ) → after-bet-lts.Need-last-action-requires (
+  last-action-reads.Asked,
+  last-action-reads.Learnt,
   following-reads.Asked,
   following-reads.Learnt,
   after-bet-below t,
@@ -43,50 +41,14 @@ after-bet-end-word-requires : (t : ℕ) → after-bet-lts.Need-end-word-requires
   higher-reads.Learnt,
   decision-word-reads.Asked,
   decision-word-reads.Learnt,
-) (after-bet-at t) after-bet.Post
-after-bet-end-word-requires t c κs = hands.after-words (c .before .before .before .args .n) (c .before .before .before .args .cards) (c .before .before .before .args .number) (c .before .before .before .args .seat) (c .before .before .before .args .left) (c .before .before .before .args .pays) (c .before .before .before .args .pot) (c .before .before .before .args .win) (c .before .before .before .args .at) (now (c .before .before .before .args .w)) (c .before .before .before .pre .1 .0 .0) (c .before .before .before .pre .1 .1)
-
-after-bet-put-requires : (t : ℕ) → after-bet-lts.Need-put-requires (
-  end-word-reads.Asked,
-  end-word-reads.Learnt,
   put-reads.Asked,
   put-reads.Learnt,
-  following-reads.Asked,
-  following-reads.Learnt,
-  after-bet-below t,
-  after-bet.Post,
-  unit-reads.Asked,
-  unit-reads.Learnt,
-  higher-reads.Asked,
-  higher-reads.Learnt,
-  decision-word-reads.Asked,
-  decision-word-reads.Learnt,
 ) (after-bet-at t) after-bet.Post
-after-bet-put-requires t c κs = search needs
-
-after-bet-add-result : (t : ℕ) → after-bet-lts.Need-add-result (
-  end-word-reads.Asked,
-  end-word-reads.Learnt,
-  put-reads.Asked,
-  put-reads.Learnt,
-  following-reads.Asked,
-  following-reads.Learnt,
-  after-bet-below t,
-  after-bet.Post,
-  unit-reads.Asked,
-  unit-reads.Learnt,
-  higher-reads.Asked,
-  higher-reads.Learnt,
-  decision-word-reads.Asked,
-  decision-word-reads.Learnt,
-) (after-bet-at t) after-bet.Post
-after-bet-add-result t c = record { fits = omega (arith, c .before .before .before .before .before .before .before .pre .1 .1 .places) }
+after-bet-last-action-requires t c κs = ((hands.one-betting (c .before .before .before .args .n) (c .before .before .before .args .cards) (c .before .before .before .args .number) (c .before .before .before .args .seat) (c .before .before .before .args .left) (c .before .before .before .args .pays) (c .before .before .before .args .pot) (c .before .before .before .args .win) (c .before .before .before .args .at) (now (c .before .before .before .args .w)) (c .before .before .before .pre .1 .0 .0) (c .before .before .before .pre .1 .1) (c .before .if1 .taken), (last-left (c .before .before .before .args .number) (c .before .before .before .args .left) (hands.some-left (c .before .before .before .args .left) (c .before .before .before .pre .1 .0 .1)) (c .before .before .before .pre .1 .0 .2))), hands.one-room (c .before .before .before .args .n) (c .before .before .before .args .cards) (c .before .before .before .args .number) (c .before .before .before .args .seat) (c .before .before .before .args .left) (c .before .before .before .args .pays) (c .before .before .before .args .pot) (c .before .before .before .args .win) (c .before .before .before .args .at) (now (c .before .before .before .args .w)) (c .before .before .before .pre .1 .0 .0) (c .before .before .before .pre .1 .1) (c .before .if1 .taken))
 
 after-bet-same-length : (t : ℕ) → after-bet-lts.Need-same-length (
-  end-word-reads.Asked,
-  end-word-reads.Learnt,
-  put-reads.Asked,
-  put-reads.Learnt,
+  last-action-reads.Asked,
+  last-action-reads.Learnt,
   following-reads.Asked,
   following-reads.Learnt,
   after-bet-below t,
@@ -97,14 +59,14 @@ after-bet-same-length : (t : ℕ) → after-bet-lts.Need-same-length (
   higher-reads.Learnt,
   decision-word-reads.Asked,
   decision-word-reads.Learnt,
+  put-reads.Asked,
+  put-reads.Learnt,
 ) (after-bet-at t) after-bet.Post
 after-bet-same-length t c = search needs
 
 after-bet-returns : (t : ℕ) → after-bet-lts.Need-returns (
-  end-word-reads.Asked,
-  end-word-reads.Learnt,
-  put-reads.Asked,
-  put-reads.Learnt,
+  last-action-reads.Asked,
+  last-action-reads.Learnt,
   following-reads.Asked,
   following-reads.Learnt,
   after-bet-below t,
@@ -115,14 +77,14 @@ after-bet-returns : (t : ℕ) → after-bet-lts.Need-returns (
   higher-reads.Learnt,
   decision-word-reads.Asked,
   decision-word-reads.Learnt,
+  put-reads.Asked,
+  put-reads.Learnt,
 ) (after-bet-at t) after-bet.Post
-after-bet-returns t c = hands.after-ends (c .before .before .before .before .before .before .before .args .n) (c .before .before .before .before .before .before .before .args .cards) (c .before .before .before .before .before .before .before .args .number) (c .before .before .before .before .before .before .before .args .seat) (c .before .before .before .before .before .before .before .args .left) (c .before .before .before .before .before .before .before .args .pays) (c .before .before .before .before .before .before .before .args .pot) (c .before .before .before .before .before .before .before .args .win) (c .before .before .before .before .before .before .before .args .at) (now (c .before .before .before .before .before .before .before .args .w)) (c .before .before .before .before .before .before .before .pre .1 .0 .0) (c .before .before .before .before .before .before .before .pre .1 .1) (c .before .before .before .before .before .if1 .taken) _ _ (c .before .before .before .end-word .ensures) (c .before .before .put .ensures)
+after-bet-returns t c = hands.one-built (c .before .before .before .before .before .before .args .n) (c .before .before .before .before .before .before .args .cards) (c .before .before .before .before .before .before .args .number) (c .before .before .before .before .before .before .args .seat) (c .before .before .before .before .before .before .args .left) (c .before .before .before .before .before .before .args .pays) (c .before .before .before .before .before .before .args .pot) (c .before .before .before .before .before .before .args .win) (c .before .before .before .before .before .before .args .at) (now (c .before .before .before .before .before .before .args .w)) (c .before .before .before .before .before .before .pre .1 .0 .0) (c .before .before .before .before .before .before .pre .1 .1) (c .before .before .before .before .if1 .taken) _ _ (c .before .before .last-action .ensures)
 
 after-bet-following-requires : (t : ℕ) → after-bet-lts.Need-following-requires (
-  end-word-reads.Asked,
-  end-word-reads.Learnt,
-  put-reads.Asked,
-  put-reads.Learnt,
+  last-action-reads.Asked,
+  last-action-reads.Learnt,
   following-reads.Asked,
   following-reads.Learnt,
   after-bet-below t,
@@ -133,14 +95,14 @@ after-bet-following-requires : (t : ℕ) → after-bet-lts.Need-following-requir
   higher-reads.Learnt,
   decision-word-reads.Asked,
   decision-word-reads.Learnt,
+  put-reads.Asked,
+  put-reads.Learnt,
 ) (after-bet-at t) after-bet.Post
 after-bet-following-requires t c κs = hands.after-seat (c .before .before .args .n) (c .before .before .args .cards) (c .before .before .args .number) (c .before .before .args .seat) (c .before .before .args .left) (c .before .before .args .pays) (c .before .before .args .pot) (c .before .before .args .win) (c .before .before .args .at) (now (c .before .before .args .w)) (c .before .before .pre .1 .0 .0) (c .before .before .pre .1 .1)
 
 after-bet-add-after-bet : (t : ℕ) → after-bet-lts.Need-add-after-bet (
-  end-word-reads.Asked,
-  end-word-reads.Learnt,
-  put-reads.Asked,
-  put-reads.Learnt,
+  last-action-reads.Asked,
+  last-action-reads.Learnt,
   following-reads.Asked,
   following-reads.Learnt,
   after-bet-below t,
@@ -151,14 +113,14 @@ after-bet-add-after-bet : (t : ℕ) → after-bet-lts.Need-add-after-bet (
   higher-reads.Learnt,
   decision-word-reads.Asked,
   decision-word-reads.Learnt,
+  put-reads.Asked,
+  put-reads.Learnt,
 ) (after-bet-at t) after-bet.Post
 after-bet-add-after-bet t c = record { fits = omega (arith, c .before .before .before .before .pre .1 .1 .places) }
 
 after-bet-mul-after-bet : (t : ℕ) → after-bet-lts.Need-mul-after-bet (
-  end-word-reads.Asked,
-  end-word-reads.Learnt,
-  put-reads.Asked,
-  put-reads.Learnt,
+  last-action-reads.Asked,
+  last-action-reads.Learnt,
   following-reads.Asked,
   following-reads.Learnt,
   after-bet-below t,
@@ -169,14 +131,14 @@ after-bet-mul-after-bet : (t : ℕ) → after-bet-lts.Need-mul-after-bet (
   higher-reads.Learnt,
   decision-word-reads.Asked,
   decision-word-reads.Learnt,
+  put-reads.Asked,
+  put-reads.Learnt,
 ) (after-bet-at t) after-bet.Post
-after-bet-mul-after-bet t c = record { fits = omega (arith, last-left (c .before .before .before .before .args .number) (c .before .before .before .before .args .left) (c .before .before .if1 .left) (c .before .before .before .before .pre .1 .0 .1)) }
+after-bet-mul-after-bet t c = record { fits = omega (arith, last-left (c .before .before .before .before .args .number) (c .before .before .before .before .args .left) (hands.some-left (c .before .before .before .before .args .left) (c .before .before .before .before .pre .1 .0 .1)) (c .before .before .before .before .pre .1 .0 .2)) }
 
 after-bet-add-after-bet-2 : (t : ℕ) → after-bet-lts.Need-add-after-bet-2 (
-  end-word-reads.Asked,
-  end-word-reads.Learnt,
-  put-reads.Asked,
-  put-reads.Learnt,
+  last-action-reads.Asked,
+  last-action-reads.Learnt,
   following-reads.Asked,
   following-reads.Learnt,
   after-bet-below t,
@@ -187,14 +149,14 @@ after-bet-add-after-bet-2 : (t : ℕ) → after-bet-lts.Need-add-after-bet-2 (
   higher-reads.Learnt,
   decision-word-reads.Asked,
   decision-word-reads.Learnt,
+  put-reads.Asked,
+  put-reads.Learnt,
 ) (after-bet-at t) after-bet.Post
-after-bet-add-after-bet-2 t c = record { fits = omega (arith, last-left (c .before .before .before .before .args .number) (c .before .before .before .before .args .left) (c .before .before .if1 .left) (c .before .before .before .before .pre .1 .0 .1)) }
+after-bet-add-after-bet-2 t c = record { fits = omega (arith, last-left (c .before .before .before .before .args .number) (c .before .before .before .before .args .left) (hands.some-left (c .before .before .before .before .args .left) (c .before .before .before .before .pre .1 .0 .1)) (c .before .before .before .before .pre .1 .0 .2)) }
 
 after-bet-sub-after-bet : (t : ℕ) → after-bet-lts.Need-sub-after-bet (
-  end-word-reads.Asked,
-  end-word-reads.Learnt,
-  put-reads.Asked,
-  put-reads.Learnt,
+  last-action-reads.Asked,
+  last-action-reads.Learnt,
   following-reads.Asked,
   following-reads.Learnt,
   after-bet-below t,
@@ -205,14 +167,14 @@ after-bet-sub-after-bet : (t : ℕ) → after-bet-lts.Need-sub-after-bet (
   higher-reads.Learnt,
   decision-word-reads.Asked,
   decision-word-reads.Learnt,
+  put-reads.Asked,
+  put-reads.Learnt,
 ) (after-bet-at t) after-bet.Post
-after-bet-sub-after-bet t c = omega (arith, c .before .before .if1 .left)
+after-bet-sub-after-bet t c = omega (arith, c .before .before .before .before .pre .1 .0 .1)
 
 after-bet-after-bet-requires : (t : ℕ) → after-bet-lts.Need-after-bet-requires (
-  end-word-reads.Asked,
-  end-word-reads.Learnt,
-  put-reads.Asked,
-  put-reads.Learnt,
+  last-action-reads.Asked,
+  last-action-reads.Learnt,
   following-reads.Asked,
   following-reads.Learnt,
   after-bet-below t,
@@ -223,14 +185,14 @@ after-bet-after-bet-requires : (t : ℕ) → after-bet-lts.Need-after-bet-requir
   higher-reads.Learnt,
   decision-word-reads.Asked,
   decision-word-reads.Learnt,
+  put-reads.Asked,
+  put-reads.Learnt,
 ) (after-bet-at t) after-bet.Post
-after-bet-after-bet-requires t c κs = (omega (arith, c .before .before .before .before .pre .0, c .before .before .if1 .left), ((hands.after-pass (c .before .before .before .before .args .n) (c .before .before .before .before .args .cards) (c .before .before .before .before .args .number) (c .before .before .before .before .args .seat) (c .before .before .before .before .args .left) (c .before .before .before .before .args .pays) (c .before .before .before .before .args .pot) (c .before .before .before .before .args .win) (c .before .before .before .before .args .at) (now (c .before .before .before .before .args .w)) (c .before .before .before .before .pre .1 .0 .0) (c .before .before .before .before .pre .1 .1) (c .before .before .if1 .left) _ (c .before .following .ensures), less-left (c .before .before .before .before .args .number) (c .before .before .before .before .args .left) 1 (c .before .before .if1 .left) (c .before .before .before .before .pre .1 .0 .1) (omega arith)), hands.first-room (c .before .before .before .before .args .n) (c .before .before .before .before .args .cards) (c .before .before .before .before .args .number) (c .before .before .before .before .args .at) (now (c .before .before .before .before .args .w)) _ _ _ (hands.after-goes-on (c .before .before .before .before .args .n) (c .before .before .before .before .args .cards) (c .before .before .before .before .args .number) (c .before .before .before .before .args .seat) (c .before .before .before .before .args .left) (c .before .before .before .before .args .pays) (c .before .before .before .before .args .pot) (c .before .before .before .before .args .win) (c .before .before .before .before .args .at) (now (c .before .before .before .before .args .w)) (c .before .before .before .before .pre .1 .0 .0) (c .before .before .before .before .pre .1 .1) (c .before .before .if1 .left)) (c .before .before .before .before .pre .1 .1)))
+after-bet-after-bet-requires t c κs = (omega (arith, c .before .before .before .before .pre .0, c .before .before .before .before .pre .1 .0 .1), ((hands.after-pass (c .before .before .before .before .args .n) (c .before .before .before .before .args .cards) (c .before .before .before .before .args .number) (c .before .before .before .before .args .seat) (c .before .before .before .before .args .left) (c .before .before .before .before .args .pays) (c .before .before .before .before .args .pot) (c .before .before .before .before .args .win) (c .before .before .before .before .args .at) (now (c .before .before .before .before .args .w)) (c .before .before .before .before .pre .1 .0 .0) (c .before .before .before .before .pre .1 .1) (hands.some-left (c .before .before .before .before .args .left) (c .before .before .before .before .pre .1 .0 .1)) _ (c .before .following .ensures), omega (arith, c .before .before .before .before .pre .1 .0 .1, c .before .before .if1 .left), less-left (c .before .before .before .before .args .number) (c .before .before .before .before .args .left) 1 (hands.some-left (c .before .before .before .before .args .left) (c .before .before .before .before .pre .1 .0 .1)) (c .before .before .before .before .pre .1 .0 .2) (omega arith)), hands.first-room (c .before .before .before .before .args .n) (c .before .before .before .before .args .cards) (c .before .before .before .before .args .number) (c .before .before .before .before .args .at) (now (c .before .before .before .before .args .w)) _ _ _ (hands.after-goes-on (c .before .before .before .before .args .n) (c .before .before .before .before .args .cards) (c .before .before .before .before .args .number) (c .before .before .before .before .args .seat) (c .before .before .before .before .args .left) (c .before .before .before .before .args .pays) (c .before .before .before .before .args .pot) (c .before .before .before .before .args .win) (c .before .before .before .before .args .at) (now (c .before .before .before .before .args .w)) (c .before .before .before .before .pre .1 .0 .0) (c .before .before .before .before .pre .1 .1) (hands.some-left (c .before .before .before .before .args .left) (c .before .before .before .before .pre .1 .0 .1))) (c .before .before .before .before .pre .1 .1)))
 
 after-bet-mul-after-bet-2 : (t : ℕ) → after-bet-lts.Need-mul-after-bet-2 (
-  end-word-reads.Asked,
-  end-word-reads.Learnt,
-  put-reads.Asked,
-  put-reads.Learnt,
+  last-action-reads.Asked,
+  last-action-reads.Learnt,
   following-reads.Asked,
   following-reads.Learnt,
   after-bet-below t,
@@ -241,14 +203,14 @@ after-bet-mul-after-bet-2 : (t : ℕ) → after-bet-lts.Need-mul-after-bet-2 (
   higher-reads.Learnt,
   decision-word-reads.Asked,
   decision-word-reads.Learnt,
+  put-reads.Asked,
+  put-reads.Learnt,
 ) (after-bet-at t) after-bet.Post
-after-bet-mul-after-bet-2 t c = record { fits = omega (arith, last-left (c .before .before .before .before .before .before .before .before .args .number) (c .before .before .before .before .before .before .before .before .args .left) (c .before .before .before .before .before .before .if1 .left) (c .before .before .before .before .before .before .before .before .pre .1 .0 .1)) }
+after-bet-mul-after-bet-2 t c = record { fits = omega (arith, last-left (c .before .before .before .before .before .before .before .before .args .number) (c .before .before .before .before .before .before .before .before .args .left) (hands.some-left (c .before .before .before .before .before .before .before .before .args .left) (c .before .before .before .before .before .before .before .before .pre .1 .0 .1)) (c .before .before .before .before .before .before .before .before .pre .1 .0 .2)) }
 
 after-bet-add-after-bet-3 : (t : ℕ) → after-bet-lts.Need-add-after-bet-3 (
-  end-word-reads.Asked,
-  end-word-reads.Learnt,
-  put-reads.Asked,
-  put-reads.Learnt,
+  last-action-reads.Asked,
+  last-action-reads.Learnt,
   following-reads.Asked,
   following-reads.Learnt,
   after-bet-below t,
@@ -259,14 +221,14 @@ after-bet-add-after-bet-3 : (t : ℕ) → after-bet-lts.Need-add-after-bet-3 (
   higher-reads.Learnt,
   decision-word-reads.Asked,
   decision-word-reads.Learnt,
+  put-reads.Asked,
+  put-reads.Learnt,
 ) (after-bet-at t) after-bet.Post
-after-bet-add-after-bet-3 t c = record { fits = omega (arith, last-left (c .before .before .before .before .before .before .before .before .args .number) (c .before .before .before .before .before .before .before .before .args .left) (c .before .before .before .before .before .before .if1 .left) (c .before .before .before .before .before .before .before .before .pre .1 .0 .1)) }
+after-bet-add-after-bet-3 t c = record { fits = omega (arith, last-left (c .before .before .before .before .before .before .before .before .args .number) (c .before .before .before .before .before .before .before .before .args .left) (hands.some-left (c .before .before .before .before .before .before .before .before .args .left) (c .before .before .before .before .before .before .before .before .pre .1 .0 .1)) (c .before .before .before .before .before .before .before .before .pre .1 .0 .2)) }
 
 after-bet-sub-after-bet-2 : (t : ℕ) → after-bet-lts.Need-sub-after-bet-2 (
-  end-word-reads.Asked,
-  end-word-reads.Learnt,
-  put-reads.Asked,
-  put-reads.Learnt,
+  last-action-reads.Asked,
+  last-action-reads.Learnt,
   following-reads.Asked,
   following-reads.Learnt,
   after-bet-below t,
@@ -277,14 +239,14 @@ after-bet-sub-after-bet-2 : (t : ℕ) → after-bet-lts.Need-sub-after-bet-2 (
   higher-reads.Learnt,
   decision-word-reads.Asked,
   decision-word-reads.Learnt,
+  put-reads.Asked,
+  put-reads.Learnt,
 ) (after-bet-at t) after-bet.Post
-after-bet-sub-after-bet-2 t c = omega (arith, c .before .before .before .before .before .before .if1 .left)
+after-bet-sub-after-bet-2 t c = omega (arith, c .before .before .before .before .before .before .before .before .pre .1 .0 .1)
 
 after-bet-unit-requires : (t : ℕ) → after-bet-lts.Need-unit-requires (
-  end-word-reads.Asked,
-  end-word-reads.Learnt,
-  put-reads.Asked,
-  put-reads.Learnt,
+  last-action-reads.Asked,
+  last-action-reads.Learnt,
   following-reads.Asked,
   following-reads.Learnt,
   after-bet-below t,
@@ -295,14 +257,14 @@ after-bet-unit-requires : (t : ℕ) → after-bet-lts.Need-unit-requires (
   higher-reads.Learnt,
   decision-word-reads.Asked,
   decision-word-reads.Learnt,
+  put-reads.Asked,
+  put-reads.Learnt,
 ) (after-bet-at t) after-bet.Post
 after-bet-unit-requires t c κs = omega (arith, hands.after-seat (c .before .before .before .before .before .before .before .before .args .n) (c .before .before .before .before .before .before .before .before .args .cards) (c .before .before .before .before .before .before .before .before .args .number) (c .before .before .before .before .before .before .before .before .args .seat) (c .before .before .before .before .before .before .before .before .args .left) (c .before .before .before .before .before .before .before .before .args .pays) (c .before .before .before .before .before .before .before .before .args .pot) (c .before .before .before .before .before .before .before .before .args .win) (c .before .before .before .before .before .before .before .before .args .at) (now (c .before .before .before .before .before .before .before .before .args .w)) (c .before .before .before .before .before .before .before .before .pre .1 .0 .0) (c .before .before .before .before .before .before .before .before .pre .1 .1))
 
 after-bet-sub-after-bet-3 : (t : ℕ) → after-bet-lts.Need-sub-after-bet-3 (
-  end-word-reads.Asked,
-  end-word-reads.Learnt,
-  put-reads.Asked,
-  put-reads.Learnt,
+  last-action-reads.Asked,
+  last-action-reads.Learnt,
   following-reads.Asked,
   following-reads.Learnt,
   after-bet-below t,
@@ -313,14 +275,14 @@ after-bet-sub-after-bet-3 : (t : ℕ) → after-bet-lts.Need-sub-after-bet-3 (
   higher-reads.Learnt,
   decision-word-reads.Asked,
   decision-word-reads.Learnt,
+  put-reads.Asked,
+  put-reads.Learnt,
 ) (after-bet-at t) after-bet.Post
-after-bet-sub-after-bet-3 t c = hands.after-unit (c .before .before .before .before .before .before .before .before .before .args .n) (c .before .before .before .before .before .before .before .before .before .args .cards) (c .before .before .before .before .before .before .before .before .before .args .number) (c .before .before .before .before .before .before .before .before .before .args .seat) (c .before .before .before .before .before .before .before .before .before .args .left) (c .before .before .before .before .before .before .before .before .before .args .pays) (c .before .before .before .before .before .before .before .before .before .args .pot) (c .before .before .before .before .before .before .before .before .before .args .win) (c .before .before .before .before .before .before .before .before .before .args .at) (now (c .before .before .before .before .before .before .before .before .before .args .w)) (c .before .before .before .before .before .before .before .before .before .pre .1 .0 .0) (c .before .before .before .before .before .before .before .before .before .pre .1 .1) (c .before .before .before .before .before .before .before .if1 .left) _ (c .before .before .before .before .before .before .following .ensures) _ (c .unit .ensures .0)
+after-bet-sub-after-bet-3 t c = hands.after-unit (c .before .before .before .before .before .before .before .before .before .args .n) (c .before .before .before .before .before .before .before .before .before .args .cards) (c .before .before .before .before .before .before .before .before .before .args .number) (c .before .before .before .before .before .before .before .before .before .args .seat) (c .before .before .before .before .before .before .before .before .before .args .left) (c .before .before .before .before .before .before .before .before .before .args .pays) (c .before .before .before .before .before .before .before .before .before .args .pot) (c .before .before .before .before .before .before .before .before .before .args .win) (c .before .before .before .before .before .before .before .before .before .args .at) (now (c .before .before .before .before .before .before .before .before .before .args .w)) (c .before .before .before .before .before .before .before .before .before .pre .1 .0 .0) (c .before .before .before .before .before .before .before .before .before .pre .1 .1) (hands.some-left (c .before .before .before .before .before .before .before .before .before .args .left) (c .before .before .before .before .before .before .before .before .before .pre .1 .0 .1)) _ (c .before .before .before .before .before .before .following .ensures) _ (c .unit .ensures .0)
 
 after-bet-add-after-bet-4 : (t : ℕ) → after-bet-lts.Need-add-after-bet-4 (
-  end-word-reads.Asked,
-  end-word-reads.Learnt,
-  put-reads.Asked,
-  put-reads.Learnt,
+  last-action-reads.Asked,
+  last-action-reads.Learnt,
   following-reads.Asked,
   following-reads.Learnt,
   after-bet-below t,
@@ -331,14 +293,14 @@ after-bet-add-after-bet-4 : (t : ℕ) → after-bet-lts.Need-add-after-bet-4 (
   higher-reads.Learnt,
   decision-word-reads.Asked,
   decision-word-reads.Learnt,
+  put-reads.Asked,
+  put-reads.Learnt,
 ) (after-bet-at t) after-bet.Post
 after-bet-add-after-bet-4 t c = record { fits = omega (arith, hands.after-words (c .before .before .before .before .before .before .before .before .before .args .n) (c .before .before .before .before .before .before .before .before .before .args .cards) (c .before .before .before .before .before .before .before .before .before .args .number) (c .before .before .before .before .before .before .before .before .before .args .seat) (c .before .before .before .before .before .before .before .before .before .args .left) (c .before .before .before .before .before .before .before .before .before .args .pays) (c .before .before .before .before .before .before .before .before .before .args .pot) (c .before .before .before .before .before .before .before .before .before .args .win) (c .before .before .before .before .before .before .before .before .before .args .at) (now (c .before .before .before .before .before .before .before .before .before .args .w)) (c .before .before .before .before .before .before .before .before .before .pre .1 .0 .0) (c .before .before .before .before .before .before .before .before .before .pre .1 .1) .1) }
 
 after-bet-higher-requires : (t : ℕ) → after-bet-lts.Need-higher-requires (
-  end-word-reads.Asked,
-  end-word-reads.Learnt,
-  put-reads.Asked,
-  put-reads.Learnt,
+  last-action-reads.Asked,
+  last-action-reads.Learnt,
   following-reads.Asked,
   following-reads.Learnt,
   after-bet-below t,
@@ -349,14 +311,14 @@ after-bet-higher-requires : (t : ℕ) → after-bet-lts.Need-higher-requires (
   higher-reads.Learnt,
   decision-word-reads.Asked,
   decision-word-reads.Learnt,
+  put-reads.Asked,
+  put-reads.Learnt,
 ) (after-bet-at t) after-bet.Post
 after-bet-higher-requires t c κs = (hands.after-words (c .before .before .before .before .before .before .before .before .before .args .n) (c .before .before .before .before .before .before .before .before .before .args .cards) (c .before .before .before .before .before .before .before .before .before .args .number) (c .before .before .before .before .before .before .before .before .before .args .seat) (c .before .before .before .before .before .before .before .before .before .args .left) (c .before .before .before .before .before .before .before .before .before .args .pays) (c .before .before .before .before .before .before .before .before .before .args .pot) (c .before .before .before .before .before .before .before .before .before .args .win) (c .before .before .before .before .before .before .before .before .before .args .at) (now (c .before .before .before .before .before .before .before .before .before .args .w)) (c .before .before .before .before .before .before .before .before .before .pre .1 .0 .0) (c .before .before .before .before .before .before .before .before .before .pre .1 .1) .2, omega (arith, hands.after-seat (c .before .before .before .before .before .before .before .before .before .args .n) (c .before .before .before .before .before .before .before .before .before .args .cards) (c .before .before .before .before .before .before .before .before .before .args .number) (c .before .before .before .before .before .before .before .before .before .args .seat) (c .before .before .before .before .before .before .before .before .before .args .left) (c .before .before .before .before .before .before .before .before .before .args .pays) (c .before .before .before .before .before .before .before .before .before .args .pot) (c .before .before .before .before .before .before .before .before .before .args .win) (c .before .before .before .before .before .before .before .before .before .args .at) (now (c .before .before .before .before .before .before .before .before .before .args .w)) (c .before .before .before .before .before .before .before .before .before .pre .1 .0 .0) (c .before .before .before .before .before .before .before .before .before .pre .1 .1)))
 
 after-bet-after-bet-requires-2 : (t : ℕ) → after-bet-lts.Need-after-bet-requires-2 (
-  end-word-reads.Asked,
-  end-word-reads.Learnt,
-  put-reads.Asked,
-  put-reads.Learnt,
+  last-action-reads.Asked,
+  last-action-reads.Learnt,
   following-reads.Asked,
   following-reads.Learnt,
   after-bet-below t,
@@ -367,14 +329,14 @@ after-bet-after-bet-requires-2 : (t : ℕ) → after-bet-lts.Need-after-bet-requ
   higher-reads.Learnt,
   decision-word-reads.Asked,
   decision-word-reads.Learnt,
+  put-reads.Asked,
+  put-reads.Learnt,
 ) (after-bet-at t) after-bet.Post
-after-bet-after-bet-requires-2 t c κs = (omega (arith, c .before .before .before .before .before .before .before .before .before .before .pre .0, c .before .before .before .before .before .before .before .before .if1 .left), ((hands.after-raise (c .before .before .before .before .before .before .before .before .before .before .args .n) (c .before .before .before .before .before .before .before .before .before .before .args .cards) (c .before .before .before .before .before .before .before .before .before .before .args .number) (c .before .before .before .before .before .before .before .before .before .before .args .seat) (c .before .before .before .before .before .before .before .before .before .before .args .left) (c .before .before .before .before .before .before .before .before .before .before .args .pays) (c .before .before .before .before .before .before .before .before .before .before .args .pot) (c .before .before .before .before .before .before .before .before .before .before .args .win) (c .before .before .before .before .before .before .before .before .before .before .args .at) (now (c .before .before .before .before .before .before .before .before .before .before .args .w)) (c .before .before .before .before .before .before .before .before .before .before .pre .1 .0 .0) (c .before .before .before .before .before .before .before .before .before .before .pre .1 .1) (c .before .before .before .before .before .before .before .before .if1 .left) _ (c .before .before .before .before .before .before .before .following .ensures) _ _ (c .before .unit .ensures .0) (c .higher .ensures), less-left (c .before .before .before .before .before .before .before .before .before .before .args .number) (c .before .before .before .before .before .before .before .before .before .before .args .left) 2 (c .before .before .before .before .before .before .before .before .if1 .left) (c .before .before .before .before .before .before .before .before .before .before .pre .1 .0 .1) (omega arith)), hands.second-room (c .before .before .before .before .before .before .before .before .before .before .args .n) (c .before .before .before .before .before .before .before .before .before .before .args .cards) (c .before .before .before .before .before .before .before .before .before .before .args .number) (c .before .before .before .before .before .before .before .before .before .before .args .at) (now (c .before .before .before .before .before .before .before .before .before .before .args .w)) _ _ _ (hands.after-goes-on (c .before .before .before .before .before .before .before .before .before .before .args .n) (c .before .before .before .before .before .before .before .before .before .before .args .cards) (c .before .before .before .before .before .before .before .before .before .before .args .number) (c .before .before .before .before .before .before .before .before .before .before .args .seat) (c .before .before .before .before .before .before .before .before .before .before .args .left) (c .before .before .before .before .before .before .before .before .before .before .args .pays) (c .before .before .before .before .before .before .before .before .before .before .args .pot) (c .before .before .before .before .before .before .before .before .before .before .args .win) (c .before .before .before .before .before .before .before .before .before .before .args .at) (now (c .before .before .before .before .before .before .before .before .before .before .args .w)) (c .before .before .before .before .before .before .before .before .before .before .pre .1 .0 .0) (c .before .before .before .before .before .before .before .before .before .before .pre .1 .1) (c .before .before .before .before .before .before .before .before .if1 .left)) (c .before .before .before .before .before .before .before .before .before .before .pre .1 .1) _ _ (c .before .before .before .before .before .after-bet .ensures)))
+after-bet-after-bet-requires-2 t c κs = (omega (arith, c .before .before .before .before .before .before .before .before .before .before .pre .0, c .before .before .before .before .before .before .before .before .before .before .pre .1 .0 .1), ((hands.after-raise (c .before .before .before .before .before .before .before .before .before .before .args .n) (c .before .before .before .before .before .before .before .before .before .before .args .cards) (c .before .before .before .before .before .before .before .before .before .before .args .number) (c .before .before .before .before .before .before .before .before .before .before .args .seat) (c .before .before .before .before .before .before .before .before .before .before .args .left) (c .before .before .before .before .before .before .before .before .before .before .args .pays) (c .before .before .before .before .before .before .before .before .before .before .args .pot) (c .before .before .before .before .before .before .before .before .before .before .args .win) (c .before .before .before .before .before .before .before .before .before .before .args .at) (now (c .before .before .before .before .before .before .before .before .before .before .args .w)) (c .before .before .before .before .before .before .before .before .before .before .pre .1 .0 .0) (c .before .before .before .before .before .before .before .before .before .before .pre .1 .1) (hands.some-left (c .before .before .before .before .before .before .before .before .before .before .args .left) (c .before .before .before .before .before .before .before .before .before .before .pre .1 .0 .1)) _ (c .before .before .before .before .before .before .before .following .ensures) _ _ (c .before .unit .ensures .0) (c .higher .ensures), omega (arith, c .before .before .before .before .before .before .before .before .before .before .pre .1 .0 .1, c .before .before .before .before .before .before .before .before .if1 .left), less-left (c .before .before .before .before .before .before .before .before .before .before .args .number) (c .before .before .before .before .before .before .before .before .before .before .args .left) 2 (hands.some-left (c .before .before .before .before .before .before .before .before .before .before .args .left) (c .before .before .before .before .before .before .before .before .before .before .pre .1 .0 .1)) (c .before .before .before .before .before .before .before .before .before .before .pre .1 .0 .2) (omega arith)), hands.second-room (c .before .before .before .before .before .before .before .before .before .before .args .n) (c .before .before .before .before .before .before .before .before .before .before .args .cards) (c .before .before .before .before .before .before .before .before .before .before .args .number) (c .before .before .before .before .before .before .before .before .before .before .args .at) (now (c .before .before .before .before .before .before .before .before .before .before .args .w)) _ _ _ (hands.after-goes-on (c .before .before .before .before .before .before .before .before .before .before .args .n) (c .before .before .before .before .before .before .before .before .before .before .args .cards) (c .before .before .before .before .before .before .before .before .before .before .args .number) (c .before .before .before .before .before .before .before .before .before .before .args .seat) (c .before .before .before .before .before .before .before .before .before .before .args .left) (c .before .before .before .before .before .before .before .before .before .before .args .pays) (c .before .before .before .before .before .before .before .before .before .before .args .pot) (c .before .before .before .before .before .before .before .before .before .before .args .win) (c .before .before .before .before .before .before .before .before .before .before .args .at) (now (c .before .before .before .before .before .before .before .before .before .before .args .w)) (c .before .before .before .before .before .before .before .before .before .before .pre .1 .0 .0) (c .before .before .before .before .before .before .before .before .before .before .pre .1 .1) (hands.some-left (c .before .before .before .before .before .before .before .before .before .before .args .left) (c .before .before .before .before .before .before .before .before .before .before .pre .1 .0 .1))) (c .before .before .before .before .before .before .before .before .before .before .pre .1 .1) _ _ (c .before .before .before .before .before .after-bet .ensures)))
 
 after-bet-decision-word-requires : (t : ℕ) → after-bet-lts.Need-decision-word-requires (
-  end-word-reads.Asked,
-  end-word-reads.Learnt,
-  put-reads.Asked,
-  put-reads.Learnt,
+  last-action-reads.Asked,
+  last-action-reads.Learnt,
   following-reads.Asked,
   following-reads.Learnt,
   after-bet-below t,
@@ -385,14 +347,14 @@ after-bet-decision-word-requires : (t : ℕ) → after-bet-lts.Need-decision-wor
   higher-reads.Learnt,
   decision-word-reads.Asked,
   decision-word-reads.Learnt,
+  put-reads.Asked,
+  put-reads.Learnt,
 ) (after-bet-at t) after-bet.Post
-after-bet-decision-word-requires t c κs = (hands.after-seat (c .before .before .before .before .before .before .before .before .before .before .before .before .before .before .args .n) (c .before .before .before .before .before .before .before .before .before .before .before .before .before .before .args .cards) (c .before .before .before .before .before .before .before .before .before .before .before .before .before .before .args .number) (c .before .before .before .before .before .before .before .before .before .before .before .before .before .before .args .seat) (c .before .before .before .before .before .before .before .before .before .before .before .before .before .before .args .left) (c .before .before .before .before .before .before .before .before .before .before .before .before .before .before .args .pays) (c .before .before .before .before .before .before .before .before .before .before .before .before .before .before .args .pot) (c .before .before .before .before .before .before .before .before .before .before .before .before .before .before .args .win) (c .before .before .before .before .before .before .before .before .before .before .before .before .before .before .args .at) (now (c .before .before .before .before .before .before .before .before .before .before .before .before .before .before .args .w)) (c .before .before .before .before .before .before .before .before .before .before .before .before .before .before .pre .1 .0 .0) (c .before .before .before .before .before .before .before .before .before .before .before .before .before .before .pre .1 .1) .1, (last-left (c .before .before .before .before .before .before .before .before .before .before .before .before .before .before .args .number) (c .before .before .before .before .before .before .before .before .before .before .before .before .before .before .args .left) (c .before .before .before .before .before .before .before .before .before .before .before .before .if1 .left) (c .before .before .before .before .before .before .before .before .before .before .before .before .before .before .pre .1 .0 .1)), hands.after-seat (c .before .before .before .before .before .before .before .before .before .before .before .before .before .before .args .n) (c .before .before .before .before .before .before .before .before .before .before .before .before .before .before .args .cards) (c .before .before .before .before .before .before .before .before .before .before .before .before .before .before .args .number) (c .before .before .before .before .before .before .before .before .before .before .before .before .before .before .args .seat) (c .before .before .before .before .before .before .before .before .before .before .before .before .before .before .args .left) (c .before .before .before .before .before .before .before .before .before .before .before .before .before .before .args .pays) (c .before .before .before .before .before .before .before .before .before .before .before .before .before .before .args .pot) (c .before .before .before .before .before .before .before .before .before .before .before .before .before .before .args .win) (c .before .before .before .before .before .before .before .before .before .before .before .before .before .before .args .at) (now (c .before .before .before .before .before .before .before .before .before .before .before .before .before .before .args .w)) (c .before .before .before .before .before .before .before .before .before .before .before .before .before .before .pre .1 .0 .0) (c .before .before .before .before .before .before .before .before .before .before .before .before .before .before .pre .1 .1) .0, hands.behind-few (c .before .before .before .before .before .before .before .before .before .before .before .before .before .before .args .n) (c .before .before .before .before .before .before .before .before .before .before .before .before .before .before .args .cards) (c .before .before .before .before .before .before .before .before .before .before .before .before .before .before .args .number) (c .before .before .before .before .before .before .before .before .before .before .before .before .before .before .args .at) (now (c .before .before .before .before .before .before .before .before .before .before .before .before .before .before .args .w)) _ _ _ (hands.after-goes-on (c .before .before .before .before .before .before .before .before .before .before .before .before .before .before .args .n) (c .before .before .before .before .before .before .before .before .before .before .before .before .before .before .args .cards) (c .before .before .before .before .before .before .before .before .before .before .before .before .before .before .args .number) (c .before .before .before .before .before .before .before .before .before .before .before .before .before .before .args .seat) (c .before .before .before .before .before .before .before .before .before .before .before .before .before .before .args .left) (c .before .before .before .before .before .before .before .before .before .before .before .before .before .before .args .pays) (c .before .before .before .before .before .before .before .before .before .before .before .before .before .before .args .pot) (c .before .before .before .before .before .before .before .before .before .before .before .before .before .before .args .win) (c .before .before .before .before .before .before .before .before .before .before .before .before .before .before .args .at) (now (c .before .before .before .before .before .before .before .before .before .before .before .before .before .before .args .w)) (c .before .before .before .before .before .before .before .before .before .before .before .before .before .before .pre .1 .0 .0) (c .before .before .before .before .before .before .before .before .before .before .before .before .before .before .pre .1 .1) (c .before .before .before .before .before .before .before .before .before .before .before .before .if1 .left)) (c .before .before .before .before .before .before .before .before .before .before .before .before .before .before .pre .1 .1) _ _ (c .before .before .before .before .before .before .before .before .before .after-bet .ensures) _ _ (c .before .before .before .after-bet2 .ensures))
+after-bet-decision-word-requires t c κs = (hands.after-seat (c .before .before .before .before .before .before .before .before .before .before .before .before .before .before .args .n) (c .before .before .before .before .before .before .before .before .before .before .before .before .before .before .args .cards) (c .before .before .before .before .before .before .before .before .before .before .before .before .before .before .args .number) (c .before .before .before .before .before .before .before .before .before .before .before .before .before .before .args .seat) (c .before .before .before .before .before .before .before .before .before .before .before .before .before .before .args .left) (c .before .before .before .before .before .before .before .before .before .before .before .before .before .before .args .pays) (c .before .before .before .before .before .before .before .before .before .before .before .before .before .before .args .pot) (c .before .before .before .before .before .before .before .before .before .before .before .before .before .before .args .win) (c .before .before .before .before .before .before .before .before .before .before .before .before .before .before .args .at) (now (c .before .before .before .before .before .before .before .before .before .before .before .before .before .before .args .w)) (c .before .before .before .before .before .before .before .before .before .before .before .before .before .before .pre .1 .0 .0) (c .before .before .before .before .before .before .before .before .before .before .before .before .before .before .pre .1 .1) .1, (last-left (c .before .before .before .before .before .before .before .before .before .before .before .before .before .before .args .number) (c .before .before .before .before .before .before .before .before .before .before .before .before .before .before .args .left) (hands.some-left (c .before .before .before .before .before .before .before .before .before .before .before .before .before .before .args .left) (c .before .before .before .before .before .before .before .before .before .before .before .before .before .before .pre .1 .0 .1)) (c .before .before .before .before .before .before .before .before .before .before .before .before .before .before .pre .1 .0 .2)), hands.after-seat (c .before .before .before .before .before .before .before .before .before .before .before .before .before .before .args .n) (c .before .before .before .before .before .before .before .before .before .before .before .before .before .before .args .cards) (c .before .before .before .before .before .before .before .before .before .before .before .before .before .before .args .number) (c .before .before .before .before .before .before .before .before .before .before .before .before .before .before .args .seat) (c .before .before .before .before .before .before .before .before .before .before .before .before .before .before .args .left) (c .before .before .before .before .before .before .before .before .before .before .before .before .before .before .args .pays) (c .before .before .before .before .before .before .before .before .before .before .before .before .before .before .args .pot) (c .before .before .before .before .before .before .before .before .before .before .before .before .before .before .args .win) (c .before .before .before .before .before .before .before .before .before .before .before .before .before .before .args .at) (now (c .before .before .before .before .before .before .before .before .before .before .before .before .before .before .args .w)) (c .before .before .before .before .before .before .before .before .before .before .before .before .before .before .pre .1 .0 .0) (c .before .before .before .before .before .before .before .before .before .before .before .before .before .before .pre .1 .1) .0, hands.behind-few (c .before .before .before .before .before .before .before .before .before .before .before .before .before .before .args .n) (c .before .before .before .before .before .before .before .before .before .before .before .before .before .before .args .cards) (c .before .before .before .before .before .before .before .before .before .before .before .before .before .before .args .number) (c .before .before .before .before .before .before .before .before .before .before .before .before .before .before .args .at) (now (c .before .before .before .before .before .before .before .before .before .before .before .before .before .before .args .w)) _ _ _ (hands.after-goes-on (c .before .before .before .before .before .before .before .before .before .before .before .before .before .before .args .n) (c .before .before .before .before .before .before .before .before .before .before .before .before .before .before .args .cards) (c .before .before .before .before .before .before .before .before .before .before .before .before .before .before .args .number) (c .before .before .before .before .before .before .before .before .before .before .before .before .before .before .args .seat) (c .before .before .before .before .before .before .before .before .before .before .before .before .before .before .args .left) (c .before .before .before .before .before .before .before .before .before .before .before .before .before .before .args .pays) (c .before .before .before .before .before .before .before .before .before .before .before .before .before .before .args .pot) (c .before .before .before .before .before .before .before .before .before .before .before .before .before .before .args .win) (c .before .before .before .before .before .before .before .before .before .before .before .before .before .before .args .at) (now (c .before .before .before .before .before .before .before .before .before .before .before .before .before .before .args .w)) (c .before .before .before .before .before .before .before .before .before .before .before .before .before .before .pre .1 .0 .0) (c .before .before .before .before .before .before .before .before .before .before .before .before .before .before .pre .1 .1) (hands.some-left (c .before .before .before .before .before .before .before .before .before .before .before .before .before .before .args .left) (c .before .before .before .before .before .before .before .before .before .before .before .before .before .before .pre .1 .0 .1))) (c .before .before .before .before .before .before .before .before .before .before .before .before .before .before .pre .1 .1) _ _ (c .before .before .before .before .before .before .before .before .before .after-bet .ensures) _ _ (c .before .before .before .after-bet2 .ensures))
 
-after-bet-put-requires-2 : (t : ℕ) → after-bet-lts.Need-put-requires-2 (
-  end-word-reads.Asked,
-  end-word-reads.Learnt,
-  put-reads.Asked,
-  put-reads.Learnt,
+after-bet-put-requires : (t : ℕ) → after-bet-lts.Need-put-requires (
+  last-action-reads.Asked,
+  last-action-reads.Learnt,
   following-reads.Asked,
   following-reads.Learnt,
   after-bet-below t,
@@ -403,14 +365,14 @@ after-bet-put-requires-2 : (t : ℕ) → after-bet-lts.Need-put-requires-2 (
   higher-reads.Learnt,
   decision-word-reads.Asked,
   decision-word-reads.Learnt,
+  put-reads.Asked,
+  put-reads.Learnt,
 ) (after-bet-at t) after-bet.Post
-after-bet-put-requires-2 t c κs = search needs
+after-bet-put-requires t c κs = search needs
 
 after-bet-same-length-2 : (t : ℕ) → after-bet-lts.Need-same-length-2 (
-  end-word-reads.Asked,
-  end-word-reads.Learnt,
-  put-reads.Asked,
-  put-reads.Learnt,
+  last-action-reads.Asked,
+  last-action-reads.Learnt,
   following-reads.Asked,
   following-reads.Learnt,
   after-bet-below t,
@@ -421,14 +383,14 @@ after-bet-same-length-2 : (t : ℕ) → after-bet-lts.Need-same-length-2 (
   higher-reads.Learnt,
   decision-word-reads.Asked,
   decision-word-reads.Learnt,
+  put-reads.Asked,
+  put-reads.Learnt,
 ) (after-bet-at t) after-bet.Post
 after-bet-same-length-2 t c = search needs
 
 after-bet-returns-2 : (t : ℕ) → after-bet-lts.Need-returns-2 (
-  end-word-reads.Asked,
-  end-word-reads.Learnt,
-  put-reads.Asked,
-  put-reads.Learnt,
+  last-action-reads.Asked,
+  last-action-reads.Learnt,
   following-reads.Asked,
   following-reads.Learnt,
   after-bet-below t,
@@ -439,15 +401,15 @@ after-bet-returns-2 : (t : ℕ) → after-bet-lts.Need-returns-2 (
   higher-reads.Learnt,
   decision-word-reads.Asked,
   decision-word-reads.Learnt,
+  put-reads.Asked,
+  put-reads.Learnt,
 ) (after-bet-at t) after-bet.Post
-after-bet-returns-2 t c = hands.lays-decision (c .before .before .before .before .before .before .before .before .before .before .before .before .before .before .before .before .before .before .args .n) (c .before .before .before .before .before .before .before .before .before .before .before .before .before .before .before .before .before .before .args .cards) (c .before .before .before .before .before .before .before .before .before .before .before .before .before .before .before .before .before .before .args .number) (c .before .before .before .before .before .before .before .before .before .before .before .before .before .before .before .before .before .before .args .at) (now (c .before .before .before .before .before .before .before .before .before .before .before .before .before .before .before .before .before .before .args .w)) _ _ _ (hands.after-goes-on (c .before .before .before .before .before .before .before .before .before .before .before .before .before .before .before .before .before .before .args .n) (c .before .before .before .before .before .before .before .before .before .before .before .before .before .before .before .before .before .before .args .cards) (c .before .before .before .before .before .before .before .before .before .before .before .before .before .before .before .before .before .before .args .number) (c .before .before .before .before .before .before .before .before .before .before .before .before .before .before .before .before .before .before .args .seat) (c .before .before .before .before .before .before .before .before .before .before .before .before .before .before .before .before .before .before .args .left) (c .before .before .before .before .before .before .before .before .before .before .before .before .before .before .before .before .before .before .args .pays) (c .before .before .before .before .before .before .before .before .before .before .before .before .before .before .before .before .before .before .args .pot) (c .before .before .before .before .before .before .before .before .before .before .before .before .before .before .before .before .before .before .args .win) (c .before .before .before .before .before .before .before .before .before .before .before .before .before .before .before .before .before .before .args .at) (now (c .before .before .before .before .before .before .before .before .before .before .before .before .before .before .before .before .before .before .args .w)) (c .before .before .before .before .before .before .before .before .before .before .before .before .before .before .before .before .before .before .pre .1 .0 .0) (c .before .before .before .before .before .before .before .before .before .before .before .before .before .before .before .before .before .before .pre .1 .1) (c .before .before .before .before .before .before .before .before .before .before .before .before .before .before .before .before .if1 .left)) (c .before .before .before .before .before .before .before .before .before .before .before .before .before .before .before .before .before .before .pre .1 .1) _ _ (c .before .before .before .before .before .before .before .before .before .before .before .before .before .after-bet .ensures) _ _ (c .before .before .before .before .before .before .before .after-bet2 .ensures) (c .before .before .before .before .before .before .before .before .before .before .before .before .before .before .before .before .before .before .args .seat) _ _ (hands.after-seat (c .before .before .before .before .before .before .before .before .before .before .before .before .before .before .before .before .before .before .args .n) (c .before .before .before .before .before .before .before .before .before .before .before .before .before .before .before .before .before .before .args .cards) (c .before .before .before .before .before .before .before .before .before .before .before .before .before .before .before .before .before .before .args .number) (c .before .before .before .before .before .before .before .before .before .before .before .before .before .before .before .before .before .before .args .seat) (c .before .before .before .before .before .before .before .before .before .before .before .before .before .before .before .before .before .before .args .left) (c .before .before .before .before .before .before .before .before .before .before .before .before .before .before .before .before .before .before .args .pays) (c .before .before .before .before .before .before .before .before .before .before .before .before .before .before .before .before .before .before .args .pot) (c .before .before .before .before .before .before .before .before .before .before .before .before .before .before .before .before .before .before .args .win) (c .before .before .before .before .before .before .before .before .before .before .before .before .before .before .before .before .before .before .args .at) (now (c .before .before .before .before .before .before .before .before .before .before .before .before .before .before .before .before .before .before .args .w)) (c .before .before .before .before .before .before .before .before .before .before .before .before .before .before .before .before .before .before .pre .1 .0 .0) (c .before .before .before .before .before .before .before .before .before .before .before .before .before .before .before .before .before .before .pre .1 .1) .1) (hands.after-seat (c .before .before .before .before .before .before .before .before .before .before .before .before .before .before .before .before .before .before .args .n) (c .before .before .before .before .before .before .before .before .before .before .before .before .before .before .before .before .before .before .args .cards) (c .before .before .before .before .before .before .before .before .before .before .before .before .before .before .before .before .before .before .args .number) (c .before .before .before .before .before .before .before .before .before .before .before .before .before .before .before .before .before .before .args .seat) (c .before .before .before .before .before .before .before .before .before .before .before .before .before .before .before .before .before .before .args .left) (c .before .before .before .before .before .before .before .before .before .before .before .before .before .before .before .before .before .before .args .pays) (c .before .before .before .before .before .before .before .before .before .before .before .before .before .before .before .before .before .before .args .pot) (c .before .before .before .before .before .before .before .before .before .before .before .before .before .before .before .before .before .before .args .win) (c .before .before .before .before .before .before .before .before .before .before .before .before .before .before .before .before .before .before .args .at) (now (c .before .before .before .before .before .before .before .before .before .before .before .before .before .before .before .before .before .before .args .w)) (c .before .before .before .before .before .before .before .before .before .before .before .before .before .before .before .before .before .before .pre .1 .0 .0) (c .before .before .before .before .before .before .before .before .before .before .before .before .before .before .before .before .before .before .pre .1 .1) .0) (c .before .before .before .before .before .before .before .before .before .before .before .before .before .before .before .before .before .before .pre .1 .0 .0 .acts) (last-left (c .before .before .before .before .before .before .before .before .before .before .before .before .before .before .before .before .before .before .args .number) (c .before .before .before .before .before .before .before .before .before .before .before .before .before .before .before .before .before .before .args .left) (c .before .before .before .before .before .before .before .before .before .before .before .before .before .before .before .before .if1 .left) (c .before .before .before .before .before .before .before .before .before .before .before .before .before .before .before .before .before .before .pre .1 .0 .1)) (c .before .before .before .decision-word .ensures) (c .before .before .put2 .ensures)
+after-bet-returns-2 t c = hands.lays-decision (c .before .before .before .before .before .before .before .before .before .before .before .before .before .before .before .before .before .before .args .n) (c .before .before .before .before .before .before .before .before .before .before .before .before .before .before .before .before .before .before .args .cards) (c .before .before .before .before .before .before .before .before .before .before .before .before .before .before .before .before .before .before .args .number) (c .before .before .before .before .before .before .before .before .before .before .before .before .before .before .before .before .before .before .args .at) (now (c .before .before .before .before .before .before .before .before .before .before .before .before .before .before .before .before .before .before .args .w)) _ _ _ (hands.after-goes-on (c .before .before .before .before .before .before .before .before .before .before .before .before .before .before .before .before .before .before .args .n) (c .before .before .before .before .before .before .before .before .before .before .before .before .before .before .before .before .before .before .args .cards) (c .before .before .before .before .before .before .before .before .before .before .before .before .before .before .before .before .before .before .args .number) (c .before .before .before .before .before .before .before .before .before .before .before .before .before .before .before .before .before .before .args .seat) (c .before .before .before .before .before .before .before .before .before .before .before .before .before .before .before .before .before .before .args .left) (c .before .before .before .before .before .before .before .before .before .before .before .before .before .before .before .before .before .before .args .pays) (c .before .before .before .before .before .before .before .before .before .before .before .before .before .before .before .before .before .before .args .pot) (c .before .before .before .before .before .before .before .before .before .before .before .before .before .before .before .before .before .before .args .win) (c .before .before .before .before .before .before .before .before .before .before .before .before .before .before .before .before .before .before .args .at) (now (c .before .before .before .before .before .before .before .before .before .before .before .before .before .before .before .before .before .before .args .w)) (c .before .before .before .before .before .before .before .before .before .before .before .before .before .before .before .before .before .before .pre .1 .0 .0) (c .before .before .before .before .before .before .before .before .before .before .before .before .before .before .before .before .before .before .pre .1 .1) (hands.some-left (c .before .before .before .before .before .before .before .before .before .before .before .before .before .before .before .before .before .before .args .left) (c .before .before .before .before .before .before .before .before .before .before .before .before .before .before .before .before .before .before .pre .1 .0 .1))) (c .before .before .before .before .before .before .before .before .before .before .before .before .before .before .before .before .before .before .pre .1 .1) _ _ (c .before .before .before .before .before .before .before .before .before .before .before .before .before .after-bet .ensures) _ _ (c .before .before .before .before .before .before .before .after-bet2 .ensures) (c .before .before .before .before .before .before .before .before .before .before .before .before .before .before .before .before .before .before .args .seat) _ _ (hands.after-seat (c .before .before .before .before .before .before .before .before .before .before .before .before .before .before .before .before .before .before .args .n) (c .before .before .before .before .before .before .before .before .before .before .before .before .before .before .before .before .before .before .args .cards) (c .before .before .before .before .before .before .before .before .before .before .before .before .before .before .before .before .before .before .args .number) (c .before .before .before .before .before .before .before .before .before .before .before .before .before .before .before .before .before .before .args .seat) (c .before .before .before .before .before .before .before .before .before .before .before .before .before .before .before .before .before .before .args .left) (c .before .before .before .before .before .before .before .before .before .before .before .before .before .before .before .before .before .before .args .pays) (c .before .before .before .before .before .before .before .before .before .before .before .before .before .before .before .before .before .before .args .pot) (c .before .before .before .before .before .before .before .before .before .before .before .before .before .before .before .before .before .before .args .win) (c .before .before .before .before .before .before .before .before .before .before .before .before .before .before .before .before .before .before .args .at) (now (c .before .before .before .before .before .before .before .before .before .before .before .before .before .before .before .before .before .before .args .w)) (c .before .before .before .before .before .before .before .before .before .before .before .before .before .before .before .before .before .before .pre .1 .0 .0) (c .before .before .before .before .before .before .before .before .before .before .before .before .before .before .before .before .before .before .pre .1 .1) .1) (hands.after-seat (c .before .before .before .before .before .before .before .before .before .before .before .before .before .before .before .before .before .before .args .n) (c .before .before .before .before .before .before .before .before .before .before .before .before .before .before .before .before .before .before .args .cards) (c .before .before .before .before .before .before .before .before .before .before .before .before .before .before .before .before .before .before .args .number) (c .before .before .before .before .before .before .before .before .before .before .before .before .before .before .before .before .before .before .args .seat) (c .before .before .before .before .before .before .before .before .before .before .before .before .before .before .before .before .before .before .args .left) (c .before .before .before .before .before .before .before .before .before .before .before .before .before .before .before .before .before .before .args .pays) (c .before .before .before .before .before .before .before .before .before .before .before .before .before .before .before .before .before .before .args .pot) (c .before .before .before .before .before .before .before .before .before .before .before .before .before .before .before .before .before .before .args .win) (c .before .before .before .before .before .before .before .before .before .before .before .before .before .before .before .before .before .before .args .at) (now (c .before .before .before .before .before .before .before .before .before .before .before .before .before .before .before .before .before .before .args .w)) (c .before .before .before .before .before .before .before .before .before .before .before .before .before .before .before .before .before .before .pre .1 .0 .0) (c .before .before .before .before .before .before .before .before .before .before .before .before .before .before .before .before .before .before .pre .1 .1) .0) (c .before .before .before .before .before .before .before .before .before .before .before .before .before .before .before .before .before .before .pre .1 .0 .0 .acts) (last-left (c .before .before .before .before .before .before .before .before .before .before .before .before .before .before .before .before .before .before .args .number) (c .before .before .before .before .before .before .before .before .before .before .before .before .before .before .before .before .before .before .args .left) (hands.some-left (c .before .before .before .before .before .before .before .before .before .before .before .before .before .before .before .before .before .before .args .left) (c .before .before .before .before .before .before .before .before .before .before .before .before .before .before .before .before .before .before .pre .1 .0 .1)) (c .before .before .before .before .before .before .before .before .before .before .before .before .before .before .before .before .before .before .pre .1 .0 .2)) (c .before .before .before .decision-word .ensures) (c .before .before .put .ensures)
 
 pub +after-bet-spec : {M : Type 1} → statement M
 +after-bet-spec = close μ-after-bet λ t. after-bet-lts.spec (
-  end-word-reads.Asked,
-  end-word-reads.Learnt,
-  put-reads.Asked,
-  put-reads.Learnt,
+  last-action-reads.Asked,
+  last-action-reads.Learnt,
   following-reads.Asked,
   following-reads.Learnt,
   after-bet-below t,
@@ -458,12 +420,12 @@ pub +after-bet-spec : {M : Type 1} → statement M
   higher-reads.Learnt,
   decision-word-reads.Asked,
   decision-word-reads.Learnt,
+  put-reads.Asked,
+  put-reads.Learnt,
 )
     (after-bet-at t)
     after-bet.Post
-    (after-bet-end-word-requires t)
-    (after-bet-put-requires t)
-    (after-bet-add-result t)
+    (after-bet-last-action-requires t)
     (after-bet-same-length t)
     (after-bet-returns t)
     (after-bet-following-requires t)
@@ -481,6 +443,6 @@ pub +after-bet-spec : {M : Type 1} → statement M
     (after-bet-higher-requires t)
     (after-bet-after-bet-requires-2 t)
     (after-bet-decision-word-requires t)
-    (after-bet-put-requires-2 t)
+    (after-bet-put-requires t)
     (after-bet-same-length-2 t)
     (after-bet-returns-2 t)
