@@ -1,0 +1,117 @@
+// The second round, and the showdown behind each history that closes it.
+use crate::words::LOSS;
+use crate::words::TIE;
+use crate::words::WIN;
+use crate::words::choose;
+use crate::words::end;
+use crate::words::own;
+ghost use mathlib.Core.Path.{_≡_};
+ghost use Prim.Native.Nat.{_+_, _*_, _<_, _≤_};
+ghost use Rattle.arena.specs.Built.{Built, Room};
+ghost use Rattle.leduc_arena.specs.Layout.{plain, endTree, reraisedTree, raisedTree, calledTree, roundTree, showdownFor};
+
+// What a raise adds.
+const RAISE: usize = 4;
+
+// What a history's number adds to a code.
+const STEP: usize = 42;
+
+// How the showdown goes for seat 0: a pair with the public card wins, else the higher rank.
+pub fn showdown(c: usize, d: usize, p: usize) -> usize
+    ensures { λ r. ⌜ (r ≡ showdownFor c d p) × (r ≤ 2) ⌝ }
+{
+    if c / 2 == p / 2 {
+        return WIN;
+    }
+    if d / 2 == p / 2 {
+        return LOSS;
+    }
+    if c / 2 < d / 2 {
+        return LOSS;
+    }
+    if d / 2 < c / 2 {
+        return WIN;
+    }
+    TIE
+}
+
+// Lays out FOLD and CALL after two raises; n is the number of the history, and the seat has paid so much.
+fn reraised(
+    w: &mut [u64],
+    at: usize,
+    zero: usize,
+    one: usize,
+    outcome: usize,
+    seat: usize,
+    n: usize,
+    paid: usize,
+) -> usize
+    requires { ⌜ (zero ≤ 9743) × (one ≤ 9743) × (outcome ≤ 2) × (seat < 2) × (n ≤ 10) × (paid ≤ 9) × Room at (now w) 3 ⌝ }
+    ensures { λ r. ⌜ Built 2 plain at (now (w .entry)) (now (w .exit)) (reraisedTree zero one 42 4 (λ m y. endTree outcome y) seat n paid) r ⌝ }
+{
+    let call = end(w, at + 1, 2 * seat, paid);
+    let next = end(w, call, outcome, paid + RAISE);
+    let code = own(seat, zero, one) + STEP * n;
+    choose(w, at, seat, 2, code, next);
+    next
+}
+
+// Lays out FOLD, CALL and RAISE after one raise.
+fn raised(
+    w: &mut [u64],
+    at: usize,
+    zero: usize,
+    one: usize,
+    outcome: usize,
+    seat: usize,
+    n: usize,
+    paid: usize,
+) -> usize
+    requires { ⌜ (zero ≤ 9743) × (one ≤ 9743) × (outcome ≤ 2) × (seat < 2) × (n ≤ 4) × (paid ≤ 5) × Room at (now w) 6 ⌝ }
+    ensures { λ r. ⌜ Built 2 plain at (now (w .entry)) (now (w .exit)) (raisedTree zero one 42 4 (λ m y. endTree outcome y) seat n paid) r ⌝ }
+{
+    let call = end(w, at + 1, 2 * seat, paid);
+    let raise = end(w, call, outcome, paid + RAISE);
+    let next = reraised(
+        w,
+        raise,
+        zero,
+        one,
+        outcome,
+        1 - seat,
+        2 * n + 2,
+        paid + RAISE,
+    );
+    let code = own(seat, zero, one) + STEP * n;
+    choose(w, at, seat, 3, code, next);
+    next
+}
+
+// Lays out CALL and RAISE of seat 1 after a CALL.
+fn called(w: &mut [u64], at: usize, zero: usize, one: usize, outcome: usize, paid: usize) -> usize
+    requires { ⌜ (zero ≤ 9743) × (one ≤ 9743) × (outcome ≤ 2) × (paid ≤ 5) × Room at (now w) 8 ⌝ }
+    ensures { λ r. ⌜ Built 2 plain at (now (w .entry)) (now (w .exit)) (calledTree zero one 42 4 (λ m y. endTree outcome y) paid) r ⌝ }
+{
+    let raise = end(w, at + 1, outcome, paid);
+    let next = raised(w, raise, zero, one, outcome, 0, 4, paid);
+    choose(w, at, 1, 2, one + STEP, next);
+    next
+}
+
+// Lays out the round where each seat has paid so much; the seats' codes at its start are zero and one.
+pub fn round(
+    w: &mut [u64],
+    at: usize,
+    zero: usize,
+    one: usize,
+    outcome: usize,
+    paid: usize,
+) -> usize
+    requires { ⌜ (zero ≤ 9743) × (one ≤ 9743) × (outcome ≤ 2) × (paid ≤ 5) × Room at (now w) 15 ⌝ }
+    ensures { λ r. ⌜ Built 2 plain at (now (w .entry)) (now (w .exit)) (roundTree zero one 42 4 (λ m y. endTree outcome y) paid) r ⌝ }
+{
+    let raise = called(w, at + 1, zero, one, outcome, paid);
+    let next = raised(w, raise, zero, one, outcome, 1, 2, paid);
+    choose(w, at, 0, 2, zero, next);
+    next
+}
