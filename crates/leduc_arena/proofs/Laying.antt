@@ -15,7 +15,7 @@ use Rattle.arena.specs.Held.{Says}
 use Rattle.arena.specs.Built.{Built, Row, Room}
 use Rattle.arena.proofs.Packing.{kind-of, actor-of, actions-of, set-of, next-of, later-of, chance-kind, chance-next}
 use Rattle.arena.proofs.Building.{join, sizes-join, snoc, row-none, row-one, row-more, row-join, built-chance, built-decide, built-end}
-use Rattle.leduc_arena.specs.Layout.{plain, byteFor, endTree, only, rowTo}
+use Rattle.leduc_arena.specs.Layout.{plain, byteFor, endTree, only, rowTo, Chosen}
 
 -- ---- an end
 pub lays-end : (at e x a b : ℕ) (w v : List ℕ) → Room at w 1 → a ≡ byteFor e x → a < 128 → b ≡ byteFor (2 - e) x → b < 128 → v ≡ set w at (4 * a + 1024 * b) → Built 2 plain at w v (endTree e x) (at + 1)
@@ -53,18 +53,19 @@ module _ {at z : ℕ} {w : List ℕ} (g : Room at w z) where
     unfolding Says size
     lays-chance {u} {x} q i = built-chance 2 plain at x w v u f r row (omega (arith, g .words)) i (rw q (chance-kind r, chance-next r behind-few ∙ behind))
 
-    pub lays-decision : {u : List ℕ} {j n c : ℕ} (k : ℕ) → j < 2 → n < 4 → c < 16384 → c ≡ k → fan f ≡ n → u ≡ set v at (decisionWord j n c r 0) → Built 2 plain at w u (decide j (k ∷ []) f) r
+    pub lays-decision : {u : List ℕ} {j n : ℕ} (k : ℕ) → j < 2 → fan f ≡ n → n < 4 → Chosen at j n k r v u → Built 2 plain at w u (decide j (k ∷ []) f) r
     unfolding Says size
-    lays-decision {u} {j} {n} {c} k l m d s q i =
+    lays-decision {u} {j} {n} k l q m c =
         let a : j < 8 = omega arith in
+        let d : k < 16384 = c .small in
         let o : 0 < 2097152 = omega arith in
-        built-decide 2 plain at (decisionWord j n c r 0) w v u j (k ∷ []) f r row (omega (arith, g .words)) i (
-          kind-of j n c r 0 a m d behind-few o,
-          actor-of j n c r 0 a m d behind-few o,
-          actions-of j n c r 0 a m d behind-few o ∙ sym q,
-          set-of j n c r 0 a m d behind-few o ∙ s,
-          next-of j n c r 0 a m d behind-few o ∙ behind,
-          later-of j n c r 0 a m d behind-few o,
+        built-decide 2 plain at (decisionWord j n k r 0) w v u j (k ∷ []) f r row (omega (arith, g .words)) (c .word) (
+          kind-of j n k r 0 a m d behind-few o,
+          actor-of j n k r 0 a m d behind-few o,
+          actions-of j n k r 0 a m d behind-few o ∙ sym q,
+          set-of j n k r 0 a m d behind-few o,
+          next-of j n k r 0 a m d behind-few o ∙ behind,
+          later-of j n k r 0 a m d behind-few o,
         )
 
 -- one child, two, and three

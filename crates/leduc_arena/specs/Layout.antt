@@ -1,11 +1,13 @@
 -- Leduc's tree as the builder writes it: a decision's key is its code, and an end's payoffs are its bytes. Definitions only; nothing is assumed.
 use mathlib.Core.Bool.{Bool, true, false, not, cond}
-use mathlib.Core.List.{[], _∷_}
-use Prim.Native.Nat.{ℕ, zero, suc, _+_, _*_, _-_, _/_}
+use mathlib.Core.Path.{_≡_}
+use mathlib.Core.List.{List, [], _∷_}
+use Prim.Native.Nat.{ℕ, zero, suc, _+_, _*_, _-_, _/_, _<_}
 use lib.Dec.{eqb, ltb}
 use lib.IntN.{pos, _-ℤ_}
-use lib.ListN.{getD}
+use lib.ListN.{getD, set}
 use Rattle.game.specs.Tree.{Key, Tree, end, chance, decide, Trees, nil, cons}
+use Rattle.arena.specs.Words.{decisionWord}
 use Rattle.arena.proofs.Building.{join}
 
 -- the code of such a key
@@ -21,32 +23,32 @@ unfoldable pub endTree : ℕ → ℕ → Tree
 unfolding byteFor
 endTree e x = end (λ i. pos (byteFor (cond (eqb i 0) e (2 - e)) x) -ℤ pos 64)
 
--- a round: k₀ and k₁ are the seats' codes at its start, step times a history's number is added to them, a raise adds size, and close is the tree
--- behind a history that closes the round, by its number and what each seat has paid
-module _ (k₀ k₁ step size : ℕ) (close : ℕ → ℕ → Tree) where
+-- a round: k₀ and k₁ are the seats' codes at its start, beside base. A history's number, times step, is added to a code; a raise adds size.
+-- close is the tree behind a history that closes the round, by that number and by what each seat has paid
+module _ (k₀ k₁ base step size : ℕ) (close : ℕ → ℕ → Tree) where
   -- seat j acts after a history with number n
   abbrev pub acts : ℕ → ℕ → Trees → Tree
-  acts j n f = decide j ((cond (eqb j 0) k₀ k₁ + step * n) ∷ []) f
+  acts j n f = decide j ((cond (eqb j 0) k₀ k₁ + (n + base)) ∷ []) f
 
   -- after two raises FOLD or CALL; seat j has paid x
   unfoldable pub reraisedTree : (j n x : ℕ) → Tree
   unfolding endTree
-  reraisedTree j n x = acts j n (cons (endTree (2 * j) x) (cons (close (2 * n + 1) (x + size)) nil))
+  reraisedTree j n x = acts j n (cons (endTree (2 * j) x) (cons (close (2 * n + step) (x + size)) nil))
 
   -- after one raise FOLD, CALL or RAISE
   unfoldable pub raisedTree : (j n x : ℕ) → Tree
   unfolding endTree reraisedTree
-  raisedTree j n x = acts j n (cons (endTree (2 * j) x) (cons (close (2 * n + 1) (x + size)) (cons (reraisedTree (1 - j) (2 * n + 2) (x + size)) nil)))
+  raisedTree j n x = acts j n (cons (endTree (2 * j) x) (cons (close (2 * n + step) (x + size)) (cons (reraisedTree (1 - j) (2 * n + 2 * step) (x + size)) nil)))
 
   -- after a CALL of seat 0 CALL or RAISE
   unfoldable pub calledTree : ℕ → Tree
   unfolding raisedTree
-  calledTree x = acts 1 1 (cons (close 3 x) (cons (raisedTree 0 4 x) nil))
+  calledTree x = acts 1 step (cons (close (3 * step) x) (cons (raisedTree 0 (4 * step) x) nil))
 
   -- at the start CALL or RAISE
   unfoldable pub roundTree : ℕ → Tree
   unfolding calledTree raisedTree
-  roundTree x = acts 0 0 (cons (calledTree x) (cons (raisedTree 1 2 x) nil))
+  roundTree x = acts 0 0 (cons (calledTree x) (cons (raisedTree 1 (2 * step) x) nil))
 
 -- the tree of x if it is kept
 unfoldable pub only : Bool → (ℕ → Tree) → ℕ → Trees
@@ -63,10 +65,10 @@ rowTo p g (suc n) = join (rowTo p g n) (only (p n) g n)
 unfoldable pub showdownFor : (c d p : ℕ) → ℕ
 showdownFor c d p = cond (eqb (c / 2) (p / 2)) 2 (cond (eqb (d / 2) (p / 2)) 0 (cond (ltb (c / 2) (d / 2)) 0 (cond (ltb (d / 2) (c / 2)) 2 1)))
 
--- round 2: n is the number of round 1, x what each seat has paid, p the public card
+-- round 2: n is the number of round 1's history, times 462, x what each seat has paid, p the public card
 unfoldable pub secondTree : (c d n x p : ℕ) → Tree
 unfolding roundTree showdownFor
-secondTree c d n x p = roundTree (462 * n + 6 * p + c) (462 * n + 6 * p + d) 42 4 (λ m y. endTree (showdownFor c d p) y) x
+secondTree c d n x p = roundTree (n + 6 * p + c) (n + 6 * p + d) 0 42 4 (λ m y. endTree (showdownFor c d p) y) x
 
 -- p is neither c nor d
 abbrev pub other : (c d p : ℕ) → Bool
@@ -80,7 +82,7 @@ publicTree c d n x = chance (rowTo (other c d) (secondTree c d n x) 6)
 -- round 1
 unfoldable pub firstTree : (c d : ℕ) → Tree
 unfolding roundTree publicTree
-firstTree c d = roundTree (36 + c) (36 + d) 462 2 (publicTree c d) 1
+firstTree c d = roundTree c d 36 462 2 (publicTree c d) 1
 
 -- the card of seat 1, then round 1
 unfoldable pub dealTree : ℕ → Tree
@@ -91,3 +93,8 @@ dealTree c = chance (rowTo (λ d. not (eqb d c)) (firstTree c) 6)
 unfoldable pub dealsTree : Tree
 unfolding dealTree rowTo
 dealsTree = chance (rowTo (λ c. true) dealTree 6)
+
+-- the word at place a, and no other, is now that of seat j's decision over n trees that end at r, and its code is small
+pub record Chosen (a j n code r : ℕ) (old new : List ℕ) : Type 0 where
+  pub word : new ≡ set old a (decisionWord j n code r 0)
+  pub small : code < 16384

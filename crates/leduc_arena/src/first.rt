@@ -2,7 +2,6 @@
 use crate::second;
 use crate::words::choose;
 use crate::words::end;
-use crate::words::own;
 use crate::words::write;
 use arena::words::chance;
 ghost use Prim.Native.Nat.{_+_, _*_, _<_, _≤_};
@@ -10,19 +9,28 @@ ghost use Rattle.game.specs.Sets.{size, sizes};
 ghost use Rattle.arena.specs.Built.{Built, Row, Room};
 ghost use Rattle.leduc_arena.specs.Layout.{plain, only, other, reraisedTree, raisedTree, calledTree, secondTree, publicTree, firstTree};
 
+// What a seat has paid: the ante, and then as much as one raise and as two.
 const ANTE: usize = 1;
 
-// What a raise adds.
-const RAISE: usize = 2;
+const RAISED: usize = 3;
 
-// A seat's code is this and its card, while there is no public card; a history's number adds STEP.
+const RERAISED: usize = 5;
+
+// A code without a public card has this beside the card and the number of the history.
 const HIDDEN: usize = 36;
 
-const STEP: usize = 462;
+// The numbers of histories: twice that of the actions before, and 462 for CALL and 924 for RAISE.
+const CALL: usize = 462;
 
-// Lays out the second round with public card p, if that is neither c nor d; n is the number of the first round.
+const RAISE: usize = 924;
+
+const CALL_CALL: usize = 1386;
+
+const CALL_RAISE: usize = 1848;
+
+// Lays out the second round with public card p, if that is neither c nor d; n is the number of the first round's history.
 fn shown(w: &mut [u64], at: usize, c: usize, d: usize, n: usize, paid: usize, p: usize) -> usize
-    requires { ⌜ (c < 6) × (d < 6) × (n ≤ 21) × (paid ≤ 5) × (p < 6) ⌝ }
+    requires { ⌜ (c < 6) × (d < 6) × (n ≤ 9702) × (paid ≤ 5) × (p < 6) ⌝ }
     requires { ⌜ Room at (now w) (sizes (only (other c d p) (secondTree c d n paid) p)) ⌝ }
     ensures { λ r. ⌜ Row 2 plain at (now (w .entry)) (now (w .exit)) (only (other c d p) (secondTree c d n paid) p) r ⌝ }
 {
@@ -32,13 +40,13 @@ fn shown(w: &mut [u64], at: usize, c: usize, d: usize, n: usize, paid: usize, p:
     if p == d {
         return at;
     }
-    let code = STEP * n + 6 * p;
+    let code = n + 6 * p;
     second::round(w, at, code + c, code + d, second::showdown(c, d, p), paid)
 }
 
 // Lays out the deals of the public card.
 fn public(w: &mut [u64], at: usize, c: usize, d: usize, n: usize, paid: usize) -> usize
-    requires { ⌜ (c < 6) × (d < 6) × (n ≤ 21) × (paid ≤ 5) ⌝ }
+    requires { ⌜ (c < 6) × (d < 6) × (n ≤ 9702) × (paid ≤ 5) ⌝ }
     requires { ⌜ Room at (now w) (size (publicTree c d n paid)) ⌝ }
     ensures { λ r. ⌜ Built 2 plain at (now (w .entry)) (now (w .exit)) (publicTree c d n paid) r ⌝ }
 {
@@ -54,40 +62,38 @@ fn public(w: &mut [u64], at: usize, c: usize, d: usize, n: usize, paid: usize) -
 
 // Lays out FOLD and CALL after two raises; n is the number of the history.
 fn reraised(w: &mut [u64], at: usize, c: usize, d: usize, seat: usize, n: usize) -> usize
-    requires { ⌜ (c < 6) × (d < 6) × (seat < 2) × (n ≤ 10) ⌝ }
-    requires { ⌜ Room at (now w) (size (reraisedTree (36 + c) (36 + d) 462 2 (publicTree c d) seat n 3)) ⌝ }
-    ensures { λ r. ⌜ Built 2 plain at (now (w .entry)) (now (w .exit)) (reraisedTree (36 + c) (36 + d) 462 2 (publicTree c d) seat n 3) r ⌝ }
+    requires { ⌜ (c < 6) × (d < 6) × (seat < 2) × (n ≤ 4620) ⌝ }
+    requires { ⌜ Room at (now w) (size (reraisedTree c d 36 462 2 (publicTree c d) seat n 3)) ⌝ }
+    ensures { λ r. ⌜ Built 2 plain at (now (w .entry)) (now (w .exit)) (reraisedTree c d 36 462 2 (publicTree c d) seat n 3) r ⌝ }
 {
-    let call = end(w, at + 1, 2 * seat, ANTE + RAISE);
-    let next = public(w, call, c, d, 2 * n + 1, ANTE + 2 * RAISE);
-    let code = own(seat, HIDDEN + c, HIDDEN + d) + STEP * n;
-    choose(w, at, seat, 2, code, next);
+    let call = end(w, at + 1, 2 * seat, RAISED);
+    let next = public(w, call, c, d, 2 * n + CALL, RERAISED);
+    choose(w, at, seat, 2, c, d, n + HIDDEN, next);
     next
 }
 
 // Lays out FOLD, CALL and RAISE after one raise.
 fn raised(w: &mut [u64], at: usize, c: usize, d: usize, seat: usize, n: usize) -> usize
-    requires { ⌜ (c < 6) × (d < 6) × (seat < 2) × (n ≤ 4) ⌝ }
-    requires { ⌜ Room at (now w) (size (raisedTree (36 + c) (36 + d) 462 2 (publicTree c d) seat n 1)) ⌝ }
-    ensures { λ r. ⌜ Built 2 plain at (now (w .entry)) (now (w .exit)) (raisedTree (36 + c) (36 + d) 462 2 (publicTree c d) seat n 1) r ⌝ }
+    requires { ⌜ (c < 6) × (d < 6) × (seat < 2) × (n ≤ 1848) ⌝ }
+    requires { ⌜ Room at (now w) (size (raisedTree c d 36 462 2 (publicTree c d) seat n 1)) ⌝ }
+    ensures { λ r. ⌜ Built 2 plain at (now (w .entry)) (now (w .exit)) (raisedTree c d 36 462 2 (publicTree c d) seat n 1) r ⌝ }
 {
     let call = end(w, at + 1, 2 * seat, ANTE);
-    let raise = public(w, call, c, d, 2 * n + 1, ANTE + RAISE);
-    let next = reraised(w, raise, c, d, 1 - seat, 2 * n + 2);
-    let code = own(seat, HIDDEN + c, HIDDEN + d) + STEP * n;
-    choose(w, at, seat, 3, code, next);
+    let raise = public(w, call, c, d, 2 * n + CALL, RAISED);
+    let next = reraised(w, raise, c, d, 1 - seat, 2 * n + RAISE);
+    choose(w, at, seat, 3, c, d, n + HIDDEN, next);
     next
 }
 
 // Lays out CALL and RAISE of seat 1 after a CALL.
 fn called(w: &mut [u64], at: usize, c: usize, d: usize) -> usize
     requires { ⌜ (c < 6) × (d < 6) ⌝ }
-    requires { ⌜ Room at (now w) (size (calledTree (36 + c) (36 + d) 462 2 (publicTree c d) 1)) ⌝ }
-    ensures { λ r. ⌜ Built 2 plain at (now (w .entry)) (now (w .exit)) (calledTree (36 + c) (36 + d) 462 2 (publicTree c d) 1) r ⌝ }
+    requires { ⌜ Room at (now w) (size (calledTree c d 36 462 2 (publicTree c d) 1)) ⌝ }
+    ensures { λ r. ⌜ Built 2 plain at (now (w .entry)) (now (w .exit)) (calledTree c d 36 462 2 (publicTree c d) 1) r ⌝ }
 {
-    let raise = public(w, at + 1, c, d, 3, ANTE);
-    let next = raised(w, raise, c, d, 0, 4);
-    choose(w, at, 1, 2, HIDDEN + d + STEP, next);
+    let raise = public(w, at + 1, c, d, CALL_CALL, ANTE);
+    let next = raised(w, raise, c, d, 0, CALL_RAISE);
+    choose(w, at, 1, 2, c, d, CALL + HIDDEN, next);
     next
 }
 
@@ -98,7 +104,7 @@ pub fn round(w: &mut [u64], at: usize, c: usize, d: usize) -> usize
     ensures { λ r. ⌜ Built 2 plain at (now (w .entry)) (now (w .exit)) (firstTree c d) r ⌝ }
 {
     let raise = called(w, at + 1, c, d);
-    let next = raised(w, raise, c, d, 1, 2);
-    choose(w, at, 0, 2, HIDDEN + c, next);
+    let next = raised(w, raise, c, d, 1, RAISE);
+    choose(w, at, 0, 2, c, d, HIDDEN, next);
     next
 }

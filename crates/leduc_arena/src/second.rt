@@ -4,17 +4,20 @@ use crate::words::TIE;
 use crate::words::WIN;
 use crate::words::choose;
 use crate::words::end;
-use crate::words::own;
 ghost use mathlib.Core.Path.{_≡_};
 ghost use Prim.Native.Nat.{_+_, _*_, _<_, _≤_};
 ghost use Rattle.arena.specs.Built.{Built, Room};
 ghost use Rattle.leduc_arena.specs.Layout.{plain, endTree, reraisedTree, raisedTree, calledTree, roundTree, showdownFor};
 
-// What a raise adds.
-const RAISE: usize = 4;
+// What a seat pays to raise.
+const BET: usize = 4;
 
-// What a history's number adds to a code.
-const STEP: usize = 42;
+// The numbers of histories: twice that of the actions before, and 42 for CALL and 84 for RAISE.
+const CALL: usize = 42;
+
+const RAISE: usize = 84;
+
+const CALL_RAISE: usize = 168;
 
 // How the showdown goes for seat 0: a pair with the public card wins, else the higher rank.
 pub fn showdown(c: usize, d: usize, p: usize) -> usize
@@ -46,13 +49,12 @@ fn reraised(
     n: usize,
     paid: usize,
 ) -> usize
-    requires { ⌜ (zero ≤ 9743) × (one ≤ 9743) × (outcome ≤ 2) × (seat < 2) × (n ≤ 10) × (paid ≤ 9) × Room at (now w) 3 ⌝ }
-    ensures { λ r. ⌜ Built 2 plain at (now (w .entry)) (now (w .exit)) (reraisedTree zero one 42 4 (λ m y. endTree outcome y) seat n paid) r ⌝ }
+    requires { ⌜ (zero ≤ 9743) × (one ≤ 9743) × (outcome ≤ 2) × (seat < 2) × (n ≤ 420) × (paid ≤ 9) × Room at (now w) 3 ⌝ }
+    ensures { λ r. ⌜ Built 2 plain at (now (w .entry)) (now (w .exit)) (reraisedTree zero one 0 42 4 (λ m y. endTree outcome y) seat n paid) r ⌝ }
 {
     let call = end(w, at + 1, 2 * seat, paid);
-    let next = end(w, call, outcome, paid + RAISE);
-    let code = own(seat, zero, one) + STEP * n;
-    choose(w, at, seat, 2, code, next);
+    let next = end(w, call, outcome, paid + BET);
+    choose(w, at, seat, 2, zero, one, n, next);
     next
 }
 
@@ -67,34 +69,25 @@ fn raised(
     n: usize,
     paid: usize,
 ) -> usize
-    requires { ⌜ (zero ≤ 9743) × (one ≤ 9743) × (outcome ≤ 2) × (seat < 2) × (n ≤ 4) × (paid ≤ 5) × Room at (now w) 6 ⌝ }
-    ensures { λ r. ⌜ Built 2 plain at (now (w .entry)) (now (w .exit)) (raisedTree zero one 42 4 (λ m y. endTree outcome y) seat n paid) r ⌝ }
+    requires { ⌜ (zero ≤ 9743) × (one ≤ 9743) × (outcome ≤ 2) × (seat < 2) × (n ≤ 168) × (paid ≤ 5) × Room at (now w) 6 ⌝ }
+    ensures { λ r. ⌜ Built 2 plain at (now (w .entry)) (now (w .exit)) (raisedTree zero one 0 42 4 (λ m y. endTree outcome y) seat n paid) r ⌝ }
 {
+    let more = paid + BET;
     let call = end(w, at + 1, 2 * seat, paid);
-    let raise = end(w, call, outcome, paid + RAISE);
-    let next = reraised(
-        w,
-        raise,
-        zero,
-        one,
-        outcome,
-        1 - seat,
-        2 * n + 2,
-        paid + RAISE,
-    );
-    let code = own(seat, zero, one) + STEP * n;
-    choose(w, at, seat, 3, code, next);
+    let raise = end(w, call, outcome, more);
+    let next = reraised(w, raise, zero, one, outcome, 1 - seat, 2 * n + RAISE, more);
+    choose(w, at, seat, 3, zero, one, n, next);
     next
 }
 
 // Lays out CALL and RAISE of seat 1 after a CALL.
 fn called(w: &mut [u64], at: usize, zero: usize, one: usize, outcome: usize, paid: usize) -> usize
     requires { ⌜ (zero ≤ 9743) × (one ≤ 9743) × (outcome ≤ 2) × (paid ≤ 5) × Room at (now w) 8 ⌝ }
-    ensures { λ r. ⌜ Built 2 plain at (now (w .entry)) (now (w .exit)) (calledTree zero one 42 4 (λ m y. endTree outcome y) paid) r ⌝ }
+    ensures { λ r. ⌜ Built 2 plain at (now (w .entry)) (now (w .exit)) (calledTree zero one 0 42 4 (λ m y. endTree outcome y) paid) r ⌝ }
 {
     let raise = end(w, at + 1, outcome, paid);
-    let next = raised(w, raise, zero, one, outcome, 0, 4, paid);
-    choose(w, at, 1, 2, one + STEP, next);
+    let next = raised(w, raise, zero, one, outcome, 0, CALL_RAISE, paid);
+    choose(w, at, 1, 2, zero, one, CALL, next);
     next
 }
 
@@ -108,10 +101,10 @@ pub fn round(
     paid: usize,
 ) -> usize
     requires { ⌜ (zero ≤ 9743) × (one ≤ 9743) × (outcome ≤ 2) × (paid ≤ 5) × Room at (now w) 15 ⌝ }
-    ensures { λ r. ⌜ Built 2 plain at (now (w .entry)) (now (w .exit)) (roundTree zero one 42 4 (λ m y. endTree outcome y) paid) r ⌝ }
+    ensures { λ r. ⌜ Built 2 plain at (now (w .entry)) (now (w .exit)) (roundTree zero one 0 42 4 (λ m y. endTree outcome y) paid) r ⌝ }
 {
     let raise = called(w, at + 1, zero, one, outcome, paid);
-    let next = raised(w, raise, zero, one, outcome, 1, 2, paid);
-    choose(w, at, 0, 2, zero, next);
+    let next = raised(w, raise, zero, one, outcome, 1, RAISE, paid);
+    choose(w, at, 0, 2, zero, one, 0, next);
     next
 }

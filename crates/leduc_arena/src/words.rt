@@ -2,12 +2,11 @@
 use arena::words::decision;
 ghost use mathlib.Core.Path.{_≡_};
 ghost use mathlib.Core.Bool.{cond};
-ghost use Prim.Native.Nat.{_<_, _≤_};
+ghost use Prim.Native.Nat.{_+_, _<_, _≤_};
 ghost use lib.Dec.{eqb};
 ghost use lib.ListN.{length, set};
-ghost use Rattle.arena.specs.Words.{decisionWord};
 ghost use Rattle.arena.specs.Built.{Built, Room};
-ghost use Rattle.leduc_arena.specs.Layout.{plain, byteFor, endTree};
+ghost use Rattle.leduc_arena.specs.Layout.{plain, byteFor, endTree, Chosen};
 
 // How an end goes for a seat.
 pub const LOSS: usize = 0;
@@ -17,7 +16,7 @@ pub const TIE: usize = 1;
 pub const WIN: usize = 2;
 
 // The code of a seat, of one for each.
-pub fn own(seat: usize, zero: usize, one: usize) -> usize
+fn own(seat: usize, zero: usize, one: usize) -> usize
     requires { ⌜ (zero ≤ 9743) × (one ≤ 9743) ⌝ }
     ensures { λ r. ⌜ (r ≡ cond (eqb seat 0) zero one) × (r ≤ 9743) ⌝ }
 {
@@ -62,11 +61,21 @@ pub fn end(w: &mut [u64], at: usize, outcome: usize, paid: usize) -> usize
     at + 1
 }
 
-// Writes the decision of a seat, whose trees end at next.
-pub fn choose(w: &mut [u64], at: usize, seat: usize, actions: usize, code: usize, next: usize)
-    requires { ⌜ (seat < 2) × (actions < 4) × (code < 16384) ⌝ }
+// Writes the decision of a seat after a history with the given number, where the trees of its actions end at next.
+pub fn choose(
+    w: &mut [u64],
+    at: usize,
+    seat: usize,
+    actions: usize,
+    zero: usize,
+    one: usize,
+    number: usize,
+    next: usize,
+)
+    requires { ⌜ (seat < 2) × (actions < 4) × (zero ≤ 9743) × (one ≤ 9743) × (number ≤ 4656) ⌝ }
     requires { ⌜ (next < 2097152) × (at < length (now w)) ⌝ }
-    ensures { λ _. ⌜ now (w .exit) ≡ set (now (w .entry)) at (decisionWord seat actions code next 0) ⌝ }
+    ensures { λ _. ⌜ Chosen at seat actions (cond (eqb seat 0) zero one + number) next (now (w .entry)) (now (w .exit)) ⌝ }
 {
+    let code = own(seat, zero, one) + number;
     write(w, at, decision(seat, actions, code, next, 0));
 }

@@ -1,22 +1,19 @@
 -- The card of seat 0: the invariant is the row of the cards passed. Assumes nothing.
 use mathlib.Core.Path.{refl}
-use Prim.Native.Nat.{_+_, _-_, _≤_}
+use mathlib.Core.Bool.{true}
+use Prim.Native.Nat.{_-_, _≤_}
 use native.Mathlib.Omega.{arith}
 use borrow.Author.Needs.{needs}
 use Rattle.game.specs.Sets.{size}
 use Rattle.arena.specs.Built.{Row}
-use mathlib.Core.Bool.{true}
 use Rattle.leduc_arena.specs.Layout.{plain, rowTo, dealTree, dealsTree}
-use Rattle.leduc_arena.proofs.Laying.{first-room, row-fits, row-start, row-on, row-done, keeps, kept-room, child-room, lays-chance}
 use Rattle.leduc_arena.proofs.Agreeing.{deals-room, deals-built}
-use borrow.Author.Needs.{needs}
-use borrow.Author.Needs.{needs}
-use borrow.Author.Needs.{needs}
+use Rattle.leduc_arena.proofs.Laying.{first-room, row-fits, lays-chance, keeps, kept-room, row-start, row-done, row-on, child-room}
 use Rattle.leduc_arena.proofs.build.Statement.{statement}
 use Rattle.leduc_arena.proofs.build.Tie as tie
 
 abbrev Inv-loop : tie.InvT-loop
-Inv-loop w₀ next₀ c₀ w next c = Row 2 plain 1 w₀ w (rowTo (λ x. true) (dealTree) c) next × (c ≤ 6)
+Inv-loop w₀ next₀ c₀ w next c = Row 2 plain 1 w₀ w (rowTo (λ x. true) dealTree c) next × (c ≤ 6)
 
 abbrev μ-loop : tie.MeasureT-loop
 μ-loop w₀ next₀ c₀ w next c = 6 - c
@@ -53,17 +50,4 @@ unfolding dealsTree size
 returns c = deals-built _ _ _ (lays-chance (deals-room _ (c .before .before .before .before .before .before .before .before .pre)) (row-done _ _ _ _ _ _ _ (c .before .before .before .before .before .before .loop .inv .0) (c .before .before .before .before .before .before .loop .inv .1) (c .before .before .before .before .before .loop-test .left)) refl (c .before .before .before .chance .ensures) (c .before .before .write .ensures))
 
 pub build-spec : {M : Type 1} → statement M
-build-spec =
-    tie.close
-    (tie.spec
-    Inv-loop
-    μ-loop
-    loop-holds
-    deal-requires
-    add-c
-    loop-less
-    loop-again
-    chance-requires
-    write-requires
-    same-length
-    returns)
+build-spec = tie.close (tie.spec Inv-loop μ-loop loop-holds deal-requires add-c loop-less loop-again chance-requires write-requires same-length returns)

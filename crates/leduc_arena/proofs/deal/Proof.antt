@@ -1,17 +1,14 @@
 -- The card of seat 1: the invariant is the row of the cards passed. Assumes nothing.
 use mathlib.Core.Path.{refl}
+use mathlib.Core.Bool.{not}
 use Prim.Native.Nat.{_+_, _-_, _≤_}
 use native.Mathlib.Omega.{arith}
+use lib.Dec.{eqb}
 use borrow.Author.Needs.{needs}
 use Rattle.game.specs.Sets.{size}
 use Rattle.arena.specs.Built.{Row}
-use mathlib.Core.Bool.{not}
-use lib.Dec.{eqb}
 use Rattle.leduc_arena.specs.Layout.{plain, rowTo, firstTree, dealTree}
-use Rattle.leduc_arena.proofs.Laying.{first-room, row-fits, row-start, row-on, row-done, child-room, lays-chance}
-use borrow.Author.Needs.{needs}
-use borrow.Author.Needs.{needs}
-use borrow.Author.Needs.{needs}
+use Rattle.leduc_arena.proofs.Laying.{first-room, row-fits, lays-chance, row-start, row-done, row-on, child-room}
 use Rattle.leduc_arena.proofs.deal.Statement.{statement}
 use Rattle.leduc_arena.proofs.deal.Tie as tie
 
@@ -56,18 +53,4 @@ unfolding dealTree size
 returns c = lays-chance (c .before .before .before .before .before .before .before .before .pre .1) (row-done _ _ _ _ _ _ _ (c .before .before .before .before .before .before .loop .inv .0) (c .before .before .before .before .before .before .loop .inv .1) (c .before .before .before .before .before .loop-test .left)) refl (c .before .before .before .chance .ensures) (c .before .before .write .ensures)
 
 pub deal-spec : {M : Type 1} → statement M
-deal-spec =
-    tie.close
-    (tie.spec
-    Inv-loop
-    μ-loop
-    add-next
-    loop-holds
-    dealt-requires
-    add-d
-    loop-less
-    loop-again
-    chance-requires
-    write-requires
-    same-length
-    returns)
+deal-spec = tie.close (tie.spec Inv-loop μ-loop add-next loop-holds dealt-requires add-d loop-less loop-again chance-requires write-requires same-length returns)

@@ -1,11 +1,11 @@
 -- The hand of two cards, if they differ. Assumes nothing.
-use native.Mathlib.Omega.{arith}
 use mathlib.Core.Path.{_≡_, refl}
 use mathlib.Core.Bool.{true, not}
+use Prim.Native.Nat.{_-_}
 use lib.Dec.{eqb}
 use borrow.Author.Tests.{eq-eqb, ne-eqb}
-use Rattle.leduc_arena.proofs.Laying.{kept-room, keeps, passes}
 use borrow.Author.Needs.{needs}
+use Rattle.leduc_arena.proofs.Laying.{passes, keeps, kept-room}
 use Rattle.leduc_arena.proofs.dealt.Statement.{statement}
 use Rattle.leduc_arena.proofs.dealt.Tie as tie
 
@@ -13,7 +13,7 @@ returns : tie.Need-returns
 returns c = passes _ _ _ _ _ (rw (eq-eqb _ _ (c .if1 .taken)) refl)
 
 round-requires : tie.Need-round-requires
-round-requires c κs = let kept : not (eqb (c .before .before .before .args .d) (c .before .before .before .args .c)) ≡ true = (rw (ne-eqb _ _ (c .before .if1 .left)) refl) in (c .before .before .before .pre .0, kept-room _ _ _ _ _ kept (c .before .before .before .pre .1))
+round-requires c κs = let kept : not (eqb (c .before .before .before .args .d) (c .before .before .before .args .c)) ≡ true = rw (ne-eqb _ _ (c .before .if1 .left)) refl in (c .before .before .before .pre .0, kept-room _ _ _ _ _ kept (c .before .before .before .pre .1))
 
 same-length : tie.Need-same-length
 same-length c = search needs

@@ -1,12 +1,12 @@
 -- CALL and RAISE after a CALL of the first round. Assumes nothing.
+use mathlib.Core.Path.{refl}
+use Prim.Native.Nat.{_-_}
 use native.Mathlib.Omega.{arith}
-use mathlib.Core.Path.{refl, ap, _∙_}
-use Prim.Native.Nat.{_+_, _*_}
-use Rattle.game.specs.Sets.{size}
-use Rattle.game.specs.Tree.{fan}
-use Rattle.leduc_arena.proofs.Laying.{first-room, next-room, row-of-one, row-of-two, row-of-three, row-fits, lays-decision}
-use Rattle.leduc_arena.specs.Layout.{calledTree}
 use borrow.Author.Needs.{needs}
+use Rattle.game.specs.Tree.{fan}
+use Rattle.game.specs.Sets.{size}
+use Rattle.leduc_arena.specs.Layout.{calledTree}
+use Rattle.leduc_arena.proofs.Laying.{first-room, next-room, row-fits, lays-decision, row-of-one, row-of-two}
 use Rattle.leduc_arena.proofs.first.called.Statement.{statement}
 use Rattle.leduc_arena.proofs.first.called.Tie as tie
 
@@ -24,29 +24,16 @@ raised-requires c κs = ((c .before .before .before .before .before .before .pre
 add-choose : tie.Need-add-choose
 add-choose c = search needs
 
-add-choose-2 : tie.Need-add-choose-2
-add-choose-2 c = search needs
-
 choose-requires : tie.Need-choose-requires
 unfolding calledTree size
-choose-requires c κs = ((omega arith, omega arith, omega arith), row-fits (c .before .before .before .before .before .before .before .before .before .before .pre .1) (row-of-two (c .before .before .before .before .before .before .before .public .ensures) (c .before .before .before .raised .ensures)) (omega arith))
+choose-requires c κs = ((omega arith, omega arith, omega arith, omega arith, omega arith), row-fits (c .before .before .before .before .before .before .before .before .before .before .pre .1) (row-of-two (c .before .before .before .before .before .before .before .public .ensures) (c .before .before .before .raised .ensures)) (omega arith))
 
 same-length : tie.Need-same-length
 same-length c = search needs
 
 returns : tie.Need-returns
 unfolding calledTree size fan
-returns c = lays-decision (c .before .before .before .before .before .before .before .before .before .before .before .before .before .pre .1) (row-of-two (c .before .before .before .before .before .before .before .before .before .before .public .ensures) (c .before .before .before .before .before .before .raised .ensures)) (omega arith) _ (omega arith) (omega arith) (omega arith) (omega arith) refl (c .before .before .choose .ensures)
+returns c = lays-decision (c .before .before .before .before .before .before .before .before .before .before .before .before .before .pre .1) (row-of-two (c .before .before .before .before .before .before .before .before .before .before .public .ensures) (c .before .before .before .before .before .before .raised .ensures)) (omega arith) _ (omega arith) refl (omega arith) (c .before .before .choose .ensures)
 
 pub called-spec : {M : Type 1} → statement M
-called-spec =
-    tie.close
-    (tie.spec
-    add-public
-    public-requires
-    raised-requires
-    add-choose
-    add-choose-2
-    choose-requires
-    same-length
-    returns)
+called-spec = tie.close (tie.spec add-public public-requires raised-requires add-choose choose-requires same-length returns)

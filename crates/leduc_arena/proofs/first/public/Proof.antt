@@ -6,10 +6,7 @@ use borrow.Author.Needs.{needs}
 use Rattle.game.specs.Sets.{size}
 use Rattle.arena.specs.Built.{Row}
 use Rattle.leduc_arena.specs.Layout.{plain, rowTo, other, secondTree, publicTree}
-use Rattle.leduc_arena.proofs.Laying.{first-room, row-fits, row-start, row-on, row-done, child-room, lays-chance}
-use borrow.Author.Needs.{needs}
-use borrow.Author.Needs.{needs}
-use borrow.Author.Needs.{needs}
+use Rattle.leduc_arena.proofs.Laying.{first-room, row-fits, lays-chance, row-start, row-done, row-on, child-room}
 use Rattle.leduc_arena.proofs.first.public.Statement.{statement}
 use Rattle.leduc_arena.proofs.first.public.Tie as tie
 
@@ -54,18 +51,4 @@ unfolding publicTree size
 returns c = lays-chance (c .before .before .before .before .before .before .before .before .pre .1) (row-done _ _ _ _ _ _ _ (c .before .before .before .before .before .before .loop .inv .0) (c .before .before .before .before .before .before .loop .inv .1) (c .before .before .before .before .before .loop-test .left)) refl (c .before .before .before .chance .ensures) (c .before .before .write .ensures)
 
 pub public-spec : {M : Type 1} → statement M
-public-spec =
-    tie.close
-    (tie.spec
-    Inv-loop
-    μ-loop
-    add-next
-    loop-holds
-    shown-requires
-    add-p
-    loop-less
-    loop-again
-    chance-requires
-    write-requires
-    same-length
-    returns)
+public-spec = tie.close (tie.spec Inv-loop μ-loop add-next loop-holds shown-requires add-p loop-less loop-again chance-requires write-requires same-length returns)

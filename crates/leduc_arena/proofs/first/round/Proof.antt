@@ -1,12 +1,12 @@
 -- The first round. Assumes nothing.
+use mathlib.Core.Path.{refl}
+use Prim.Native.Nat.{_-_}
 use native.Mathlib.Omega.{arith}
-use mathlib.Core.Path.{refl, ap, _∙_}
-use Prim.Native.Nat.{_+_, _*_}
-use Rattle.game.specs.Sets.{size}
-use Rattle.game.specs.Tree.{fan}
-use Rattle.leduc_arena.proofs.Laying.{first-room, next-room, row-of-one, row-of-two, row-of-three, row-fits, lays-decision}
-use Rattle.leduc_arena.specs.Layout.{roundTree, firstTree}
 use borrow.Author.Needs.{needs}
+use Rattle.game.specs.Tree.{fan}
+use Rattle.game.specs.Sets.{size}
+use Rattle.leduc_arena.specs.Layout.{roundTree, firstTree}
+use Rattle.leduc_arena.proofs.Laying.{first-room, next-room, row-fits, lays-decision, row-of-one, row-of-two}
 use Rattle.leduc_arena.proofs.first.round.Statement.{statement}
 use Rattle.leduc_arena.proofs.first.round.Tie as tie
 
@@ -21,28 +21,16 @@ raised-requires : tie.Need-raised-requires
 unfolding roundTree firstTree size
 raised-requires c κs = ((c .before .before .before .before .before .before .pre .0 .0, c .before .before .before .before .before .before .pre .0 .1, omega arith, omega arith), next-room (c .before .before .before .before .before .before .pre .1) (row-of-one (c .before .before .before .called .ensures)) _ (omega arith))
 
-add-choose : tie.Need-add-choose
-add-choose c = search needs
-
 choose-requires : tie.Need-choose-requires
 unfolding roundTree firstTree size
-choose-requires c κs = ((omega arith, omega arith, omega arith), row-fits (c .before .before .before .before .before .before .before .before .before .before .pre .1) (row-of-two (c .before .before .before .before .before .before .before .called .ensures) (c .before .before .before .raised .ensures)) (omega arith))
+choose-requires c κs = ((omega arith, omega arith, omega arith, omega arith, omega arith), row-fits (c .before .before .before .before .before .before .before .before .before .before .pre .1) (row-of-two (c .before .before .before .before .before .before .before .called .ensures) (c .before .before .before .raised .ensures)) (omega arith))
 
 same-length : tie.Need-same-length
 same-length c = search needs
 
 returns : tie.Need-returns
 unfolding roundTree firstTree size fan
-returns c = lays-decision (c .before .before .before .before .before .before .before .before .before .before .before .before .before .pre .1) (row-of-two (c .before .before .before .before .before .before .before .before .before .before .called .ensures) (c .before .before .before .before .before .before .raised .ensures)) (omega arith) _ (omega arith) (omega arith) (omega arith) (omega arith) refl (c .before .before .choose .ensures)
+returns c = lays-decision (c .before .before .before .before .before .before .before .before .before .before .before .before .before .pre .1) (row-of-two (c .before .before .before .before .before .before .before .before .before .before .called .ensures) (c .before .before .before .before .before .before .raised .ensures)) (omega arith) _ (omega arith) refl (omega arith) (c .before .before .choose .ensures)
 
 pub round-spec : {M : Type 1} → statement M
-round-spec =
-    tie.close
-    (tie.spec
-    add-called
-    called-requires
-    raised-requires
-    add-choose
-    choose-requires
-    same-length
-    returns)
+round-spec = tie.close (tie.spec add-called called-requires raised-requires choose-requires same-length returns)

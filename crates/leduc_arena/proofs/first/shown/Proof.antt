@@ -1,13 +1,13 @@
 -- The second round of a public card, if that may be dealt. Assumes nothing.
-use native.Mathlib.Omega.{arith}
-use mathlib.Core.Path.{_≡_, refl, sym, ap, subst}
+use mathlib.Core.Path.{_≡_, refl}
 use mathlib.Core.Bool.{true}
+use Prim.Native.Nat.{_-_}
+use native.Mathlib.Omega.{arith}
 use borrow.Author.Tests.{eq-eqb, ne-eqb}
-use Rattle.game.specs.Sets.{size}
-use Rattle.arena.specs.Built.{Built, Room}
-use Rattle.leduc_arena.specs.Layout.{plain, other, endTree, reraisedTree, raisedTree, calledTree, roundTree, secondTree}
-use Rattle.leduc_arena.proofs.Laying.{kept-room, keeps, passes}
 use borrow.Author.Needs.{needs}
+use Rattle.game.specs.Sets.{size}
+use Rattle.leduc_arena.specs.Layout.{endTree, reraisedTree, raisedTree, calledTree, roundTree, other, secondTree}
+use Rattle.leduc_arena.proofs.Laying.{passes, keeps, kept-room}
 use Rattle.leduc_arena.proofs.first.shown.Statement.{statement}
 use Rattle.leduc_arena.proofs.first.shown.Tie as tie
 
@@ -19,9 +19,6 @@ returns-2 c = passes _ _ _ _ _ (rw (ne-eqb _ _ (c .before .if1 .left), eq-eqb _ 
 
 mul-code : tie.Need-mul-code
 mul-code c = search needs
-
-mul-code-2 : tie.Need-mul-code-2
-mul-code-2 c = search needs
 
 add-code : tie.Need-add-code
 add-code c = search needs
@@ -37,7 +34,7 @@ showdown-requires c κs = search needs
 
 round-requires : tie.Need-round-requires
 unfolding endTree reraisedTree raisedTree calledTree roundTree secondTree size
-round-requires c κs = let kept : other (c .before .before .before .before .before .args .c) (c .before .before .before .before .before .args .d) (c .before .before .before .before .before .args .p) ≡ true = (rw (ne-eqb _ _ (c .before .before .before .if1 .left), ne-eqb _ _ (c .before .before .if2 .left)) refl) in
+round-requires c κs = let kept : other (c .before .before .before .before .before .args .c) (c .before .before .before .before .before .args .d) (c .before .before .before .before .before .args .p) ≡ true = rw (ne-eqb _ _ (c .before .before .before .if1 .left), ne-eqb _ _ (c .before .before .if2 .left)) refl in
     (omega arith, omega arith, c .showdown .ensures .1, c .before .before .before .before .before .pre .0 .3, kept-room _ _ _ _ _ kept (c .before .before .before .before .before .pre .1))
 
 same-length : tie.Need-same-length
@@ -45,21 +42,8 @@ same-length c = search needs
 
 returns-3 : tie.Need-returns-3
 unfolding secondTree
-returns-3 c = let kept : other (c .before .before .before .before .before .before .before .before .args .c) (c .before .before .before .before .before .before .before .before .args .d) (c .before .before .before .before .before .before .before .before .args .p) ≡ true = (rw (ne-eqb _ _ (c .before .before .before .before .before .before .if1 .left), ne-eqb _ _ (c .before .before .before .before .before .if2 .left)) refl) in
+returns-3 c = let kept : other (c .before .before .before .before .before .before .before .before .args .c) (c .before .before .before .before .before .before .before .before .args .d) (c .before .before .before .before .before .before .before .before .args .p) ≡ true = rw (ne-eqb _ _ (c .before .before .before .before .before .before .if1 .left), ne-eqb _ _ (c .before .before .before .before .before .if2 .left)) refl in
     keeps _ _ _ _ _ kept (rw (c .before .before .before .showdown .ensures .0) at (c .before .before .round .ensures))
 
 pub shown-spec : {M : Type 1} → statement M
-shown-spec =
-    tie.close
-    (tie.spec
-    returns
-    returns-2
-    mul-code
-    mul-code-2
-    add-code
-    add-round
-    add-round-2
-    showdown-requires
-    round-requires
-    same-length
-    returns-3)
+shown-spec = tie.close (tie.spec returns returns-2 mul-code add-code add-round add-round-2 showdown-requires round-requires same-length returns-3)

@@ -1,12 +1,13 @@
 -- FOLD and CALL after two raises of the second round. Assumes nothing.
+use mathlib.Core.Path.{refl}
+use Prim.Native.Nat.{_-_}
+use native.Mathlib.Nat as NatL
 use native.Mathlib.Omega.{arith}
-use mathlib.Core.Path.{refl, ap, _∙_}
-use Prim.Native.Nat.{_+_, _*_}
-use Rattle.game.specs.Sets.{size}
-use Rattle.game.specs.Tree.{fan}
-use Rattle.leduc_arena.proofs.Laying.{first-room, next-room, row-of-one, row-of-two, row-of-three, row-fits, lays-decision}
-use Rattle.leduc_arena.specs.Layout.{endTree, reraisedTree}
 use borrow.Author.Needs.{needs}
+use Rattle.game.specs.Tree.{fan}
+use Rattle.game.specs.Sets.{size}
+use Rattle.leduc_arena.specs.Layout.{endTree, reraisedTree}
+use Rattle.leduc_arena.proofs.Laying.{next-room, row-fits, lays-decision, row-of-one, row-of-two}
 use Rattle.leduc_arena.proofs.second.reraised.Statement.{statement}
 use Rattle.leduc_arena.proofs.second.reraised.Tie as tie
 
@@ -26,38 +27,16 @@ end-requires-2 : tie.Need-end-requires-2
 unfolding endTree reraisedTree size
 end-requires-2 c κs = (omega arith, omega arith, next-room (c .before .before .before .before .before .before .pre .6) (row-of-one (c .before .before .before .end .ensures)) _ (omega arith))
 
-own-requires : tie.Need-own-requires
-own-requires c κs = search needs
-
-mul-code : tie.Need-mul-code
-mul-code c = search needs
-
-add-code : tie.Need-add-code
-add-code c = record { fits = omega (arith, c .own .ensures .1) }
-
 choose-requires : tie.Need-choose-requires
 unfolding endTree reraisedTree size
-choose-requires c κs = ((omega arith, omega arith, omega (arith, c .before .own .ensures .1)), row-fits (c .before .before .before .before .before .before .before .before .before .before .before .pre .6) (row-of-two (c .before .before .before .before .before .before .before .before .end .ensures) (c .before .before .before .before .end2 .ensures)) (omega arith))
+choose-requires c κs = ((omega arith, omega arith, c .before .before .before .before .before .before .before .before .before .before .pre .0, c .before .before .before .before .before .before .before .before .before .before .pre .1, omega arith), row-fits (c .before .before .before .before .before .before .before .before .before .before .pre .6) (row-of-two (c .before .before .before .before .before .before .before .end .ensures) (c .before .before .before .end2 .ensures)) (omega arith))
 
 same-length : tie.Need-same-length
 same-length c = search needs
 
 returns : tie.Need-returns
 unfolding endTree reraisedTree size fan
-returns c = lays-decision (c .before .before .before .before .before .before .before .before .before .before .before .before .before .before .pre .6) (row-of-two (c .before .before .before .before .before .before .before .before .before .before .before .end .ensures) (c .before .before .before .before .before .before .before .end2 .ensures)) (omega arith) _ (omega arith) (omega arith) (omega (arith, c .before .before .before .before .own .ensures .1)) (ap (λ k. k + 42 * c .before .before .before .before .before .before .before .before .before .before .before .before .before .before .args .n) (c .before .before .before .before .own .ensures .0)) refl (c .before .before .choose .ensures)
+returns c = rw (NatL.add-zero (c .before .before .before .before .before .before .before .before .before .before .before .before .before .args .n)) (lays-decision (c .before .before .before .before .before .before .before .before .before .before .before .before .before .pre .6) (row-of-two (c .before .before .before .before .before .before .before .before .before .before .end .ensures) (c .before .before .before .before .before .before .end2 .ensures)) (omega arith) _ (omega arith) refl (omega arith) (c .before .before .choose .ensures))
 
 pub reraised-spec : {M : Type 1} → statement M
-reraised-spec =
-    tie.close
-    (tie.spec
-    add-end
-    mul-end
-    end-requires
-    add-end-2
-    end-requires-2
-    own-requires
-    mul-code
-    add-code
-    choose-requires
-    same-length
-    returns)
+reraised-spec = tie.close (tie.spec add-end mul-end end-requires add-end-2 end-requires-2 choose-requires same-length returns)

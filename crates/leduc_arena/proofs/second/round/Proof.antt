@@ -1,12 +1,12 @@
 -- The second round. Assumes nothing.
+use mathlib.Core.Path.{refl}
+use Prim.Native.Nat.{_-_}
 use native.Mathlib.Omega.{arith}
-use mathlib.Core.Path.{refl, ap, _∙_}
-use Prim.Native.Nat.{_+_, _*_}
-use Rattle.game.specs.Sets.{size}
-use Rattle.game.specs.Tree.{fan}
-use Rattle.leduc_arena.proofs.Laying.{first-room, next-room, row-of-one, row-of-two, row-of-three, row-fits, lays-decision}
-use Rattle.leduc_arena.specs.Layout.{endTree, reraisedTree, raisedTree, calledTree, roundTree}
 use borrow.Author.Needs.{needs}
+use Rattle.game.specs.Tree.{fan}
+use Rattle.game.specs.Sets.{size}
+use Rattle.leduc_arena.specs.Layout.{endTree, reraisedTree, raisedTree, calledTree, roundTree}
+use Rattle.leduc_arena.proofs.Laying.{next-room, row-fits, lays-decision, row-of-one, row-of-two}
 use Rattle.leduc_arena.proofs.second.round.Statement.{statement}
 use Rattle.leduc_arena.proofs.second.round.Tie as tie
 
@@ -22,16 +22,14 @@ raised-requires c κs = (c .before .before .before .before .before .before .pre 
 
 choose-requires : tie.Need-choose-requires
 unfolding endTree reraisedTree raisedTree calledTree roundTree size
-choose-requires c κs = ((omega arith, omega arith, omega arith), row-fits (c .before .before .before .before .before .before .before .before .before .before .pre .4) (row-of-two (c .before .before .before .before .before .before .before .called .ensures) (c .before .before .before .raised .ensures)) (omega arith))
+choose-requires c κs = ((omega arith, omega arith, c .before .before .before .before .before .before .before .before .before .before .pre .0, c .before .before .before .before .before .before .before .before .before .before .pre .1, omega arith), row-fits (c .before .before .before .before .before .before .before .before .before .before .pre .4) (row-of-two (c .before .before .before .before .before .before .before .called .ensures) (c .before .before .before .raised .ensures)) (omega arith))
 
 same-length : tie.Need-same-length
 same-length c = search needs
 
 returns : tie.Need-returns
 unfolding endTree reraisedTree raisedTree calledTree roundTree size fan
-returns c = lays-decision (c .before .before .before .before .before .before .before .before .before .before .before .before .before .pre .4) (row-of-two (c .before .before .before .before .before .before .before .before .before .before .called .ensures) (c .before .before .before .before .before .before .raised .ensures)) (omega arith) _ (omega arith) (omega arith) (omega arith) (omega arith) refl (c .before .before .choose .ensures)
+returns c = lays-decision (c .before .before .before .before .before .before .before .before .before .before .before .before .before .pre .4) (row-of-two (c .before .before .before .before .before .before .before .before .before .before .called .ensures) (c .before .before .before .before .before .before .raised .ensures)) (omega arith) _ (omega arith) refl (omega arith) (c .before .before .choose .ensures)
 
 pub round-spec : {M : Type 1} → statement M
-round-spec =
-    tie.close
-    (tie.spec add-called called-requires raised-requires choose-requires same-length returns)
+round-spec = tie.close (tie.spec add-called called-requires raised-requires choose-requires same-length returns)
