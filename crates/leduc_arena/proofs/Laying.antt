@@ -8,7 +8,9 @@ use native.Mathlib.Omega.{arith}
 use lib.Dec.{eqb}
 use lib.IntN.{pos, _-ℤ_}
 use lib.ListN.{length, set}
-use Rattle.game.specs.Tree.{Tree, end, chance, decide, Trees, nil, cons, fan}
+use mir.Syntax.{w64}
+use mir.Val.{Fits}
+use Rattle.game.specs.Tree.{Key, Tree, end, chance, decide, Trees, nil, cons, fan}
 use Rattle.game.specs.Sets.{size, sizes}
 use Rattle.arena.specs.Words.{byteOf, chanceWord, decisionWord}
 use Rattle.arena.specs.Held.{Says}
@@ -27,15 +29,18 @@ lays-end at e x a b w v g i j k l h = built-end 2 plain at (4 * a + 1024 * b) w 
     pays (suc zero) n = ap (λ y. pos y -ℤ pos 64) (let z : byteOf (4 * a + 1024 * b) 1 ≡ b = omega arith in z ∙ k)
     pays (suc (suc s)) n = absurd (omega arith)
 
--- ---- the children of a node at place at, where there is room for z nodes
+-- ---- a node at place at, where there is room for z nodes
 module _ {at z : ℕ} {w : List ℕ} (g : Room at w z) where
+  pub place-fits : Fits w64 (at + 1)
+  place-fits = record { fits = omega (arith, g .places) }
+
   pub first-room : (y : ℕ) → y < z → Room (at + 1) w y
   first-room y l = record { words = omega (arith, g .words); places = omega (arith, g .places) }
 
-  pub next-room : {v : List ℕ} {f : Trees} {r : ℕ} → Row 2 plain (at + 1) w v f r → (y : ℕ) → sizes f + y < z → Room r v y
+  next-room : {v : List ℕ} {f : Trees} {r : ℕ} → Row 2 plain (at + 1) w v f r → (y : ℕ) → sizes f + y < z → Room r v y
   next-room b y l = record { words = rw (b .kept .long) (omega (arith, g .words, b .next)); places = omega (arith, g .places, b .next) }
 
-  -- the whole row stands
+  -- over the whole row of its children
   module _ {v : List ℕ} {f : Trees} {r : ℕ} (b : Row 2 plain (at + 1) w v f r) (e : suc (sizes f) ≡ z) where
     behind-few : r < 2097152
     behind-few = omega (arith, g .places, b .next)
@@ -53,10 +58,11 @@ module _ {at z : ℕ} {w : List ℕ} (g : Room at w z) where
     unfolding Says size
     lays-chance {u} {x} q i = built-chance 2 plain at x w v u f r row (omega (arith, g .words)) i (rw q (chance-kind r, chance-next r behind-few ∙ behind))
 
-    pub lays-decision : {u : List ℕ} {j n : ℕ} (k : ℕ) → j < 2 → fan f ≡ n → n < 4 → Chosen at j n k r v u → Built 2 plain at w u (decide j (k ∷ []) f) r
+    lays-decision : {u : List ℕ} {j n k : ℕ} → fan f ≡ n → Chosen at j n k r v u → Built 2 plain at w u (decide j (k ∷ []) f) r
     unfolding Says size
-    lays-decision {u} {j} {n} k l q m c =
-        let a : j < 8 = omega arith in
+    lays-decision {u} {j} {n} {k} q c =
+        let a : j < 8 = omega (arith, c .seat) in
+        let m : n < 4 = c .few in
         let d : k < 16384 = c .small in
         let o : 0 < 2097152 = omega arith in
         built-decide 2 plain at (decisionWord j n k r 0) w v u j (k ∷ []) f r row (omega (arith, g .words)) (c .word) (
@@ -68,17 +74,72 @@ module _ {at z : ℕ} {w : List ℕ} (g : Room at w z) where
           later-of j n k r 0 a m d behind-few o,
         )
 
--- one child, two, and three
-pub row-of-one : {a r : ℕ} {w v : List ℕ} {t : Tree} → Built 2 plain a w v t r → Row 2 plain a w v (cons t nil) r
-row-of-one {a} {r} {w} {v} {t} h = row-one 2 plain a w v t r h
-
-pub row-of-two : {a r q : ℕ} {w v u : List ℕ} {t s : Tree} → Built 2 plain a w v t r → Built 2 plain r v u s q → Row 2 plain a w u (cons t (cons s nil)) q
+-- ---- a decision with two or three children, one after the other
+row-two : {a r q : ℕ} {w v u : List ℕ} {t s : Tree} → Built 2 plain a w v t r → Built 2 plain r v u s q → Row 2 plain a w u (cons t (cons s nil)) q
 unfolding snoc
-row-of-two {a} {r} {q} {w} {v} {u} {t} {s} h g = row-more 2 plain a w v u (cons t nil) s r q (row-of-one h) g
+row-two {a} {r} {q} {w} {v} {u} {t} {s} h g = row-more 2 plain a w v u (cons t nil) s r q (row-one 2 plain a w v t r h) g
 
-pub row-of-three : {a r q p : ℕ} {w v u x : List ℕ} {t s o : Tree} → Built 2 plain a w v t r → Built 2 plain r v u s q → Built 2 plain q u x o p → Row 2 plain a w x (cons t (cons s (cons o nil))) p
+row-three : {a r q p : ℕ} {w v u x : List ℕ} {t s o : Tree} → Built 2 plain a w v t r → Built 2 plain r v u s q → Built 2 plain q u x o p → Row 2 plain a w x (cons t (cons s (cons o nil))) p
 unfolding snoc
-row-of-three {a} {r} {q} {p} {w} {v} {u} {x} {t} {s} {o} h g i = row-more 2 plain a w u x (cons t (cons s nil)) o q p (row-of-two h g) i
+row-three {a} {r} {q} {p} {w} {v} {u} {x} {t} {s} {o} h g i = row-more 2 plain a w u x (cons t (cons s nil)) o q p (row-two h g) i
+
+pub room-one : {at : ℕ} {w : List ℕ} (j : ℕ) (k : Key) (t : Tree) (f : Trees) → Room at w (size (decide j k (cons t f))) → Room (at + 1) w (size t)
+unfolding size
+room-one j k t f g = first-room g (size t) (omega arith)
+
+module _ {at : ℕ} {w : List ℕ} (j : ℕ) (k : Key) (t s : Tree) (f : Trees) where
+  module _ {v : List ℕ} {r : ℕ} (h : Built 2 plain (at + 1) w v t r) where
+    pub room-two : Room at w (size (decide j k (cons t (cons s f)))) → Room r v (size s)
+    unfolding size
+    room-two g = next-room g (row-one 2 plain (at + 1) w v t r h) (size s) (omega arith)
+
+    module _ {u : List ℕ} {q : ℕ} (i : Built 2 plain r v u s q) where
+      pub room-three : (o : Tree) → Room at w (size (decide j k (cons t (cons s (cons o f))))) → Room q u (size o)
+      unfolding size
+      room-three o g = next-room g (row-two h i) (size o) (omega arith)
+
+module _ {at r q : ℕ} {w v u : List ℕ} (j : ℕ) (k : Key) {t s : Tree} (h : Built 2 plain (at + 1) w v t r) (i : Built 2 plain r v u s q) where
+  pub two-fit : Room at w (size (decide j k (cons t (cons s nil)))) → (q < 2097152) × (at < length u)
+  unfolding size
+  two-fit g = row-fits g (row-two h i) refl
+
+  pub lays-two : {x : List ℕ} {m : ℕ} → Room at w (size (decide j k (cons t (cons s nil)))) → Chosen at j 2 m q u x → Built 2 plain at w x (decide j (m ∷ []) (cons t (cons s nil))) q
+  unfolding size fan
+  lays-two g c = lays-decision g (row-two h i) refl refl c
+
+  module _ {x : List ℕ} {p : ℕ} {o : Tree} (l : Built 2 plain q u x o p) where
+    pub three-fit : Room at w (size (decide j k (cons t (cons s (cons o nil))))) → (p < 2097152) × (at < length x)
+    unfolding size
+    three-fit g = row-fits g (row-three h i l) refl
+
+    pub lays-three : {y : List ℕ} {m : ℕ} → Room at w (size (decide j k (cons t (cons s (cons o nil))))) → Chosen at j 3 m p x y → Built 2 plain at w y (decide j (m ∷ []) (cons t (cons s (cons o nil)))) p
+    unfolding size fan
+    lays-three g c = lays-decision g (row-three h i l) refl refl c
+
+-- ---- the numbers stay small
+module _ {j : ℕ} (l : j < 2) where
+  pub fold-few : 2 * j ≤ 2
+  fold-few = omega arith
+
+  pub other-seat : 1 - j < 2
+  other-seat = omega arith
+
+-- of the second round, after one raise and after two
+pub raised-few : {n x : ℕ} → n ≤ 168 → x ≤ 5 → (n ≤ 4656) × (2 * n + 84 ≤ 420) × (x ≤ 13) × (x + 4 ≤ 9) × (x + 4 ≤ 13)
+raised-few h g = (omega arith, omega arith, omega arith, omega arith, omega arith)
+
+pub reraised-few : {n x : ℕ} → n ≤ 420 → x ≤ 9 → (n ≤ 4656) × (x ≤ 13) × (x + 4 ≤ 13)
+reraised-few h g = (omega arith, omega arith, omega arith)
+
+-- of the first
+pub once-few : {n : ℕ} → n ≤ 1848 → (2 * n + 462 ≤ 9702) × (2 * n + 924 ≤ 4620) × (n + 36 ≤ 4656)
+once-few h = (omega arith, omega arith, omega arith)
+
+pub twice-few : {n : ℕ} → n ≤ 4620 → (2 * n + 462 ≤ 9702) × (n + 36 ≤ 4656)
+twice-few h = (omega arith, omega arith)
+
+pub card-few : {c : ℕ} → c < 6 → c ≤ 9743
+card-few l = omega arith
 
 -- ---- the tree of a number that is kept, or not
 module _ (g : ℕ → Tree) (x : ℕ) (b : Bool) (at : ℕ) (w : List ℕ) where

@@ -94,7 +94,9 @@ unfoldable pub dealsTree : Tree
 unfolding dealTree rowTo
 dealsTree = chance (rowTo (λ c. true) dealTree 6)
 
--- the word at place a, and no other, is now that of seat j's decision over n trees that end at r, and its code is small
+-- the word at place a, and no other, is now that of seat j's decision over n trees that end at r, and its numbers are small
 pub record Chosen (a j n code r : ℕ) (old new : List ℕ) : Type 0 where
+  pub seat : j < 2
+  pub few : n < 4
   pub word : new ≡ set old a (decisionWord j n code r 0)
   pub small : code < 16384

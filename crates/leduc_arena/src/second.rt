@@ -6,10 +6,11 @@ use crate::words::choose;
 use crate::words::end;
 ghost use mathlib.Core.Path.{_≡_};
 ghost use Prim.Native.Nat.{_+_, _*_, _<_, _≤_};
+ghost use Rattle.game.specs.Sets.{size};
 ghost use Rattle.arena.specs.Built.{Built, Room};
 ghost use Rattle.leduc_arena.specs.Layout.{plain, endTree, reraisedTree, raisedTree, calledTree, roundTree, showdownFor};
 
-// What a seat pays to raise.
+// What a raise adds.
 const BET: usize = 4;
 
 // The numbers of histories: twice that of the actions before, and 42 for CALL and 84 for RAISE.
@@ -49,7 +50,8 @@ fn reraised(
     n: usize,
     paid: usize,
 ) -> usize
-    requires { ⌜ (zero ≤ 9743) × (one ≤ 9743) × (outcome ≤ 2) × (seat < 2) × (n ≤ 420) × (paid ≤ 9) × Room at (now w) 3 ⌝ }
+    requires { ⌜ (zero ≤ 9743) × (one ≤ 9743) × (outcome ≤ 2) × (seat < 2) × (n ≤ 420) × (paid ≤ 9) ⌝ }
+    requires { ⌜ Room at (now w) (size (reraisedTree zero one 0 42 4 (λ m y. endTree outcome y) seat n paid)) ⌝ }
     ensures { λ r. ⌜ Built 2 plain at (now (w .entry)) (now (w .exit)) (reraisedTree zero one 0 42 4 (λ m y. endTree outcome y) seat n paid) r ⌝ }
 {
     let call = end(w, at + 1, 2 * seat, paid);
@@ -69,7 +71,8 @@ fn raised(
     n: usize,
     paid: usize,
 ) -> usize
-    requires { ⌜ (zero ≤ 9743) × (one ≤ 9743) × (outcome ≤ 2) × (seat < 2) × (n ≤ 168) × (paid ≤ 5) × Room at (now w) 6 ⌝ }
+    requires { ⌜ (zero ≤ 9743) × (one ≤ 9743) × (outcome ≤ 2) × (seat < 2) × (n ≤ 168) × (paid ≤ 5) ⌝ }
+    requires { ⌜ Room at (now w) (size (raisedTree zero one 0 42 4 (λ m y. endTree outcome y) seat n paid)) ⌝ }
     ensures { λ r. ⌜ Built 2 plain at (now (w .entry)) (now (w .exit)) (raisedTree zero one 0 42 4 (λ m y. endTree outcome y) seat n paid) r ⌝ }
 {
     let more = paid + BET;
@@ -82,7 +85,8 @@ fn raised(
 
 // Lays out CALL and RAISE of seat 1 after a CALL.
 fn called(w: &mut [u64], at: usize, zero: usize, one: usize, outcome: usize, paid: usize) -> usize
-    requires { ⌜ (zero ≤ 9743) × (one ≤ 9743) × (outcome ≤ 2) × (paid ≤ 5) × Room at (now w) 8 ⌝ }
+    requires { ⌜ (zero ≤ 9743) × (one ≤ 9743) × (outcome ≤ 2) × (paid ≤ 5) ⌝ }
+    requires { ⌜ Room at (now w) (size (calledTree zero one 0 42 4 (λ m y. endTree outcome y) paid)) ⌝ }
     ensures { λ r. ⌜ Built 2 plain at (now (w .entry)) (now (w .exit)) (calledTree zero one 0 42 4 (λ m y. endTree outcome y) paid) r ⌝ }
 {
     let raise = end(w, at + 1, outcome, paid);
@@ -100,7 +104,8 @@ pub fn round(
     outcome: usize,
     paid: usize,
 ) -> usize
-    requires { ⌜ (zero ≤ 9743) × (one ≤ 9743) × (outcome ≤ 2) × (paid ≤ 5) × Room at (now w) 15 ⌝ }
+    requires { ⌜ (zero ≤ 9743) × (one ≤ 9743) × (outcome ≤ 2) × (paid ≤ 5) ⌝ }
+    requires { ⌜ Room at (now w) (size (roundTree zero one 0 42 4 (λ m y. endTree outcome y) paid)) ⌝ }
     ensures { λ r. ⌜ Built 2 plain at (now (w .entry)) (now (w .exit)) (roundTree zero one 0 42 4 (λ m y. endTree outcome y) paid) r ⌝ }
 {
     let raise = called(w, at + 1, zero, one, outcome, paid);

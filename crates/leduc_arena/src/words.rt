@@ -5,6 +5,7 @@ ghost use mathlib.Core.Bool.{cond};
 ghost use Prim.Native.Nat.{_+_, _<_, _≤_};
 ghost use lib.Dec.{eqb};
 ghost use lib.ListN.{length, set};
+ghost use Rattle.game.specs.Sets.{size};
 ghost use Rattle.arena.specs.Built.{Built, Room};
 ghost use Rattle.leduc_arena.specs.Layout.{plain, byteFor, endTree, Chosen};
 
@@ -50,7 +51,7 @@ fn byte(outcome: usize, paid: usize) -> u64
 
 // Lays out an end that goes so for seat 0; the place behind it.
 pub fn end(w: &mut [u64], at: usize, outcome: usize, paid: usize) -> usize
-    requires { ⌜ (outcome ≤ 2) × (paid ≤ 13) × Room at (now w) 1 ⌝ }
+    requires { ⌜ (outcome ≤ 2) × (paid ≤ 13) × Room at (now w) (size (endTree outcome paid)) ⌝ }
     ensures { λ r. ⌜ Built 2 plain at (now (w .entry)) (now (w .exit)) (endTree outcome paid) r ⌝ }
 {
     write(

@@ -2,6 +2,7 @@
 use mathlib.Core.Path.{refl}
 use mathlib.Core.Bool.{true}
 use Prim.Native.Nat.{_-_, _≤_}
+use native.Mathlib.Nat as NatL
 use native.Mathlib.Omega.{arith}
 use borrow.Author.Needs.{needs}
 use Rattle.game.specs.Sets.{size}
@@ -23,7 +24,7 @@ loop-holds c = (row-start _ _ _ _, omega arith)
 
 deal-requires : tie.Need-deal-requires Inv-loop μ-loop
 unfolding dealsTree size
-deal-requires c κs = (c .before .loop-test .taken, kept-room dealTree (c .before .before .loop .c) true _ _ refl (child-room _ _ _ _ _ _ _ (c .before .before .loop .inv .0) (first-room (deals-room _ (c .before .before .before .before .pre)) _ (omega arith)) (c .before .loop-test .taken)))
+deal-requires c κs = (c .before .loop-test .taken, kept-room dealTree (c .before .before .loop .c) true _ _ refl (child-room _ _ _ _ _ _ _ (c .before .before .loop .inv .0) (first-room (deals-room _ (c .before .before .before .before .pre)) _ (NatL.le-refl _)) (c .before .loop-test .taken)))
 
 add-c : tie.Need-add-c Inv-loop μ-loop
 add-c c = omega (arith, c .before .before .before .before .loop-test .taken)

@@ -2,13 +2,14 @@
 use mathlib.Core.Path.{refl}
 use mathlib.Core.Bool.{not}
 use Prim.Native.Nat.{_+_, _-_, _≤_}
+use native.Mathlib.Nat as NatL
 use native.Mathlib.Omega.{arith}
 use lib.Dec.{eqb}
 use borrow.Author.Needs.{needs}
 use Rattle.game.specs.Sets.{size}
 use Rattle.arena.specs.Built.{Row}
 use Rattle.leduc_arena.specs.Layout.{plain, rowTo, firstTree, dealTree}
-use Rattle.leduc_arena.proofs.Laying.{first-room, row-fits, lays-chance, row-start, row-done, row-on, child-room}
+use Rattle.leduc_arena.proofs.Laying.{place-fits, first-room, row-fits, lays-chance, row-start, row-done, row-on, child-room}
 use Rattle.leduc_arena.proofs.deal.Statement.{statement}
 use Rattle.leduc_arena.proofs.deal.Tie as tie
 
@@ -19,14 +20,14 @@ abbrev μ-loop : tie.MeasureT-loop
 μ-loop w₀ at c next₀ d₀ w next d = 6 - d
 
 add-next : tie.Need-add-next Inv-loop μ-loop
-add-next c = record { fits = omega (arith, c .before .pre .1 .places) }
+add-next c = place-fits (c .before .pre .1)
 
 loop-holds : tie.Need-loop-holds Inv-loop μ-loop
 loop-holds c = (row-start _ _ _ _, omega arith)
 
 dealt-requires : tie.Need-dealt-requires Inv-loop μ-loop
 unfolding dealTree size
-dealt-requires c κs = ((c .before .before .before .before .pre .0, c .before .loop-test .taken), child-room _ _ _ _ _ _ _ (c .before .before .loop .inv .0) (first-room (c .before .before .before .before .pre .1) _ (omega arith)) (c .before .loop-test .taken))
+dealt-requires c κs = ((c .before .before .before .before .pre .0, c .before .loop-test .taken), child-room _ _ _ _ _ _ _ (c .before .before .loop .inv .0) (first-room (c .before .before .before .before .pre .1) _ (NatL.le-refl _)) (c .before .loop-test .taken))
 
 add-d : tie.Need-add-d Inv-loop μ-loop
 add-d c = omega (arith, c .before .before .before .before .loop-test .taken)

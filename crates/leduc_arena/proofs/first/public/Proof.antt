@@ -1,12 +1,13 @@
 -- The public card: the invariant is the row of the cards passed. Assumes nothing.
 use mathlib.Core.Path.{refl}
 use Prim.Native.Nat.{_+_, _-_, _≤_}
+use native.Mathlib.Nat as NatL
 use native.Mathlib.Omega.{arith}
 use borrow.Author.Needs.{needs}
 use Rattle.game.specs.Sets.{size}
 use Rattle.arena.specs.Built.{Row}
 use Rattle.leduc_arena.specs.Layout.{plain, rowTo, other, secondTree, publicTree}
-use Rattle.leduc_arena.proofs.Laying.{first-room, row-fits, lays-chance, row-start, row-done, row-on, child-room}
+use Rattle.leduc_arena.proofs.Laying.{place-fits, first-room, row-fits, lays-chance, row-start, row-done, row-on, child-room}
 use Rattle.leduc_arena.proofs.first.public.Statement.{statement}
 use Rattle.leduc_arena.proofs.first.public.Tie as tie
 
@@ -17,14 +18,14 @@ abbrev μ-loop : tie.MeasureT-loop
 μ-loop w₀ at c d n paid next₀ p₀ w next p = 6 - p
 
 add-next : tie.Need-add-next Inv-loop μ-loop
-add-next c = record { fits = omega (arith, c .before .pre .1 .places) }
+add-next c = place-fits (c .before .pre .1)
 
 loop-holds : tie.Need-loop-holds Inv-loop μ-loop
 loop-holds c = (row-start _ _ _ _, omega arith)
 
 shown-requires : tie.Need-shown-requires Inv-loop μ-loop
 unfolding publicTree size
-shown-requires c κs = ((c .before .before .before .before .pre .0 .0, c .before .before .before .before .pre .0 .1, c .before .before .before .before .pre .0 .2, c .before .before .before .before .pre .0 .3, c .before .loop-test .taken), child-room _ _ _ _ _ _ _ (c .before .before .loop .inv .0) (first-room (c .before .before .before .before .pre .1) _ (omega arith)) (c .before .loop-test .taken))
+shown-requires c κs = ((c .before .before .before .before .pre .0 .0, c .before .before .before .before .pre .0 .1, c .before .before .before .before .pre .0 .2, c .before .before .before .before .pre .0 .3, c .before .loop-test .taken), child-room _ _ _ _ _ _ _ (c .before .before .loop .inv .0) (first-room (c .before .before .before .before .pre .1) _ (NatL.le-refl _)) (c .before .loop-test .taken))
 
 add-p : tie.Need-add-p Inv-loop μ-loop
 add-p c = omega (arith, c .before .before .before .before .loop-test .taken)

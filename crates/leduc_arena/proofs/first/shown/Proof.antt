@@ -5,8 +5,7 @@ use Prim.Native.Nat.{_-_}
 use native.Mathlib.Omega.{arith}
 use borrow.Author.Tests.{eq-eqb, ne-eqb}
 use borrow.Author.Needs.{needs}
-use Rattle.game.specs.Sets.{size}
-use Rattle.leduc_arena.specs.Layout.{endTree, reraisedTree, raisedTree, calledTree, roundTree, other, secondTree}
+use Rattle.leduc_arena.specs.Layout.{other, secondTree}
 use Rattle.leduc_arena.proofs.Laying.{passes, keeps, kept-room}
 use Rattle.leduc_arena.proofs.first.shown.Statement.{statement}
 use Rattle.leduc_arena.proofs.first.shown.Tie as tie
@@ -33,9 +32,9 @@ showdown-requires : tie.Need-showdown-requires
 showdown-requires c κs = search needs
 
 round-requires : tie.Need-round-requires
-unfolding endTree reraisedTree raisedTree calledTree roundTree secondTree size
+unfolding secondTree
 round-requires c κs = let kept : other (c .before .before .before .before .before .args .c) (c .before .before .before .before .before .args .d) (c .before .before .before .before .before .args .p) ≡ true = rw (ne-eqb _ _ (c .before .before .before .if1 .left), ne-eqb _ _ (c .before .before .if2 .left)) refl in
-    (omega arith, omega arith, c .showdown .ensures .1, c .before .before .before .before .before .pre .0 .3, kept-room _ _ _ _ _ kept (c .before .before .before .before .before .pre .1))
+    ((omega arith, omega arith, c .showdown .ensures .1, c .before .before .before .before .before .pre .0 .3), rw (c .showdown .ensures .0) (kept-room _ _ _ _ _ kept (c .before .before .before .before .before .pre .1)))
 
 same-length : tie.Need-same-length
 same-length c = search needs
