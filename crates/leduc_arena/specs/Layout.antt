@@ -1,82 +1,102 @@
--- Leduc's tree as the builder goes through it: positions with so many cards and actions to come at most, and their moves. Definitions only; nothing is assumed.
+-- Leduc's tree as the builder writes it: a decision's key is its code, and an end's payoffs are its bytes. Definitions only; nothing is assumed.
+use mathlib.Core.Bool.{Bool, true, false, not, cond}
 use mathlib.Core.Path.{_≡_}
-use mathlib.Core.Bool.{Bool, false, true, not, cond}
-use mathlib.Core.List.{map}
-use Prim.Native.Nat.{ℕ, _+_, _≤_, _<_}
-use lib.Dec.{eqb}
-use lib.ListN.{length}
-use Rattle.finite.specs.Finite.{and, or, those}
-use Rattle.game.specs.Tree.{Tree, chance, decide, Trees, nil, cons}
-use Rattle.arena.specs.Words.{END, kindOf, payoffOf, decisionWord, chanceWord}
-use Rattle.leduc_betting.specs.Betting.{may, in-play}
-use Rattle.leduc_betting.specs.Cards.{seen, left}
-use Rattle.leduc_rules.specs.Stakes.{ante, raise₁, raise₂}
-use Rattle.leduc_positions.specs.declared.LeducState.{LeducState}
-use Rattle.leduc_positions.specs.Positions.{cardsOf, roundOne, roundTwo, with-card, with-action, payoff-of, reachable}
-use Rattle.leduc_tree.specs.Tree.{Position, dealt, acted, due, ended, actor, choices, key, payoff, next, each, below}
-use Rattle.leduc_arena.specs.Codes.{codeOf}
+use mathlib.Core.List.{List, [], _∷_}
+use Prim.Native.Nat.{ℕ, zero, suc, _+_, _*_, _-_, _/_, _<_}
+use lib.Dec.{eqb, ltb}
+use lib.IntN.{pos, _-ℤ_}
+use lib.ListN.{getD, set}
+use Rattle.game.specs.Tree.{Key, Tree, end, chance, decide, Trees, nil, cons}
+use Rattle.arena.specs.Words.{decisionWord}
+use Rattle.arena.proofs.Building.{join}
 
--- the position that a state holds
-abbrev pub positionOf : LeducState → Position
-positionOf s = record { cards = cardsOf s; public = s .public; first = roundOne s; second = roundTwo s }
+-- the code of such a key
+abbrev pub plain : ℕ → Key → ℕ
+plain j k = getD k 0 0
 
--- the tree below a position, of at most k cards and actions
-unfoldable pub treeAt : Position → ℕ → Tree
-unfolding below
-treeAt q k = below (payoff ante raise₁ raise₂) k (next q) q
+-- the byte of a seat that has paid x where it loses (0), nobody does (1), or it wins (2)
+unfoldable pub byteFor : ℕ → ℕ → ℕ
+byteFor e x = cond (eqb e 0) (64 - x) (cond (eqb e 1) 64 (64 + x))
 
--- the hand has ended, and no card is due
-unfoldable pub isOver : Position → Bool
-isOver q = and (not (due q)) (ended q)
+-- an end that goes so for seat 0, and the other way round for seat 1
+unfoldable pub endTree : ℕ → ℕ → Tree
+unfolding byteFor
+endTree e x = end (λ i. pos (byteFor (cond (eqb i 0) e (2 - e)) x) -ℤ pos 64)
 
--- the tree there is an end
-unfoldable pub isEnd : Position → ℕ → Bool
-unfolding isOver
-isEnd q k = or (eqb k 0) (isOver q)
+-- a round: k₀ and k₁ are the seats' codes at its start, beside base. A history's number, times step, is added to a code; a raise adds size.
+-- close is the tree behind a history that closes the round, by that number and by what each seat has paid
+module _ (k₀ k₁ base step size : ℕ) (close : ℕ → ℕ → Tree) where
+  -- seat j acts after a history with number n
+  abbrev pub acts : ℕ → ℕ → Trees → Tree
+  acts j n f = decide j ((cond (eqb j 0) k₀ k₁ + (n + base)) ∷ []) f
 
--- the moves of a position: the cards left where a card is due, else the legal actions
-unfoldable pub isMove : Position → ℕ → Bool
-isMove q = cond (due q) (left (seen (q .cards) (q .public))) (may (in-play (q .first) (q .second)))
+  -- after two raises FOLD or CALL; seat j has paid x
+  unfoldable pub reraisedTree : (j n x : ℕ) → Tree
+  unfolding endTree
+  reraisedTree j n x = acts j n (cons (endTree (2 * j) x) (cons (close (2 * n + step) (x + size)) nil))
 
--- what a move makes of it
-abbrev pub moved : Position → ℕ → Position
-moved q = cond (due q) (dealt q) (acted q)
+  -- after one raise FOLD, CALL or RAISE
+  unfoldable pub raisedTree : (j n x : ℕ) → Tree
+  unfolding endTree reraisedTree
+  raisedTree j n x = acts j n (cons (endTree (2 * j) x) (cons (close (2 * n + step) (x + size)) (cons (reraisedTree (1 - j) (2 * n + 2 * step) (x + size)) nil)))
 
--- the same of a state
-abbrev pub movedState : LeducState → ℕ → LeducState
-movedState s = cond (due (positionOf s)) (with-card s) (with-action s)
+  -- after a CALL of seat 0 CALL or RAISE
+  unfoldable pub calledTree : ℕ → Tree
+  unfolding raisedTree
+  calledTree x = acts 1 step (cons (close (3 * step) x) (cons (raisedTree 0 (4 * step) x) nil))
 
--- the trees below the moves up to n
-unfoldable pub childrenTo : Position → ℕ → ℕ → Trees
-unfolding isMove treeAt
-childrenTo q k n = each (map (moved q) (those n (isMove q))) (λ p. treeAt p k)
+  -- at the start CALL or RAISE
+  unfoldable pub roundTree : ℕ → Tree
+  unfolding calledTree raisedTree
+  roundTree x = acts 0 0 (cons (calledTree x) (cons (raisedTree 1 (2 * step) x) nil))
 
--- the tree below x, if that is a move
-unfoldable pub childAt : Position → ℕ → ℕ → Trees
-unfolding isMove treeAt
-childAt q k x = cond (isMove q x) (cons (treeAt (moved q x) k) nil) nil
+-- the tree of x if it is kept
+unfoldable pub only : Bool → (ℕ → Tree) → ℕ → Trees
+only true g x = cons (g x) nil
+only false g x = nil
 
--- the node of a position that is no end, over its children
-unfoldable pub nodeOf : Position → Trees → Tree
-nodeOf q f = cond (due q) (chance f) (decide (actor q) (key q) f)
+-- the trees of the numbers below n that are kept
+unfoldable pub rowTo : (ℕ → Bool) → (ℕ → Tree) → ℕ → Trees
+unfolding only join
+rowTo p g zero = nil
+rowTo p g (suc n) = join (rowTo p g n) (only (p n) g n)
 
--- its word
-unfoldable pub nodeWord : Position → ℕ → ℕ
-unfolding codeOf
-nodeWord q behind = cond (due q) (chanceWord behind) (decisionWord (actor q) (length (choices q)) (codeOf (actor q) (key q)) behind 0)
+-- how the showdown goes for seat 0, by the cards of the seats and the public card: a pair wins, else the higher rank
+unfoldable pub showdownFor : (c d p : ℕ) → ℕ
+showdownFor c d p = cond (eqb (c / 2) (p / 2)) 2 (cond (eqb (d / 2) (p / 2)) 0 (cond (ltb (c / 2) (d / 2)) 0 (cond (ltb (d / 2) (c / 2)) 2 1)))
 
--- word x is that of the end that a position is
-abbrev pub Ends : LeducState → ℕ → Type 0
-Ends s x = (kindOf x ≡ END) × ((i : ℕ) → i < 2 → payoffOf x i ≡ payoff-of s i)
+-- round 2: n is the number of round 1's history, times 462, x what each seat has paid, p the public card
+unfoldable pub secondTree : (c d n x p : ℕ) → Tree
+unfolding roundTree showdownFor
+secondTree c d n x p = roundTree (n + 6 * p + c) (n + 6 * p + d) 0 42 4 (λ m y. endTree (showdownFor c d p) y) x
 
--- a position that the rules reach, and k cards and actions to come at most, enough for the seats' cards
-pub record Going (s : LeducState) (k : ℕ) : Type 0 where
-  pub reached : reachable s ≡ true
-  pub enough : 2 ≤ s .dealt + k
-  pub pair : length (s .cards) ≡ 2
-  pub places : length (s .history) ≡ 8
+-- p is neither c nor d
+abbrev pub other : (c d p : ℕ) → Bool
+other c d p = cond (eqb p c) false (not (eqb p d))
 
--- such a position that a move follows
-pub record Moving (s : LeducState) (k : ℕ) : Type 0 where
-  pub going : Going s (k + 1)
-  pub on : isOver (positionOf s) ≡ false
+-- the public card, then round 2
+unfoldable pub publicTree : (c d n x : ℕ) → Tree
+unfolding secondTree rowTo
+publicTree c d n x = chance (rowTo (other c d) (secondTree c d n x) 6)
+
+-- round 1
+unfoldable pub firstTree : (c d : ℕ) → Tree
+unfolding roundTree publicTree
+firstTree c d = roundTree c d 36 462 2 (publicTree c d) 1
+
+-- the card of seat 1, then round 1
+unfoldable pub dealTree : ℕ → Tree
+unfolding firstTree rowTo
+dealTree c = chance (rowTo (λ d. not (eqb d c)) (firstTree c) 6)
+
+-- the whole tree
+unfoldable pub dealsTree : Tree
+unfolding dealTree rowTo
+dealsTree = chance (rowTo (λ c. true) dealTree 6)
+
+-- the word at place a, and no other, is now that of seat j's decision over n trees that end at r, and its numbers are small
+pub record Chosen (a j n code r : ℕ) (old new : List ℕ) : Type 0 where
+  pub seat : j < 2
+  pub few : n < 4
+  pub word : new ≡ set old a (decisionWord j n code r 0)
+  pub small : code < 16384

@@ -1,69 +1,49 @@
-// Leduc's tree, laid out in work memory: a node for each position, before the nodes of its moves, in their order.
-mod moves;
+// Leduc's tree, laid out in work memory: the deals, and below each the first round, the public card and the second round.
+mod first;
+mod second;
 mod words;
 
-use arena::words::put;
-use leduc_positions::LeducState;
-use leduc_positions::state::card_due;
-use moves::is_end;
-use moves::is_move;
-use moves::moved;
-use words::end_word;
-use words::node_word;
-ghost use mathlib.Core.Path.{_≡_};
+use arena::words::chance;
+use words::write;
+ghost use mathlib.Core.Bool.{not};
 ghost use Prim.Native.Nat.{_+_, _<_, _≤_};
+ghost use lib.Dec.{eqb};
 ghost use lib.ListN.{length};
 ghost use Rattle.game.specs.Sets.{size, sizes};
 ghost use Rattle.arena.specs.Built.{Built, Row, Room};
 ghost use Rattle.leduc_rules.specs.Stakes.{ante, raise₁, raise₂};
-ghost use Rattle.leduc_tree.specs.Tree.{due, leducTree};
+ghost use Rattle.leduc_tree.specs.Tree.{leducTree};
 ghost use Rattle.leduc_arena.specs.Codes.{codeOf};
-ghost use Rattle.leduc_arena.specs.Layout.{positionOf, treeAt, childrenTo, childAt, Going, Moving};
+ghost use Rattle.leduc_arena.specs.Layout.{plain, only, firstTree, dealTree};
 
-// The most cards and actions in a hand: a card each, the public card, and four actions in each round.
-const LONGEST: usize = 11;
+const DECK: usize = 6;
 
-// Lays out the tree below a position, of at most left cards and actions, at place at; the place behind it.
-fn tree(w: &mut [u64], at: usize, state: LeducState, left: usize) -> usize
-    requires { ⌜ Going state left ⌝ }
-    requires { ⌜ Room at (now w) (size (treeAt (positionOf state) left)) ⌝ }
-    ensures { λ r. ⌜ Built 2 codeOf at (now (w .entry)) (now (w .exit)) (treeAt (positionOf state) left) r ⌝ }
+// Lays out the hand of cards c and d, if they differ, at place at; the place behind it.
+fn dealt(w: &mut [u64], at: usize, c: usize, d: usize) -> usize
+    requires { ⌜ (c < 6) × (d < 6) ⌝ }
+    requires { ⌜ Room at (now w) (sizes (only (not (eqb d c)) (firstTree c) d)) ⌝ }
+    ensures { λ r. ⌜ Row 2 plain at (now (w .entry)) (now (w .exit)) (only (not (eqb d c)) (firstTree c) d) r ⌝ }
 {
-    let card = card_due(state);
-    if is_end(state, left, card) {
-        put(w, at, end_word(state));
-        return at + 1;
+    if d == c {
+        return at;
     }
-    let next = children(w, at + 1, state, left - 1, card);
-    put(w, at, node_word(state, left - 1, next, card));
-    next
+    first::round(w, at, c, d)
 }
 
-// Lays out the trees below its moves, ascending; left cards and actions are to come after each.
-fn children(w: &mut [u64], at: usize, state: LeducState, left: usize, card: bool) -> usize
-    requires { ⌜ Moving state left × (card ≡ due (positionOf state)) ⌝ }
-    requires { ⌜ Room at (now w) (sizes (childrenTo (positionOf state) left 6)) ⌝ }
-    ensures { λ r. ⌜ Row 2 codeOf at (now (w .entry)) (now (w .exit)) (childrenTo (positionOf state) left 6) r ⌝ }
+// Lays out the deals of seat 1, where seat 0 has card c.
+fn deal(w: &mut [u64], at: usize, c: usize) -> usize
+    requires { ⌜ c < 6 ⌝ }
+    requires { ⌜ Room at (now w) (size (dealTree c)) ⌝ }
+    ensures { λ r. ⌜ Built 2 plain at (now (w .entry)) (now (w .exit)) (dealTree c) r ⌝ }
 {
-    let mut next = at;
-    let mut x = 0;
-    while x < leduc_betting::DECK {
-        next = child(w, next, state, left, x, card);
-        x += 1;
+    let mut next = at + 1;
+    let mut d = 0;
+    while d < DECK {
+        next = dealt(w, next, c, d);
+        d += 1;
     }
+    write(w, at, chance(next));
     next
-}
-
-// Lays out the tree below x, if that is a move, where it is known whether a card is due.
-fn child(w: &mut [u64], at: usize, state: LeducState, left: usize, x: u8, card: bool) -> usize
-    requires { ⌜ Moving state left × (x < 6) × (card ≡ due (positionOf state)) ⌝ }
-    requires { ⌜ Room at (now w) (sizes (childAt (positionOf state) left x)) ⌝ }
-    ensures { λ r. ⌜ Row 2 codeOf at (now (w .entry)) (now (w .exit)) (childAt (positionOf state) left x) r ⌝ }
-{
-    if is_move(state, x as usize, card) {
-        return tree(w, at, moved(state, x, card), left);
-    }
-    at
 }
 
 // Lays out Leduc's tree from place 0 on; the place behind it.
@@ -71,5 +51,12 @@ pub fn build(w: &mut [u64]) -> usize
     requires { ⌜ 9457 ≤ length (now w) ⌝ }
     ensures { λ r. ⌜ Built 2 codeOf 0 (now (w .entry)) (now (w .exit)) (leducTree ante raise₁ raise₂) r ⌝ }
 {
-    tree(w, 0, LeducState::new(), LONGEST)
+    let mut next = 1;
+    let mut c = 0;
+    while c < DECK {
+        next = deal(w, next, c);
+        c += 1;
+    }
+    write(w, 0, chance(next));
+    next
 }

@@ -1,102 +1,82 @@
-// The word of a position's node.
-use arena::payoffs::end;
-use arena::words::chance;
+// The words of ends and decisions.
 use arena::words::decision;
-use leduc_betting::Public;
-use leduc_positions::LeducState;
-use leduc_positions::state::first_closed;
-use leduc_positions::state::legal_list;
-use leduc_positions::state::state_gains;
 ghost use mathlib.Core.Path.{_≡_};
-ghost use Prim.Native.Nat.{_≤_, _<_};
-ghost use lib.ListN.{length, getD};
-ghost use Rattle.arena.specs.Words.{decisionWord};
-ghost use Rattle.leduc_rules.specs.Rules.{shown-public};
-ghost use Rattle.leduc_positions.specs.Positions.{roundOne, roundTwo};
-ghost use Rattle.leduc_tree.specs.Tree.{due, actor, choices, key};
-ghost use Rattle.leduc_arena.specs.Codes.{numberFrom, publicNumber, codeFrom, codeOf};
-ghost use Rattle.leduc_arena.specs.Layout.{positionOf, nodeWord, Ends, Moving};
+ghost use mathlib.Core.Bool.{cond};
+ghost use Prim.Native.Nat.{_+_, _<_, _≤_};
+ghost use lib.Dec.{eqb};
+ghost use lib.ListN.{length, set};
+ghost use Rattle.game.specs.Sets.{size};
+ghost use Rattle.arena.specs.Built.{Built, Room};
+ghost use Rattle.leduc_arena.specs.Layout.{plain, byteFor, endTree, Chosen};
 
-// A byte as a number.
-fn byte(x: u8) -> usize
-    ensures { λ r. ⌜ (r ≡ x) × (r < 256) ⌝ }
-{
-    x as usize
-}
+// How an end goes for a seat.
+pub const LOSS: usize = 0;
 
-// The number of a round's history.
-fn number(h: &[u8]) -> usize
-    requires { ⌜ length (now h) ≤ 4 ⌝ }
-    ensures { λ r. ⌜ (r ≡ numberFrom 0 (now (h .entry))) × (r < 4096) ⌝ }
+pub const TIE: usize = 1;
+
+pub const WIN: usize = 2;
+
+// The code of a seat, of one for each.
+fn own(seat: usize, zero: usize, one: usize) -> usize
+    requires { ⌜ (zero ≤ 9743) × (one ≤ 9743) ⌝ }
+    ensures { λ r. ⌜ (r ≡ cond (eqb seat 0) zero one) × (r ≤ 9743) ⌝ }
 {
-    let mut n = 0;
-    let mut i = 0;
-    while i < h.len() {
-        n = 2 * n + byte(h[i]);
-        i += 1;
+    if seat == 0 {
+        return zero;
     }
-    n
+    one
 }
 
-// The number of the public card, 6 for none.
-fn public_number(public: Public) -> usize
-    ensures { λ r. ⌜ (r ≡ publicNumber (shown-public public)) × (r ≤ 6) ⌝ }
+// Writes x at a place that there is.
+pub fn write(w: &mut [u64], at: usize, x: u64)
+    requires { ⌜ at < length (now w) ⌝ }
+    ensures { λ _. ⌜ now (w .exit) ≡ set (now (w .entry)) at x ⌝ }
 {
-    match public {
-        Public::Hidden => 6,
-        Public::Card(c) => {
-            if c < leduc_betting::DECK {
-                return byte(c);
-            }
-            6
-        }
+    w[at] = x;
+}
+
+// The byte of a seat that has paid so much.
+fn byte(outcome: usize, paid: usize) -> u64
+    requires { ⌜ paid ≤ 13 ⌝ }
+    ensures { λ r. ⌜ (r ≡ byteFor outcome paid) × (r < 128) ⌝ }
+{
+    if outcome == LOSS {
+        return 64 - paid as u64;
     }
-}
-
-// The code of what a seat knows.
-fn code(state: LeducState, seat: usize) -> usize
-    requires { ⌜ (seat < 2) × (state .acted1 ≤ 4) × (state .acted2 ≤ 4) ⌝ }
-    ensures { λ r. ⌜ r ≡ codeFrom (getD (state .cards) seat 0) (shown-public (state .public)) (roundOne state) (roundTwo state) ⌝ }
-{
-    let acted1 = state.acted1;
-    let acted2 = state.acted2;
-    let public = state.public;
-    let cards = state.cards;
-    let history = state.history;
-    let all = &history[..];
-    let rounds = number(&all[..acted1]) * 11 + number(&all[4..4 + acted2]);
-    (rounds * 7 + public_number(public)) * 6 + byte(cards[seat])
-}
-
-// The seat whose turn it is.
-fn turn(state: LeducState) -> usize
-    requires { ⌜ (state .acted1 ≤ 4) × (state .acted2 ≤ 4) ⌝ }
-    ensures { λ r. ⌜ r ≡ actor (positionOf state) ⌝ }
-{
-    if first_closed(state) {
-        return state.acted2 % 2;
+    if outcome == TIE {
+        return 64;
     }
-    state.acted1 % 2
+    64 + paid as u64
 }
 
-// The word of the end that a position is.
-pub fn end_word(state: LeducState) -> u64
-    requires { ⌜ (state .dealt ≡ 2) × (state .acted1 ≤ 4) × (state .acted2 ≤ 4) ⌝ }
-    ensures { λ r. ⌜ Ends state r ⌝ }
+// Lays out an end that goes so for seat 0; the place behind it.
+pub fn end(w: &mut [u64], at: usize, outcome: usize, paid: usize) -> usize
+    requires { ⌜ (outcome ≤ 2) × (paid ≤ 13) × Room at (now w) (size (endTree outcome paid)) ⌝ }
+    ensures { λ r. ⌜ Built 2 plain at (now (w .entry)) (now (w .exit)) (endTree outcome paid) r ⌝ }
 {
-    let gains = state_gains(state);
-    end(gains.zero, gains.one, 0, 0, 0, 0)
+    write(
+        w,
+        at,
+        4 * byte(outcome, paid) + 1024 * byte(WIN - outcome, paid),
+    );
+    at + 1
 }
 
-// The word of the node that a position with moves is.
-pub fn node_word(state: LeducState, left: usize, next: usize, card: bool) -> u64
-    requires { ⌜ Moving state left × (next < 2097152) × (card ≡ due (positionOf state)) ⌝ }
-    ensures { λ r. ⌜ r ≡ nodeWord (positionOf state) next ⌝ }
+// Writes the decision of a seat after a history with the given number, where the trees of its actions end at next.
+pub fn choose(
+    w: &mut [u64],
+    at: usize,
+    seat: usize,
+    actions: usize,
+    zero: usize,
+    one: usize,
+    number: usize,
+    next: usize,
+)
+    requires { ⌜ (seat < 2) × (actions < 4) × (zero ≤ 9743) × (one ≤ 9743) × (number ≤ 4656) ⌝ }
+    requires { ⌜ (next < 2097152) × (at < length (now w)) ⌝ }
+    ensures { λ _. ⌜ Chosen at seat actions (cond (eqb seat 0) zero one + number) next (now (w .entry)) (now (w .exit)) ⌝ }
 {
-    if card {
-        return chance(next);
-    }
-    let seat = turn(state);
-    let legal = legal_list(state, seat);
-    decision(seat, legal.count, code(state, seat), next, 0)
+    let code = own(seat, zero, one) + number;
+    write(w, at, decision(seat, actions, code, next, 0));
 }

@@ -1,0 +1,36 @@
+-- CALL and RAISE after a CALL of the first round. Assumes nothing.
+use Prim.Native.Nat.{_-_}
+use native.Mathlib.Bridge.{le-by-compare, IsLe}
+use borrow.Author.Needs.{needs}
+use Rattle.leduc_arena.specs.Layout.{calledTree}
+use Rattle.leduc_arena.proofs.Laying.{place-fits, room-one, room-two, two-fit, lays-two, card-few}
+use Rattle.leduc_arena.proofs.first.called.Statement.{statement}
+use Rattle.leduc_arena.proofs.first.called.Tie as tie
+
+add-public : tie.Need-add-public
+add-public c = place-fits (c .before .before .pre .1)
+
+public-requires : tie.Need-public-requires
+unfolding calledTree IsLe
+public-requires c κs = ((c .before .before .pre .0 .0, c .before .before .pre .0 .1, le-by-compare 1386 9702 tt, le-by-compare 1 5 tt), room-one _ _ _ _ (c .before .before .pre .1))
+
+raised-requires : tie.Need-raised-requires
+unfolding calledTree IsLe
+raised-requires c κs = ((c .before .before .before .before .before .before .pre .0 .0, c .before .before .before .before .before .before .pre .0 .1, le-by-compare 1 2 tt, le-by-compare 1848 1848 tt), room-two _ _ _ _ _ (c .before .before .before .public .ensures) (c .before .before .before .before .before .before .pre .1))
+
+add-choose : tie.Need-add-choose
+add-choose c = search needs
+
+choose-requires : tie.Need-choose-requires
+unfolding calledTree IsLe
+choose-requires c κs = ((le-by-compare 2 2 tt, le-by-compare 3 4 tt, card-few (c .before .before .before .before .before .before .before .before .before .before .pre .0 .0), card-few (c .before .before .before .before .before .before .before .before .before .before .pre .0 .1), le-by-compare 498 4656 tt), two-fit _ _ (c .before .before .before .before .before .before .before .public .ensures) (c .before .before .before .raised .ensures) (c .before .before .before .before .before .before .before .before .before .before .pre .1))
+
+same-length : tie.Need-same-length
+same-length c = search needs
+
+returns : tie.Need-returns
+unfolding calledTree
+returns c = lays-two _ _ (c .before .before .before .before .before .before .before .before .before .before .public .ensures) (c .before .before .before .before .before .before .raised .ensures) (c .before .before .before .before .before .before .before .before .before .before .before .before .before .pre .1) (c .before .before .choose .ensures)
+
+pub called-spec : {M : Type 1} → statement M
+called-spec = tie.close (tie.spec add-public public-requires raised-requires add-choose choose-requires same-length returns)

@@ -1,0 +1,48 @@
+-- The second round of a public card, if that may be dealt. Assumes nothing.
+use mathlib.Core.Path.{_≡_, refl}
+use mathlib.Core.Bool.{true}
+use Prim.Native.Nat.{_-_}
+use native.Mathlib.Omega.{arith}
+use borrow.Author.Tests.{eq-eqb, ne-eqb}
+use borrow.Author.Needs.{needs}
+use Rattle.leduc_arena.specs.Layout.{other, secondTree}
+use Rattle.leduc_arena.proofs.Laying.{passes, keeps, kept-room}
+use Rattle.leduc_arena.proofs.first.shown.Statement.{statement}
+use Rattle.leduc_arena.proofs.first.shown.Tie as tie
+
+returns : tie.Need-returns
+returns c = passes _ _ _ _ _ (rw (eq-eqb _ _ (c .if1 .taken)) refl)
+
+returns-2 : tie.Need-returns-2
+returns-2 c = passes _ _ _ _ _ (rw (ne-eqb _ _ (c .before .if1 .left), eq-eqb _ _ (c .if2 .taken)) refl)
+
+mul-code : tie.Need-mul-code
+mul-code c = search needs
+
+add-code : tie.Need-add-code
+add-code c = search needs
+
+add-round : tie.Need-add-round
+add-round c = search needs
+
+add-round-2 : tie.Need-add-round-2
+add-round-2 c = search needs
+
+showdown-requires : tie.Need-showdown-requires
+showdown-requires c κs = search needs
+
+round-requires : tie.Need-round-requires
+unfolding secondTree
+round-requires c κs = let kept : other (c .before .before .before .before .before .args .c) (c .before .before .before .before .before .args .d) (c .before .before .before .before .before .args .p) ≡ true = rw (ne-eqb _ _ (c .before .before .before .if1 .left), ne-eqb _ _ (c .before .before .if2 .left)) refl in
+    ((omega arith, omega arith, c .showdown .ensures .1, c .before .before .before .before .before .pre .0 .3), rw (c .showdown .ensures .0) (kept-room _ _ _ _ _ kept (c .before .before .before .before .before .pre .1)))
+
+same-length : tie.Need-same-length
+same-length c = search needs
+
+returns-3 : tie.Need-returns-3
+unfolding secondTree
+returns-3 c = let kept : other (c .before .before .before .before .before .before .before .before .args .c) (c .before .before .before .before .before .before .before .before .args .d) (c .before .before .before .before .before .before .before .before .args .p) ≡ true = rw (ne-eqb _ _ (c .before .before .before .before .before .before .if1 .left), ne-eqb _ _ (c .before .before .before .before .before .if2 .left)) refl in
+    keeps _ _ _ _ _ kept (rw (c .before .before .before .showdown .ensures .0) at (c .before .before .round .ensures))
+
+pub shown-spec : {M : Type 1} → statement M
+shown-spec = tie.close (tie.spec returns returns-2 mul-code add-code add-round add-round-2 showdown-requires round-requires same-length returns-3)

@@ -1,0 +1,110 @@
+// The first round, and the public card behind each history that closes it.
+use crate::second;
+use crate::words::choose;
+use crate::words::end;
+use crate::words::write;
+use arena::words::chance;
+ghost use Prim.Native.Nat.{_+_, _*_, _<_, _≤_};
+ghost use Rattle.game.specs.Sets.{size, sizes};
+ghost use Rattle.arena.specs.Built.{Built, Row, Room};
+ghost use Rattle.leduc_arena.specs.Layout.{plain, only, other, reraisedTree, raisedTree, calledTree, secondTree, publicTree, firstTree};
+
+// What a seat has paid: the ante, and then as much as one raise and as two.
+const ANTE: usize = 1;
+
+const RAISED: usize = 3;
+
+const RERAISED: usize = 5;
+
+// A code without a public card has this beside the card and the number of the history.
+const HIDDEN: usize = 36;
+
+// The numbers of histories: twice that of the actions before, and 462 for CALL and 924 for RAISE.
+const CALL: usize = 462;
+
+const RAISE: usize = 924;
+
+const CALL_CALL: usize = 1386;
+
+const CALL_RAISE: usize = 1848;
+
+// Lays out the second round with public card p, if that is neither c nor d; n is the number of the first round's history.
+fn shown(w: &mut [u64], at: usize, c: usize, d: usize, n: usize, paid: usize, p: usize) -> usize
+    requires { ⌜ (c < 6) × (d < 6) × (n ≤ 9702) × (paid ≤ 5) × (p < 6) ⌝ }
+    requires { ⌜ Room at (now w) (sizes (only (other c d p) (secondTree c d n paid) p)) ⌝ }
+    ensures { λ r. ⌜ Row 2 plain at (now (w .entry)) (now (w .exit)) (only (other c d p) (secondTree c d n paid) p) r ⌝ }
+{
+    if p == c {
+        return at;
+    }
+    if p == d {
+        return at;
+    }
+    let code = n + 6 * p;
+    second::round(w, at, code + c, code + d, second::showdown(c, d, p), paid)
+}
+
+// Lays out the deals of the public card.
+fn public(w: &mut [u64], at: usize, c: usize, d: usize, n: usize, paid: usize) -> usize
+    requires { ⌜ (c < 6) × (d < 6) × (n ≤ 9702) × (paid ≤ 5) ⌝ }
+    requires { ⌜ Room at (now w) (size (publicTree c d n paid)) ⌝ }
+    ensures { λ r. ⌜ Built 2 plain at (now (w .entry)) (now (w .exit)) (publicTree c d n paid) r ⌝ }
+{
+    let mut next = at + 1;
+    let mut p = 0;
+    while p < 6 {
+        next = shown(w, next, c, d, n, paid, p);
+        p += 1;
+    }
+    write(w, at, chance(next));
+    next
+}
+
+// Lays out FOLD and CALL after two raises; n is the number of the history.
+fn reraised(w: &mut [u64], at: usize, c: usize, d: usize, seat: usize, n: usize) -> usize
+    requires { ⌜ (c < 6) × (d < 6) × (seat < 2) × (n ≤ 4620) ⌝ }
+    requires { ⌜ Room at (now w) (size (reraisedTree c d 36 462 2 (publicTree c d) seat n 3)) ⌝ }
+    ensures { λ r. ⌜ Built 2 plain at (now (w .entry)) (now (w .exit)) (reraisedTree c d 36 462 2 (publicTree c d) seat n 3) r ⌝ }
+{
+    let call = end(w, at + 1, 2 * seat, RAISED);
+    let next = public(w, call, c, d, 2 * n + CALL, RERAISED);
+    choose(w, at, seat, 2, c, d, n + HIDDEN, next);
+    next
+}
+
+// Lays out FOLD, CALL and RAISE after one raise.
+fn raised(w: &mut [u64], at: usize, c: usize, d: usize, seat: usize, n: usize) -> usize
+    requires { ⌜ (c < 6) × (d < 6) × (seat < 2) × (n ≤ 1848) ⌝ }
+    requires { ⌜ Room at (now w) (size (raisedTree c d 36 462 2 (publicTree c d) seat n 1)) ⌝ }
+    ensures { λ r. ⌜ Built 2 plain at (now (w .entry)) (now (w .exit)) (raisedTree c d 36 462 2 (publicTree c d) seat n 1) r ⌝ }
+{
+    let call = end(w, at + 1, 2 * seat, ANTE);
+    let raise = public(w, call, c, d, 2 * n + CALL, RAISED);
+    let next = reraised(w, raise, c, d, 1 - seat, 2 * n + RAISE);
+    choose(w, at, seat, 3, c, d, n + HIDDEN, next);
+    next
+}
+
+// Lays out CALL and RAISE of seat 1 after a CALL.
+fn called(w: &mut [u64], at: usize, c: usize, d: usize) -> usize
+    requires { ⌜ (c < 6) × (d < 6) ⌝ }
+    requires { ⌜ Room at (now w) (size (calledTree c d 36 462 2 (publicTree c d) 1)) ⌝ }
+    ensures { λ r. ⌜ Built 2 plain at (now (w .entry)) (now (w .exit)) (calledTree c d 36 462 2 (publicTree c d) 1) r ⌝ }
+{
+    let raise = public(w, at + 1, c, d, CALL_CALL, ANTE);
+    let next = raised(w, raise, c, d, 0, CALL_RAISE);
+    choose(w, at, 1, 2, c, d, CALL + HIDDEN, next);
+    next
+}
+
+// Lays out the hand of cards c and d at place at; the place behind it.
+pub fn round(w: &mut [u64], at: usize, c: usize, d: usize) -> usize
+    requires { ⌜ (c < 6) × (d < 6) ⌝ }
+    requires { ⌜ Room at (now w) (size (firstTree c d)) ⌝ }
+    ensures { λ r. ⌜ Built 2 plain at (now (w .entry)) (now (w .exit)) (firstTree c d) r ⌝ }
+{
+    let raise = called(w, at + 1, c, d);
+    let next = raised(w, raise, c, d, 1, RAISE);
+    choose(w, at, 0, 2, c, d, HIDDEN, next);
+    next
+}
