@@ -152,10 +152,13 @@ fn no_rival_is_worth_more() {
                 let replied = Played::new(tree, d, &best.reply);
                 assert_eq!(replied.worths()[seat], best.value);
                 assert!(played.worths()[seat] <= best.value);
+                let sequences = played.sequences(seat);
                 for _ in 0..rivals {
                     let kind = random.pick(&KINDS);
                     let rival = rival(tree, &table, seat, d, kind, &mut random);
-                    assert!(Played::new(tree, d, &rival).worths()[seat] <= best.value);
+                    let worth = Played::new(tree, d, &rival).worths()[seat];
+                    assert!(worth <= best.value);
+                    assert_eq!(sequences.worth(&rival), worth);
                 }
                 let last = rival(tree, &table, seat, d, Kind::Mixed, &mut random);
                 let again = Played::new(tree, d, &last).best(seat);
