@@ -158,15 +158,19 @@ impl Tree {
         set
     }
 
-    /// A set's own part of a table.
-    pub fn part<'a>(&self, table: &'a [u8], set: usize) -> &'a [u8] {
+    /// A set's own part of a table or of a profile.
+    pub fn part<'a, T>(&self, table: &'a [T], set: usize) -> &'a [T] {
         &table[self.sets[set].first..][..self.sets[set].actions]
     }
 
-    /// The probabilities of each set by its key, as the Rust's evaluations ask for them.
-    pub fn profile(&self, table: &[u8], d: u64) -> HashMap<Vec<u8>, Vec<f64>> {
-        let probabilities = |set| self.part(table, set).iter().map(|&part| f64::from(part) / d as f64).collect();
-        self.numbers.iter().map(|(key, &set)| (key.clone(), probabilities(set))).collect()
+    /// The number of the set with a key.
+    pub fn number(&self, key: &[u8]) -> usize {
+        self.numbers[key]
+    }
+
+    /// The entries of a set by its key, as the Rust's evaluations ask for them.
+    pub fn profile<'a>(&'a self, entries: &'a [f64]) -> impl Fn(&[u8], usize) -> Vec<f64> + 'a {
+        |key, _| self.part(entries, self.number(key)).to_vec()
     }
 
     /// The child behind an action of a decision.
@@ -182,6 +186,11 @@ impl Tree {
         let sum = |set| self.part(table, set).iter().map(|&part| u64::from(part)).sum::<u64>();
         (0..self.sets.len()).all(|set| sum(set) == d)
     }
+}
+
+/// A table as probabilities: part / D.
+pub fn probabilities(table: &[u8], d: u64) -> Vec<f64> {
+    table.iter().map(|&part| f64::from(part) / d as f64).collect()
 }
 
 /// The tree of Kuhn with 2 to 6 seats, made once.
