@@ -1,6 +1,6 @@
 //! The calls in whole units: random tables of each game, rivals of their seats, and calls that are refused, held to the reference.
 
-use crate::number::some_number;
+use crate::number::{fewer, more, number_but, other_length};
 use crate::Counts;
 use host::memory::Memory;
 use host::stack::stack_of;
@@ -244,21 +244,10 @@ impl Plan {
             4 => call.words = fewer(words(self.tree), random),
             5 => *seat = number_but(random, |seat| seat >= self.tree.seats as u64),
             6 => call.d = number_but(random, |d| d == 0 || d > self.tree.most_parts),
-            7 => self.resize(call, random),
+            7 => call.table.resize(other_length(self.tree.entries, random), 0),
             8 => self.unbalance(call, random),
             _ => *room = fewer(self.tree.entries as u64, random),
         }
-    }
-
-    fn resize(&self, call: &mut Call, random: &mut Random) {
-        let entries = self.tree.entries;
-        let length = match random.below(4) {
-            0 => random.below(entries),
-            1 => entries - 1,
-            2 => entries + 1,
-            _ => entries + 1 + random.below(entries),
-        };
-        call.table.resize(length, 0);
     }
 
     /// A part more, a part less, a part moved to another set, or a sum that a byte would take for D.
@@ -328,27 +317,4 @@ fn pure_rivals(random: &mut Random) {
         }
     }
     println!("units, Kuhn 2: of {} tables all 64 pure rivals of each seat; the best is the best value", plan.tables);
-}
-
-/// 0 once in two, else a small number.
-fn more(random: &mut Random) -> u64 {
-    (random.below(2) * random.below(40)) as u64
-}
-
-/// A length below the given one: just below once in two.
-fn fewer(length: u64, random: &mut Random) -> u64 {
-    match random.below(2) {
-        0 => length - 1,
-        _ => random.below(length as usize) as u64,
-    }
-}
-
-/// A number of any size that passes a test.
-fn number_but(random: &mut Random, passes: impl Fn(u64) -> bool) -> u64 {
-    loop {
-        let number = some_number(random);
-        if passes(number) {
-            return number;
-        }
-    }
 }
