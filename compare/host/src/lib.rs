@@ -1,5 +1,7 @@
 //! The host: it lends memory to the calls of libchukkanalli.a, and holds them to the unchanged Rust.
 
+#[cfg(feature = "floats")]
+pub mod floats;
 pub mod listing;
 pub mod memory;
 pub mod rules;

@@ -1,7 +1,7 @@
-//! `answers GAME`: the judge's answers to the records of standard input, for GAME kuhn or leduc, or `answers listing`, `answers units`.
+//! `answers GAME`: the judge's answers to the records of standard input, for GAME kuhn or leduc, or `answers listing`, `answers units`, `answers floats`.
 
 use judge::list::answer;
-use judge::{kuhn_lists, leduc_lists, listing_lists, units_lists};
+use judge::{floats_lists, kuhn_lists, leduc_lists, listing_lists, units_lists};
 use std::{env, io};
 
 fn main() -> io::Result<()> {
@@ -10,7 +10,8 @@ fn main() -> io::Result<()> {
         Some("leduc") => answer::<leduc_lists::Given>,
         Some("listing") => listing_lists::answer,
         Some("units") => units_lists::answer,
-        _ => panic!("usage: answers kuhn, answers leduc, answers listing, or answers units"),
+        Some("floats") => floats_lists::answer,
+        _ => panic!("usage: answers kuhn, leduc, listing, units or floats"),
     };
     for record in io::stdin().lines() {
         print!("{}", answer(&record?));

@@ -158,15 +158,19 @@ impl Tree {
         set
     }
 
-    /// A set's own part of a table.
-    pub fn part<'a>(&self, table: &'a [u8], set: usize) -> &'a [u8] {
+    /// A set's own part of a table or of a profile.
+    pub fn part<'a, T>(&self, table: &'a [T], set: usize) -> &'a [T] {
         &table[self.sets[set].first..][..self.sets[set].actions]
     }
 
-    /// The probabilities of each set by its key, as the Rust's evaluations ask for them.
-    pub fn profile(&self, table: &[u8], d: u64) -> HashMap<Vec<u8>, Vec<f64>> {
-        let probabilities = |set| self.part(table, set).iter().map(|&part| f64::from(part) / d as f64).collect();
-        self.numbers.iter().map(|(key, &set)| (key.clone(), probabilities(set))).collect()
+    /// The number of the set with a key.
+    pub fn number(&self, key: &[u8]) -> usize {
+        self.numbers[key]
+    }
+
+    /// The entries of a set by its key, as the Rust's evaluations ask for them.
+    pub fn profile<'a>(&'a self, entries: &'a [f64]) -> impl Fn(&[u8], usize) -> Vec<f64> + 'a {
+        |key, _| self.part(entries, self.number(key)).to_vec()
     }
 
     /// The child behind an action of a decision.
@@ -182,6 +186,11 @@ impl Tree {
         let sum = |set| self.part(table, set).iter().map(|&part| u64::from(part)).sum::<u64>();
         (0..self.sets.len()).all(|set| sum(set) == d)
     }
+}
+
+/// A table as probabilities: part / D.
+pub fn probabilities(table: &[u8], d: u64) -> Vec<f64> {
+    table.iter().map(|&part| f64::from(part) / d as f64).collect()
 }
 
 /// The tree of Kuhn with 2 to 6 seats, made once.
@@ -272,6 +281,30 @@ impl<'a> Played<'a> {
         Best { value, reply }
     }
 
+    /// The ends by a seat's own moves, for the worths of its rivals.
+    pub fn sequences(&self, seat: usize) -> Sequences<'a> {
+        let tree = self.tree;
+        let units = self.units_of_nodes(Some(seat));
+        let mut gains = vec![0; tree.entries + 1];
+        let mut before = vec![None; tree.sets.len()];
+        let mut sequences = vec![0; tree.nodes.len()];
+        for (number, node) in tree.nodes.iter().enumerate() {
+            let sequence = sequences[number];
+            match node {
+                Node::End(payoffs) => gains[sequence] += units[number] * i128::from(payoffs[seat]),
+                Node::Decision { set, children } if tree.sets[*set].seat == seat => {
+                    assert_eq!(*before[*set].get_or_insert(sequence), sequence, "a seat recalls all its moves");
+                    let first = tree.sets[*set].first + 1;
+                    children.iter().zip(first..).for_each(|(&child, entry)| sequences[child] = entry);
+                }
+                Node::Chance(children) | Node::Decision { children, .. } => {
+                    children.iter().for_each(|&child| sequences[child] = sequence);
+                }
+            }
+        }
+        Sequences { tree, d: self.d, before, gains }.scaled()
+    }
+
     /// The sum of best − worth over the seats.
     pub fn nash_conv(&self) -> i128 {
         let worths = self.worths();
@@ -283,6 +316,43 @@ fn evenly(units: i128, by: i128) -> i128 {
     let share = units / by;
     assert_eq!(share * by, units, "units divide evenly");
     share
+}
+
+/// Units × payoff of a table's ends, added up for each sequence of a seat's own moves. A sequence is told by its last move: 0 has none, and
+/// e + 1 ends with the move of entry e.
+pub struct Sequences<'a> {
+    tree: &'a Tree,
+    d: u64,
+    /// The sequence on the way to each of the seat's sets.
+    before: Vec<Option<usize>>,
+    /// What a sequence gains with one part on each of its moves.
+    gains: Vec<i128>,
+}
+
+impl Sequences<'_> {
+    /// Of each sequence the product of a factor for each of its moves.
+    fn products(&self, factor: impl Fn(usize) -> i128) -> Vec<i128> {
+        let mut products = vec![1; self.gains.len()];
+        for (set, before) in self.tree.sets.iter().zip(&self.before) {
+            let Some(before) = *before else { continue };
+            (set.first..set.first + set.actions).for_each(|e| products[e + 1] = products[before] * factor(e));
+        }
+        products
+    }
+
+    /// From all D parts on each move to one.
+    fn scaled(mut self) -> Self {
+        let scales = self.products(|_| i128::from(self.d));
+        self.gains.iter_mut().zip(scales).for_each(|(gain, scale)| *gain = evenly(*gain, scale));
+        self
+    }
+
+    /// What a rival is worth to the seat: a valid table with the others' entries. No part is above D, so no sum leaves what `Played::new` checks.
+    pub fn worth(&self, rival: &[u8]) -> i128 {
+        assert!(self.tree.adds_up(rival, self.d));
+        let parts = self.products(|e| i128::from(rival[e]));
+        self.gains.iter().zip(parts).map(|(gain, parts)| gain * parts).sum()
+    }
 }
 
 /// The values and choices of a responder. A choice asks the values below all members, and those ask deeper choices.

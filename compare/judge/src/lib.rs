@@ -4,6 +4,8 @@
 pub mod answer;
 pub mod calls;
 pub mod exact;
+pub mod floats;
+pub mod floats_lists;
 pub mod kuhn;
 pub mod kuhn_lists;
 pub mod kuhn_paper;
@@ -15,6 +17,7 @@ pub mod list;
 pub mod listing;
 pub mod listing_lists;
 pub mod parts;
+pub mod profiles;
 pub mod random;
 pub mod units;
 pub mod units_lists;

@@ -1,6 +1,6 @@
 //! `lists SEED FOLDER`: writes stdin and stdout of each replay program NAME, to FOLDER/NAME if there is such a program.
 
-use judge::{kuhn_lists, leduc_lists, listing_lists, units_lists};
+use judge::{floats_lists, kuhn_lists, leduc_lists, listing_lists, units_lists};
 use std::path::Path;
 use std::{env, io};
 
@@ -13,6 +13,9 @@ const LISTING: [usize; 6] = [0, 1, 2, 3, 4, 9];
 /// The numbers that the calls in whole units give.
 const UNITS: [usize; 10] = [0, 1, 2, 3, 4, 5, 6, 7, 8, 9];
 
+/// The numbers that the calls in f64 give.
+const FLOATS: [usize; 7] = [0, 1, 2, 3, 4, 5, 7];
+
 fn main() -> io::Result<()> {
     let arguments: Vec<String> = env::args().collect();
     let [_, seed, folder] = arguments.as_slice() else { panic!("usage: lists SEED FOLDER") };
@@ -21,5 +24,6 @@ fn main() -> io::Result<()> {
     kuhn_lists::list(seed).write(folder, "kuhn_replay", &KUHN)?;
     leduc_lists::list(seed).write(folder, "leduc_replay", &LEDUC)?;
     listing_lists::list(seed).write(folder, "listing_replay", &LISTING)?;
-    units_lists::list(seed).write(folder, "units_replay", &UNITS)
+    units_lists::list(seed).write(folder, "units_replay", &UNITS)?;
+    floats_lists::list(seed).write(folder, "floats_replay", &FLOATS)
 }

@@ -1,6 +1,6 @@
 //! Tables of parts at random: mixed, pure, with ties, and with sets that no unit reaches.
 
-use crate::exact::Tree;
+use crate::exact::{Set, Tree};
 use crate::random::Random;
 
 /// How the parts of a set are laid.
@@ -36,6 +36,28 @@ pub fn rival(tree: &Tree, table: &[u8], seat: usize, d: u64, kind: Kind, random:
         lay(&mut rival[set.first..][..set.actions], d, kind, random);
     }
     rival
+}
+
+/// A rival with parts on two actions in some set of the seat; D is above 1.
+pub fn mixed_rival(tree: &Tree, table: &[u8], seat: usize, d: u64, random: &mut Random) -> Vec<u8> {
+    loop {
+        let rival = rival(tree, table, seat, d, Kind::Mixed, random);
+        let pure = |set: &Set| rival[set.first..][..set.actions].iter().any(|&part| u64::from(part) == d);
+        if !tree.sets.iter().filter(|set| set.seat == seat).all(pure) {
+            return rival;
+        }
+    }
+}
+
+/// A table with another mixture in one to three of a seat's sets.
+pub fn near(tree: &Tree, table: &[u8], seat: usize, d: u64, random: &mut Random) -> Vec<u8> {
+    let own: Vec<&Set> = tree.sets.iter().filter(|set| set.seat == seat).collect();
+    let mut near = table.to_vec();
+    for _ in 0..=random.below(3) {
+        let set = random.pick(&own);
+        lay(&mut near[set.first..][..set.actions], d, Kind::Mixed, random);
+    }
+    near
 }
 
 /// The rival with a pure choice in each of a seat's sets, all of two actions: bit s of the number for its set s.

@@ -42,25 +42,29 @@ pub fn words(tree: &Tree) -> u64 {
     WORDS * tree.nodes.len() as u64
 }
 
+/// The tree of a game, or the first of the numbers 1 to 4 that applies.
+pub fn tree_of(game: u64, seats: u64, lent: u64) -> Result<&'static Tree, u64> {
+    let tree = match (game, seats) {
+        (KUHN, 2..=6) => kuhn(seats as usize),
+        (KUHN, 7..=10) => return Err(3),
+        (LEDUC, 2) => leduc(),
+        (KUHN | LEDUC, _) => return Err(2),
+        _ => return Err(1),
+    };
+    if lent < words(tree) {
+        return Err(4);
+    }
+    Ok(tree)
+}
+
 impl Call {
     /// A table of a tree, with just enough work memory.
     pub fn of(game: u64, tree: &Tree, d: u64, table: Vec<u8>) -> Self {
         Call { game, seats: tree.seats as u64, words: words(tree), d, table }
     }
 
-    /// The tree, or the first of the numbers 1 to 4 that applies.
     fn tree(&self) -> Result<&'static Tree, u64> {
-        let tree = match (self.game, self.seats) {
-            (KUHN, 2..=6) => kuhn(self.seats as usize),
-            (KUHN, 7..=10) => return Err(3),
-            (LEDUC, 2) => leduc(),
-            (KUHN | LEDUC, _) => return Err(2),
-            _ => return Err(1),
-        };
-        if self.words < words(tree) {
-            return Err(4);
-        }
-        Ok(tree)
+        tree_of(self.game, self.seats, self.words)
     }
 
     /// The table, or the first of the numbers 6 to 8 that applies.

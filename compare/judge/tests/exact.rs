@@ -1,6 +1,6 @@
 //! The reference in whole units: document 01's cases k and l and its counts, the unchanged Rust's f64 NashConv, and rivals.
 
-use judge::exact::{kuhn, leduc, Node, Played, Tree};
+use judge::exact::{kuhn, leduc, probabilities, Node, Played, Tree};
 use judge::parts::{pure_rival, rival, table, Kind, KINDS};
 use judge::random::Random;
 use judge::EventNumber;
@@ -96,9 +96,8 @@ fn units_of_all_ends_add_up() {
 /// The f64 NashConv of the same profile, in units.
 fn agrees<G: Game<Event = f64>>(game: &G, tree: &Tree, d: u64, kind: Kind, random: &mut Random) {
     let table = table(tree, d, kind, random);
-    let profile = tree.profile(&table, d);
-    let rust =
-        nash_conv(game, &EventNumber, &|key: &[u8], _: usize| profile[key].clone()).expect("a tree within the limit");
+    let entries = probabilities(&table, d);
+    let rust = nash_conv(game, &EventNumber, &tree.profile(&entries)).expect("a tree within the limit");
     let played = Played::new(tree, d, &table);
     let exact = played.nash_conv() as f64 / played.units() as f64;
     assert!((rust - exact).abs() <= 1e-9 * exact.max(1.0), "{rust} and {exact}");
@@ -152,10 +151,13 @@ fn no_rival_is_worth_more() {
                 let replied = Played::new(tree, d, &best.reply);
                 assert_eq!(replied.worths()[seat], best.value);
                 assert!(played.worths()[seat] <= best.value);
+                let sequences = played.sequences(seat);
                 for _ in 0..rivals {
                     let kind = random.pick(&KINDS);
                     let rival = rival(tree, &table, seat, d, kind, &mut random);
-                    assert!(Played::new(tree, d, &rival).worths()[seat] <= best.value);
+                    let worth = Played::new(tree, d, &rival).worths()[seat];
+                    assert!(worth <= best.value);
+                    assert_eq!(sequences.worth(&rival), worth);
                 }
                 let last = rival(tree, &table, seat, d, Kind::Mixed, &mut random);
                 let again = Played::new(tree, d, &last).best(seat);

@@ -1,7 +1,7 @@
 //! The lists themselves: what the paper's moves reach, and that the committed files are what the seed makes.
 
 use judge::list::{answer, home, List};
-use judge::{kuhn_lists, kuhn_paper, leduc_lists, leduc_paper, listing_lists, units_lists};
+use judge::{floats_lists, kuhn_lists, kuhn_paper, leduc_lists, leduc_paper, listing_lists, units_lists};
 use reinfors_core::game::{Actor, Game};
 use reinfors_games::leduc::{LeducPoker, LeducState};
 use std::collections::HashSet;
@@ -76,6 +76,7 @@ fn committed_lists_are_the_seeds() {
         ("leduc_replay", leduc_lists::list(judge::SEED)),
         ("listing_replay", listing_lists::list(judge::SEED)),
         ("units_replay", units_lists::list(judge::SEED)),
+        ("floats_replay", floats_lists::list(judge::SEED)),
     ];
     for (program, list) in lists {
         assert!(list.stdin == committed(program, "stdin"), "{program}: stdin is another list");
@@ -94,4 +95,6 @@ fn records_can_be_answered_alone() {
     assert!(answered(&listing, listing_lists::answer) == listing.stdout);
     let units = units_lists::list(judge::SEED);
     assert!(answered(&units, units_lists::answer) == units.stdout);
+    let floats = floats_lists::list(judge::SEED);
+    assert!(answered(&floats, floats_lists::answer) == floats.stdout);
 }

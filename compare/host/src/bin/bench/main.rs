@@ -1,6 +1,8 @@
 //! `bench [ROUNDS]`: our time and the Rust's on the same inputs in one run. Both take turns, round after round; a row has the
 //! median of each and their ratio, and how many rounds it had: fewer where they would take too long.
 
+#[cfg(feature = "floats")]
+mod floats;
 mod listing;
 mod rules;
 #[cfg(feature = "units")]
@@ -23,10 +25,14 @@ fn main() {
     listing::bench(rounds);
     #[cfg(feature = "units")]
     units::bench(rounds);
+    #[cfg(feature = "floats")]
+    floats::bench(rounds);
     rules::bench(rounds);
+    #[cfg(feature = "floats")]
+    floats::beside_units(rounds);
 }
 
-/// Times both in turn, prints their medians, and hands them back.
+/// Times both in turn, prints their medians and the ratio, and hands the medians back.
 fn row(name: &str, rounds: usize, rust: &mut dyn FnMut(), ours: &mut dyn FnMut()) -> (f64, f64) {
     let (first_rust, first_ours) = (time(1, rust), time(1, ours));
     let (many_rust, many_ours) = (repeats(first_rust), repeats(first_ours));

@@ -3,7 +3,7 @@
 use crate::row;
 use host::memory::Memory;
 use host::units::nash_conv_units;
-use judge::exact::{kuhn, leduc, Tree};
+use judge::exact::{kuhn, leduc, probabilities, Tree};
 use judge::listing_lists::{KUHN, LEDUC};
 use judge::parts::{table, Kind};
 use judge::random::Random;
@@ -26,7 +26,8 @@ pub fn bench(rounds: usize) {
 fn one_table<G: Game<Event = f64>>(name: &str, number: u64, tree: &Tree, game: &G, rounds: usize) {
     let d = tree.most_parts;
     let table = table(tree, d, Kind::Mixed, &mut Random::new(2026));
-    let profile = tree.profile(&table, d);
+    let entries = probabilities(&table, d);
+    let profile = tree.profile(&entries);
     let mut memory = Memory::new(words(tree), 0);
     let (mut float, mut whole) = (0.0, 0.0);
     let mut ours = || {
@@ -35,8 +36,7 @@ fn one_table<G: Game<Event = f64>>(name: &str, number: u64, tree: &Tree, game: &
         whole = answer.nash_conv as f64 / answer.units as f64;
     };
     let mut rust = || {
-        let asked = |key: &[u8], _: usize| profile[key].clone();
-        float = nash_conv(black_box(game), &EventNumber, &asked).expect("a tree within the limit");
+        float = nash_conv(black_box(game), &EventNumber, &profile).expect("a tree within the limit");
     };
     row(name, rounds, &mut rust, &mut ours);
     assert!((float - whole).abs() <= 1e-9 * whole.max(1.0), "{name}: {float} and {whole}");

@@ -1,7 +1,9 @@
 //! `compare [CALLS [SEED]]`: as many hands of each game, and as many listings, with random inputs, held to the unchanged Rust; and tables of
-//! each game, held to the reference in whole units.
+//! each game, held to the reference in whole units. With the feature `floats`, profiles too, held to the Rust.
 //! It prints its seed, and stops at the first difference.
 
+#[cfg(feature = "floats")]
+mod floats;
 mod listing;
 mod number;
 mod rules;
@@ -22,6 +24,8 @@ fn main() {
     listing::compare(calls, &mut random);
     #[cfg(feature = "units")]
     units::compare(&mut random);
+    #[cfg(feature = "floats")]
+    floats::compare(&mut random);
 }
 
 fn clock() -> u64 {

@@ -1,15 +1,18 @@
 //! The calls in whole units: random tables of each game, rivals of their seats, and calls that are refused, held to the reference.
 
-use crate::number::some_number;
+use crate::number::{fewer, more, number_but, other_length};
 use crate::Counts;
 use host::memory::Memory;
 use host::stack::stack_of;
 use host::units::{best_reply, nash_conv_units, worths, NashConvAnswer, ReplyAnswer, WorthsAnswer};
-use judge::exact::{kuhn, leduc, Played, Tree};
+use judge::exact::{kuhn, leduc, Played, Sequences, Tree};
 use judge::listing_lists::{KUHN, LEDUC};
-use judge::parts::{pure_rival, rival, table, Kind, KINDS};
+use judge::parts::{mixed_rival, near, pure_rival, rival, table, Kind, KINDS};
 use judge::random::Random;
 use judge::units::{words, Call};
+
+/// The mixed rivals of each game and seat, at least.
+const LEAST_MIXED: usize = 10_000;
 
 /// A game, and how much of it is compared.
 struct Plan {
@@ -17,7 +20,7 @@ struct Plan {
     game: u64,
     tree: &'static Tree,
     tables: usize,
-    /// The rivals of each seat, over all tables; where D is 1, in one table of four, they are pure.
+    /// The rivals of each kind for each table and seat.
     rivals: usize,
     /// The calls refused with each number.
     refused: usize,
@@ -26,23 +29,40 @@ struct Plan {
 pub fn compare(random: &mut Random) {
     let plan = |name, game, tree, tables, rivals, refused| Plan { name, game, tree, tables, rivals, refused };
     let plans = [
-        plan("Kuhn 2", KUHN, kuhn(2), 2_400, 14_000, 100),
-        plan("Kuhn 3", KUHN, kuhn(3), 480, 14_000, 100),
-        plan("Kuhn 4", KUHN, kuhn(4), 48, 2_000, 20),
-        plan("Kuhn 5", KUHN, kuhn(5), 6, 24, 2),
-        plan("Kuhn 6", KUHN, kuhn(6), 3, 6, 1),
-        plan("Leduc", LEDUC, leduc(), 48, 14_000, 20),
+        plan("Kuhn 2", KUHN, kuhn(2), 2_400, 6, 100),
+        plan("Kuhn 3", KUHN, kuhn(3), 480, 30, 100),
+        plan("Kuhn 4", KUHN, kuhn(4), 48, 300, 20),
+        plan("Kuhn 5", KUHN, kuhn(5), 24, 600, 2),
+        plan("Kuhn 6", KUHN, kuhn(6), 6, 2_400, 1),
+        plan("Leduc", LEDUC, leduc(), 48, 300, 20),
     ];
     let mut counts = Counts::new();
     for plan in &plans {
         let rivals = plan.all_tables(&mut counts, random);
         let refused = plan.all_refusals(&mut counts, random);
-        let Plan { name, tables, .. } = plan;
-        println!("units, {name}: {tables} tables agree, {rivals} rivals of each seat are not better, {refused} calls are refused");
+        println!("units, {}: {} tables agree, {refused} calls are refused", plan.name, plan.tables);
+        rivals.iter().enumerate().for_each(|(seat, rivals)| rivals.print(seat));
+        assert!(rivals.iter().all(|rivals| rivals.mixed >= LEAST_MIXED), "{}: too few mixed rivals", plan.name);
     }
     pure_rivals(random);
     println!("units: at most {} bytes of stack", plans.iter().map(Plan::stack).max().expect("six games"));
     counts.print();
+}
+
+/// How many rivals of a seat were not better, and how many of them were weighed whole too.
+#[derive(Clone, Default)]
+struct Rivals {
+    mixed: usize,
+    pure: usize,
+    near: usize,
+    whole: usize,
+}
+
+impl Rivals {
+    fn print(&self, seat: usize) {
+        let Rivals { mixed, pure, near, whole } = self;
+        println!("  seat {seat}: {mixed} mixed rivals, {pure} pure ones and {near} near the reply are not better; {whole} are weighed whole too");
+    }
 }
 
 /// The calls on one table, for one seat and with so many bytes of output.
@@ -123,24 +143,24 @@ impl Plan {
         call
     }
 
-    /// All calls on each table, with some rivals of every seat. Answers how many rivals each seat had.
-    fn all_tables(&self, counts: &mut Counts, random: &mut Random) -> usize {
-        let each = self.rivals.div_ceil(self.tables);
+    /// All calls on each table, with rivals of every seat. Answers how many rivals each seat had.
+    fn all_tables(&self, counts: &mut Counts, random: &mut Random) -> Vec<Rivals> {
+        let mut rivals = vec![Rivals::default(); self.tree.seats];
         for number in 0..self.tables {
             // 24 tables have each kind with each D; fewer have another kind and another D in turn, the first mixed with the largest D.
             let number = if self.tables < 24 { number * 5 + 1 } else { number };
             let mut asked = Asked { call: self.some_call(number, random), seat: 0, room: 0 };
             asked.worths(counts, random);
             asked.nash_conv(counts, random);
-            for seat in 0..self.tree.seats {
+            for (seat, rivals) in rivals.iter_mut().enumerate() {
                 asked.seat = seat as u64;
                 asked.room = self.tree.entries as u64 + more(random);
                 asked.best_reply(counts, random);
                 self.replied(&asked.call, seat, random);
-                self.rivals(&asked.call, seat, each, random);
+                self.rivals(&asked.call, seat, rivals, random);
             }
         }
-        each * self.tables
+        rivals
     }
 
     /// The best value of a table, by the archive, and the reply.
@@ -169,17 +189,19 @@ impl Plan {
         assert_eq!(self.best(&Call { table: other, ..call.clone() }, seat), (value, reply), "a rival of {call:?}");
     }
 
-    /// No rival is worth more than the best value. Rivals are weighed by the reference, the first one by the archive too.
-    fn rivals(&self, call: &Call, seat: usize, rivals: usize, random: &mut Random) {
-        let best = self.best(call, seat).0;
-        for number in 0..rivals {
-            let rival = rival(self.tree, &call.table, seat, call.d, Kind::Mixed, random);
-            let worth = Played::new(self.tree, call.d, &rival).worths()[seat];
-            assert!(worth <= i128::from(best), "{rival:?} is worth {worth} to seat {seat} in {call:?}");
-            if number == 0 {
-                assert_eq!(i128::from(self.worth(call, &rival, seat)), worth, "{rival:?} in {call:?}");
-            }
+    /// No rival is worth more than the best value.
+    fn rivals(&self, call: &Call, seat: usize, rivals: &mut Rivals, random: &mut Random) {
+        let Plan { tree, .. } = self;
+        let Call { d, table, .. } = call;
+        let (best, reply) = self.best(call, seat);
+        let weighed = Weighed { plan: self, call, seat, best, sequences: Played::new(tree, *d, table).sequences(seat) };
+        if *d > 1 {
+            rivals.mixed += weighed.not_better(|| mixed_rival(tree, table, seat, *d, random));
+            rivals.whole += 1;
         }
+        rivals.pure += weighed.not_better(|| rival(tree, table, seat, *d, Kind::Pure, random));
+        rivals.near += weighed.not_better(|| near(tree, &reply, seat, *d, random));
+        rivals.whole += 2;
     }
 
     /// Each of the numbers 1 to 9 so many times. Answers how many calls there were.
@@ -222,21 +244,10 @@ impl Plan {
             4 => call.words = fewer(words(self.tree), random),
             5 => *seat = number_but(random, |seat| seat >= self.tree.seats as u64),
             6 => call.d = number_but(random, |d| d == 0 || d > self.tree.most_parts),
-            7 => self.resize(call, random),
+            7 => call.table.resize(other_length(self.tree.entries, random), 0),
             8 => self.unbalance(call, random),
             _ => *room = fewer(self.tree.entries as u64, random),
         }
-    }
-
-    fn resize(&self, call: &mut Call, random: &mut Random) {
-        let entries = self.tree.entries;
-        let length = match random.below(4) {
-            0 => random.below(entries),
-            1 => entries - 1,
-            2 => entries + 1,
-            _ => entries + 1 + random.below(entries),
-        };
-        call.table.resize(length, 0);
     }
 
     /// A part more, a part less, a part moved to another set, or a sum that a byte would take for D.
@@ -268,6 +279,32 @@ impl Plan {
     }
 }
 
+/// A seat of a table, with its best value, and with the ends by its own moves to weigh its rivals by.
+struct Weighed<'a> {
+    plan: &'a Plan,
+    call: &'a Call,
+    seat: usize,
+    best: i64,
+    sequences: Sequences<'a>,
+}
+
+impl Weighed<'_> {
+    /// Weighs as many rivals of a kind as are planned, and answers how many. The first is weighed whole too, by the reference and by the archive.
+    fn not_better(&self, mut rival: impl FnMut() -> Vec<u8>) -> usize {
+        let Weighed { plan, call, seat, best, sequences } = self;
+        for number in 0..plan.rivals {
+            let rival = rival();
+            let worth = sequences.worth(&rival);
+            assert!(worth <= i128::from(*best), "{rival:?} is worth {worth} to seat {seat} in {call:?}");
+            if number == 0 {
+                assert_eq!(worth, Played::new(plan.tree, call.d, &rival).worths()[*seat], "{rival:?} in {call:?}");
+                assert_eq!(worth, i128::from(plan.worth(call, &rival, *seat)), "{rival:?} in {call:?}");
+            }
+        }
+        plan.rivals
+    }
+}
+
 /// All 64 pure rivals of each seat of some tables of Kuhn 2: the best of them is the best value.
 fn pure_rivals(random: &mut Random) {
     let plan = Plan { name: "Kuhn 2", game: KUHN, tree: kuhn(2), tables: 240, rivals: 0, refused: 0 };
@@ -280,27 +317,4 @@ fn pure_rivals(random: &mut Random) {
         }
     }
     println!("units, Kuhn 2: of {} tables all 64 pure rivals of each seat; the best is the best value", plan.tables);
-}
-
-/// 0 once in two, else a small number.
-fn more(random: &mut Random) -> u64 {
-    (random.below(2) * random.below(40)) as u64
-}
-
-/// A length below the given one: just below once in two.
-fn fewer(length: u64, random: &mut Random) -> u64 {
-    match random.below(2) {
-        0 => length - 1,
-        _ => random.below(length as usize) as u64,
-    }
-}
-
-/// A number of any size that passes a test.
-fn number_but(random: &mut Random, passes: impl Fn(u64) -> bool) -> u64 {
-    loop {
-        let number = some_number(random);
-        if passes(number) {
-            return number;
-        }
-    }
 }
