@@ -47,7 +47,8 @@ Prints for each table what it is worth to each seat, each seat's best value (the
 table gets it which differs in that seat's sets only) and NashConv, the sum of best value - worth:
 in units, in chips per hand as a fraction in lowest terms, and that rounded to nine decimals.
 
---jobs N   evaluates N tables at a time, by default one a core; what is printed is the same
+--jobs N   evaluates N tables at a time, by default one a core, at most 256; what is printed is
+           the same
 
   chukkanalli evaluate kuhn 2 1 samples/always-pass.txt
 ";
@@ -59,7 +60,8 @@ Prints the tables in order of NashConv, the lowest and so the hardest to beat fi
 equal NashConv have the same rank; the comparison is exact. A table that was refused or cannot be
 read stands below, with the reason.
 
---jobs N   evaluates N tables at a time, by default one a core; what is printed is the same
+--jobs N   evaluates N tables at a time, by default one a core, at most 256; what is printed is
+           the same
 
   chukkanalli ladder kuhn 2 3 samples/equilibrium.txt samples/always-pass.txt
 ";

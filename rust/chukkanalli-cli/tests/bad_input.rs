@@ -5,6 +5,7 @@ mod common;
 use common::{run, run_line, table, Run};
 use std::ffi::{OsStr, OsString};
 use std::os::unix::ffi::OsStrExt;
+use std::process::Command;
 
 const SEATS: &str = "refused with 2: the seat count is outside 2 to 10 for Kuhn, or not 2 for Leduc";
 const TREE: &str = "refused with 3: the tree has more than 4,000,000 nodes, which is Kuhn with 7 to 10 seats";
@@ -187,6 +188,14 @@ fn files_that_are_none_are_told() {
     let odd: [OsString; 5] =
         [b"evaluate".as_slice(), b"kuhn", b"2", b"1", b"a\xffb\n"].map(|arg| OsStr::from_bytes(arg).to_os_string());
     assert_eq!(run(odd), refused("a\u{fffd}b\\n: there is no such file"));
+}
+
+#[test]
+fn too_little_memory_is_refused_with_4() {
+    let line = "ulimit -v 150000; exec \"$0\" evaluate kuhn 6 16 nowhere.txt";
+    let output = Command::new("sh").args(["-c", line, env!("CARGO_BIN_EXE_chukkanalli")]).output().unwrap();
+    let memory = "refused with 4: the work memory has fewer than 12 words of 64 bits per node of the tree";
+    assert_eq!(Run::from(output), refused(&format!("there is too little memory: {memory}")));
 }
 
 #[test]

@@ -4,8 +4,12 @@ use std::thread;
 
 use chukkanalli::{Evaluator, Game, Refusal};
 
+use super::Stop;
 use crate::args::{Misuse, Number, Setting, Verb};
 use crate::reader::quoted;
+
+/// The threads at most, whatever is asked for: each takes memory of its own.
+const MOST_THREADS: usize = 256;
 
 /// The number that a game's name stands for; that of no game for any other name.
 fn number_of(name: &str) -> u64 {
@@ -17,10 +21,10 @@ fn number_of(name: &str) -> u64 {
 }
 
 /// The evaluator of a setting, once D and for a reply the seat are fit for its game.
-pub fn evaluator(verb: Verb, setting: &Setting, seat: Option<&Number>) -> Result<Evaluator, Misuse> {
+pub fn evaluator(verb: Verb, setting: &Setting, seat: Option<&Number>) -> Result<Evaluator, Stop> {
     let refused = |name: &str, word: &str, refusal: Refusal| {
         let sentence = format!("{name} is {}: {refusal}", quoted(word));
-        Misuse::of(verb, sentence)
+        Stop::Misuse(Misuse::of(verb, sentence))
     };
     let seats = &setting.seats;
     let game = Game::by_number(number_of(&setting.game), seats.value).map_err(|refusal| match refusal {
@@ -28,7 +32,7 @@ pub fn evaluator(verb: Verb, setting: &Setting, seat: Option<&Number>) -> Result
         _ => refused("SEATS", &seats.word, refusal),
     })?;
     let mut evaluator = Evaluator::new(game).map_err(|refusal| match refusal {
-        Refusal::Memory => Misuse::of(verb, format!("there is too little memory: {refusal}")),
+        Refusal::Memory => Stop::NoMemory(refusal),
         _ => refused("SEATS", &seats.word, refusal),
     })?;
     // No game has a table without entries, so the table is refused where nothing before it is.
@@ -43,7 +47,8 @@ pub fn evaluator(verb: Verb, setting: &Setting, seat: Option<&Number>) -> Result
 /// An evaluator for each thread: as many as asked for, by default one a core, as there are tables, and as there is memory for.
 pub fn one_a_thread(first: Evaluator, jobs: Option<u64>, tables: usize) -> Vec<Evaluator> {
     let cores = || thread::available_parallelism().map_or(1, usize::from);
-    let wanted = jobs.map_or_else(cores, |jobs| usize::try_from(jobs).unwrap_or(usize::MAX)).min(tables);
+    let asked = jobs.map_or_else(cores, |jobs| usize::try_from(jobs).unwrap_or(MOST_THREADS));
+    let wanted = asked.min(MOST_THREADS).min(tables);
     let game = first.game();
     let mut evaluators = vec![first];
     while evaluators.len() < wanted {

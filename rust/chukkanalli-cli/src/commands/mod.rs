@@ -10,6 +10,8 @@ mod template;
 use std::ffi::OsString;
 use std::io::{self, ErrorKind};
 
+use chukkanalli::Refusal;
+
 use crate::args::{self, Misuse, Request};
 use crate::console::Console;
 use crate::help;
@@ -22,6 +24,8 @@ const MISUSED: u8 = 2;
 /// Why a command ended early.
 enum Stop {
     Misuse(Misuse),
+    /// The system has no work memory for the game.
+    NoMemory(Refusal),
     /// The output cannot be written.
     Unwritable(io::Error),
 }
@@ -48,6 +52,10 @@ pub fn run(args: &[OsString], console: &mut Console) -> u8 {
             console.complain(format_args!("{before}{}", misuse.sentence));
             console.complain(format_args!("`chukkanalli {verb}--help` says more"));
             MISUSED
+        }
+        Err(Stop::NoMemory(refusal)) => {
+            console.complain(format_args!("there is too little memory: {refusal}"));
+            REFUSED
         }
         // Whoever read the output has enough of it.
         Err(Stop::Unwritable(error)) if error.kind() == ErrorKind::BrokenPipe => DONE,

@@ -21,7 +21,10 @@ struct Answer {
 pub fn run(setting: &Setting, path: &Path, seat: &Number, console: &mut Console) -> Result<u8, Stop> {
     let mut evaluator = game::evaluator(Verb::Reply, setting, Some(seat))?;
     let (name, d) = (file_name(path), setting.d.value);
-    let answer = table::evaluated(path, &mut evaluator, d, |evaluator, parts| reply(evaluator, seat.value, d, parts));
+    console.expect_calls(3);
+    let answer =
+        table::evaluated(path, &mut evaluator, d, |evaluator, parts| reply(evaluator, seat.value, d, parts, console));
+    console.end_calls();
     match answer {
         Ok(answer) => {
             let game = evaluator.game();
@@ -38,10 +41,13 @@ pub fn run(setting: &Setting, path: &Path, seat: &Number, console: &mut Console)
     }
 }
 
-fn reply(evaluator: &mut Evaluator, seat: u64, d: u64, parts: &[u8]) -> Result<Answer, Refusal> {
+fn reply(evaluator: &mut Evaluator, seat: u64, d: u64, parts: &[u8], console: &mut Console) -> Result<Answer, Refusal> {
     let best = evaluator.best_reply(seat, d, parts)?;
+    console.count_calls(1);
     let worth = evaluator.worths(d, parts)?[seat as usize];
+    console.count_calls(1);
     let units = evaluator.nash_conv_units(d, parts)?.units;
+    console.count_calls(1);
     Ok(Answer { worth, best, units })
 }
 

@@ -20,8 +20,9 @@ fn text(evaluator: &Evaluator, setting: &Setting) -> String {
     text += &format!("# The parts of a set add up to {d}. Each set has all of them on its first action, so this\n");
     let name = game.name().to_lowercase();
     text += &format!("# table is valid as it is: chukkanalli evaluate {name} {} {d} FILE\n\n", game.seats());
-    let width = evaluator.sets().iter().map(|set| parts(set, d).len()).max().unwrap_or(0);
-    for set in &evaluator.sets() {
+    let sets = evaluator.sets();
+    let width = sets.iter().map(|set| parts(set, d).len()).max().unwrap_or(0);
+    for set in &sets {
         text += &line(game, set, d, width);
     }
     text
