@@ -3,21 +3,32 @@ RUST ?= ../shared/docs/src
 
 CARGO_FLAGS := --offline --locked
 
-# How many random hands `compare` plays of each game; its seed, else one from the clock. How many rounds `bench` times.
+# How many random hands `compare` plays of each game; its seed, else one from the clock. How many rounds `bench` times. How long `fuzz` runs; its seed is 1.
 HANDS ?= 2000
 SEED ?=
 ROUNDS ?= 101
+SECONDS ?= 600
 
 ARCHIVE := target/staticlib/libchukkanalli.a
+PRODUCT := build/bin/chukkanalli
+SAMPLE := samples/always-pass.txt
 
 .SILENT:
-.PHONY: run check test host-tests lists archive compare bench
+.PHONY: run sample check test host-tests product product-test product-tests cases fuzz lists archive compare bench
 
-# Plays a hand, then replies to a table, through the proved calls.
-run:
+# Evaluates a table by which both seats always pass, and replies to it in words.
+run: $(PRODUCT)
+	echo '$$ chukkanalli evaluate kuhn 2 1 $(SAMPLE)'
+	$(PRODUCT) evaluate kuhn 2 1 $(SAMPLE)
+	echo
+	echo '$$ chukkanalli reply kuhn 2 1 $(SAMPLE) 0'
+	$(PRODUCT) reply kuhn 2 1 $(SAMPLE) 0
+
+# A proved program: plays a hand, then replies to a table.
+sample:
 	mkdir -p build
-	test -x target/bin/sample || echo 'proving the calls first; build/run.log has what rt says' >&2
-	rt check sample >build/run.log 2>&1 || { cat build/run.log; exit 1; }
+	test -x target/bin/sample || echo 'proving the calls first; build/sample.log has what rt says' >&2
+	rt check sample >build/sample.log 2>&1 || { cat build/sample.log; exit 1; }
 	target/bin/sample
 
 # Proves what has changed since it was last proved, and runs the programs.
@@ -25,7 +36,7 @@ check:
 	rt check
 
 # The gate. The last line it prints is that of `rt ci`, which removes target/ and proves all from nothing.
-test: host-tests
+test: host-tests product-tests
 	rt fmt --check
 	exec rt ci
 
@@ -39,6 +50,36 @@ host-tests:
 	    cd compare && RUST='$(RUST)' cargo test -q $(CARGO_FLAGS); \
 	fi
 
+# The command line. It is made anew where a file that it comes from is newer, and needs no archive once it is there.
+product: $(PRODUCT)
+
+$(PRODUCT): $(shell find crates crates.txt rust -type f)
+	command -v cargo >/dev/null || { echo 'the command line needs cargo; make sample runs a proved program without it'; exit 1; }
+	$(MAKE) --no-print-directory $(ARCHIVE)
+	cd rust && cargo build -q $(CARGO_FLAGS) --release --bin chukkanalli
+	mkdir -p build/bin
+	cp build/cargo-product/release/chukkanalli $@
+
+# The product's tests, with the archive; it is made first where it is missing or older than a file of crates/.
+product-test: $(ARCHIVE)
+	$(MAKE) --no-print-directory cases
+	cd rust && cargo test -q $(CARGO_FLAGS)
+
+# The gate's share of them: all where the archive stands, else those that need none. To make it would prove the calls twice.
+product-tests:
+	if ! command -v cargo >/dev/null; then \
+	    echo "skipped: the product's tests (there is no cargo)"; \
+	elif test -f $(ARCHIVE) && test -z "$$(find crates crates.txt -newer $(ARCHIVE))"; then \
+	    $(MAKE) --no-print-directory cases && cd rust && cargo test -q $(CARGO_FLAGS); \
+	else \
+	    echo "skipped: the product's tests (make product-test runs them)"; \
+	    cd rust && cargo test -q $(CARGO_FLAGS) --no-default-features --lib; \
+	fi
+
+# Random tables and command lines, held to a model.
+fuzz: $(ARCHIVE)
+	cd rust && cargo run -q $(CARGO_FLAGS) --release --bin fuzz -- $(SECONDS) $(or $(SEED),1)
+
 # Writes the committed lists anew, from the unchanged Rust.
 lists:
 	cd compare && RUST='$(RUST)' cargo run -q $(CARGO_FLAGS) --release --bin lists -- 2026 ../crates
@@ -46,12 +87,22 @@ lists:
 # The calls for C: proves them and writes $(ARCHIVE).
 archive:
 	mkdir -p build
+	test -f $(ARCHIVE) || echo 'proving the calls first, which takes some minutes; build/archive.log has what rt says' >&2
 	rt staticlib chukkanalli >build/archive.log 2>&1 || { cat build/archive.log; exit 1; }
 
-# Document 01's cases through the header from C, then random hands through the archive and through the unchanged Rust.
-compare: archive
+# The archive, where it is missing or older than a file of crates/.
+$(ARCHIVE): $(shell find crates crates.txt -type f)
+	$(MAKE) --no-print-directory archive
+
+# Document 01's cases and each call, through the header from C.
+cases:
+	mkdir -p build
 	$(CC) -std=c11 -O1 -Wall -Wextra -Werror -Iinclude compare/cases.c $(ARCHIVE) -o build/cases
 	build/cases
+
+# The same, then random hands through the archive and through the unchanged Rust.
+compare: archive
+	$(MAKE) --no-print-directory cases
 	cd compare && RUST='$(RUST)' cargo run -q $(CARGO_FLAGS) --release -p host --bin compare -- $(HANDS) $(SEED)
 
 # The time of both on the same random hands, in one run.

@@ -1,4 +1,5 @@
-/* Document 01's cases a to j and the keys of Kuhn 2 through the header and the archive, from C. Ends with status 1 at the first that differs. */
+/* Document 01's cases a to l, the keys of Kuhn 2, and each call on good and on refused input, through the header and the archive, from C. Ends with
+ * status 1 at the first that differs. */
 #include "chukkanalli.h"
 
 #include <stdio.h>
@@ -181,12 +182,81 @@ static void refusals(void) {
     expect("9, nothing lent", chukkanalli_leduc_legal_actions(leduc(0, 4), 0, NULL, 0).refusal == CHUKKANALLI_OUTPUT);
 }
 
+/* ---- the calls that no case makes, accepted and refused */
+
+static void kuhn_calls(void) {
+    const uint64_t low_first[2] = {0, 0};
+    chukkanalli_kuhn_position dealt = kuhn(low_first, ""), ended = kuhn(low_first, "00"), odd = dealt;
+    odd.cards[1] = 0;
+    uint8_t out[4] = {9, 9, 9, 9};
+    expect("a start refused", chukkanalli_kuhn_initial_state(1).refusal == CHUKKANALLI_SEATS);
+    expect("a deal refused", chukkanalli_kuhn_apply_chance_node(2, dealt, 0).refusal == CHUKKANALLI_UNFIT);
+    expect("a step refused", chukkanalli_kuhn_step(2, ended, 0).refusal == CHUKKANALLI_UNFIT);
+    expect("a payoff refused", chukkanalli_kuhn_payouts(2, dealt).refusal == CHUKKANALLI_UNFIT);
+    expect("a saved position", chukkanalli_kuhn_validate_decoded_state(2, ended, 1).refusal == CHUKKANALLI_ACCEPTED);
+    expect("a legal list refused", chukkanalli_kuhn_legal_actions(2, odd, 0, out, sizeof out).refusal == CHUKKANALLI_UNREACHABLE);
+    expect("a key refused", chukkanalli_kuhn_information_state_key(2, dealt, 2, out, sizeof out).refusal == CHUKKANALLI_UNFIT);
+    expect("a key too long", chukkanalli_kuhn_information_state_key(2, dealt, 1, out, 1).refusal == CHUKKANALLI_OUTPUT && out[0] == 9);
+    chukkanalli_kuhn_written legal = chukkanalli_kuhn_legal_actions(2, dealt, 0, out, sizeof out);
+    expect("a legal list", legal.refusal == 0 && legal.count == 2 && out[0] == CHUKKANALLI_PASS && out[1] == CHUKKANALLI_BET && out[2] == 9);
+    chukkanalli_kuhn_written key = chukkanalli_kuhn_information_state_key(2, kuhn(low_first, "1"), 1, out, sizeof out);
+    expect("a key", key.refusal == 0 && key.count == 3 && out[0] == 1 && out[1] == 1 && out[2] == CHUKKANALLI_BET && out[3] == 9);
+}
+
+static void leduc_calls(void) {
+    chukkanalli_leduc_position dealt = leduc(0, 4), early = dealt;
+    early.public_card = 1;
+    uint8_t out[5] = {9, 9, 9, 9, 9};
+    expect("a deal refused", chukkanalli_leduc_apply_chance_node(dealt, 0).refusal == CHUKKANALLI_UNFIT);
+    expect("a payoff refused", chukkanalli_leduc_payouts(dealt).refusal == CHUKKANALLI_UNFIT);
+    expect("a key refused", chukkanalli_leduc_information_state_key(dealt, 2, out, sizeof out).refusal == CHUKKANALLI_UNFIT);
+    expect("a key too long", chukkanalli_leduc_information_state_key(dealt, 0, out, 4).refusal == CHUKKANALLI_OUTPUT && out[0] == 9);
+    expect("a saved position", chukkanalli_leduc_validate_decoded_state(dealt, 0).refusal == CHUKKANALLI_ACCEPTED);
+    expect("a wrong mark", chukkanalli_leduc_validate_decoded_state(dealt, 1).refusal == CHUKKANALLI_END_MARK);
+    expect("an early public card", chukkanalli_leduc_validate_decoded_state(early, 0).refusal == CHUKKANALLI_EARLY_PUBLIC);
+}
+
+/* Each evaluation of a table of Kuhn 2 is refused with this number, and leaves the work memory and the output. */
+static void units_refused(uint64_t number, uint64_t seats, size_t words, uint64_t d, const uint8_t *table, size_t length) {
+    static uint64_t work[12 * 58];
+    uint8_t out[24];
+    memset(work, 9, sizeof work);
+    memset(out, 9, sizeof out);
+    expect("worths refused", chukkanalli_worths(CHUKKANALLI_KUHN_POKER, seats, work, words, d, table, length).refusal == number);
+    expect("NashConv refused", chukkanalli_nash_conv_units(CHUKKANALLI_KUHN_POKER, seats, work, words, d, table, length).refusal == number);
+    expect("a reply refused",
+        chukkanalli_best_reply(CHUKKANALLI_KUHN_POKER, seats, work, words, 0, d, table, length, out, sizeof out).refusal == number);
+    for (size_t byte = 0; byte < sizeof work; byte++) {
+        expect("what refused calls leave", ((const uint8_t *)work)[byte] == 9 && out[byte % sizeof out] == 9);
+    }
+}
+
+static void units_refusals(void) {
+    static uint64_t work[12 * 58];
+    uint8_t table[24], out[24];
+    for (int entry = 0; entry < 24; entry++) {
+        table[entry] = entry % 2 == 0;
+    }
+    units_refused(CHUKKANALLI_SEATS, 11, 12 * 58, 1, table, 24);
+    units_refused(CHUKKANALLI_TREE, 7, 12 * 58, 1, table, 24);
+    units_refused(CHUKKANALLI_MEMORY, 2, 12 * 58 - 1, 1, table, 24);
+    units_refused(CHUKKANALLI_PARTS, 2, 12 * 58, 65, table, 24);
+    units_refused(CHUKKANALLI_TABLE, 2, 12 * 58, 1, table, 23);
+    units_refused(CHUKKANALLI_SUM, 2, 12 * 58, 2, table, 24);
+    expect("a game", chukkanalli_worths(2, 2, work, 12 * 58, 1, table, 24).refusal == CHUKKANALLI_GAME);
+    expect("a seat", chukkanalli_best_reply(CHUKKANALLI_KUHN_POKER, 2, work, 12 * 58, 2, 1, table, 24, out, 24).refusal == CHUKKANALLI_SEAT);
+    expect("an output", chukkanalli_best_reply(CHUKKANALLI_KUHN_POKER, 2, work, 12 * 58, 0, 1, table, 24, out, 23).refusal == CHUKKANALLI_OUTPUT);
+}
+
 int main(void) {
     kuhn_cases();
     leduc_cases();
     listing();
     units_cases();
     refusals();
-    puts("cases a to l and Kuhn 2's keys from C: as document 01 has them");
+    kuhn_calls();
+    leduc_calls();
+    units_refusals();
+    puts("cases a to l, Kuhn 2's keys and each call from C: as document 01 has them");
     return 0;
 }

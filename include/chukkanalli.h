@@ -27,6 +27,10 @@ enum {
     CHUKKANALLI_SEATS = 2,         /* the seat count is outside 2 to 10 for Kuhn, or not 2 for Leduc */
     CHUKKANALLI_TREE = 3,          /* the tree has more than 4,000,000 nodes: Kuhn with 7 to 10 seats */
     CHUKKANALLI_MEMORY = 4,        /* the work memory has fewer than 12 words per node of the tree */
+    CHUKKANALLI_SEAT = 5,          /* the seat is not below the seat count, in a call that evaluates one seat */
+    CHUKKANALLI_PARTS = 6,         /* D, the parts per set, is 0, or above 64 (Leduc, Kuhn 2 to 4) or above 16 (Kuhn 5 and 6) */
+    CHUKKANALLI_TABLE = 7,         /* the table's length is not exactly the entry count */
+    CHUKKANALLI_SUM = 8,           /* in some set the parts do not add up to D */
     CHUKKANALLI_OUTPUT = 9,        /* the output is shorter than its answer */
     CHUKKANALLI_CARD_COUNT = 10,   /* a saved position does not hold one card per seat */
     CHUKKANALLI_CARD = 11,         /* a card is not in the deck */

@@ -1,0 +1,80 @@
+//! The commands, one a file.
+
+mod evaluate;
+mod game;
+mod ladder;
+mod reply;
+mod table;
+mod template;
+
+use std::ffi::OsString;
+use std::io::{self, ErrorKind};
+
+use chukkanalli::Refusal;
+
+use crate::args::{self, Misuse, Request};
+use crate::console::Console;
+use crate::help;
+
+/// The statuses that a run ends with.
+const DONE: u8 = 0;
+const REFUSED: u8 = 1;
+const MISUSED: u8 = 2;
+
+/// Why a command ended early.
+enum Stop {
+    Misuse(Misuse),
+    /// The system has no work memory for the game.
+    NoMemory(Refusal),
+    /// The output cannot be written.
+    Unwritable(io::Error),
+}
+
+impl From<Misuse> for Stop {
+    fn from(misuse: Misuse) -> Self {
+        Stop::Misuse(misuse)
+    }
+}
+
+impl From<io::Error> for Stop {
+    fn from(error: io::Error) -> Self {
+        Stop::Unwritable(error)
+    }
+}
+
+/// Carries out the arguments behind the program's name, and gives the status to end with.
+pub fn run(args: &[OsString], console: &mut Console) -> u8 {
+    match carry_out(args, console) {
+        Ok(status) => status,
+        Err(Stop::Misuse(misuse)) => {
+            let verb = misuse.verb.map_or(String::new(), |verb| format!("{} ", verb.name()));
+            let before = misuse.verb.map_or(String::new(), |verb| format!("{}: ", verb.name()));
+            console.complain(format_args!("{before}{}", misuse.sentence));
+            console.complain(format_args!("`chukkanalli {verb}--help` says more"));
+            MISUSED
+        }
+        Err(Stop::NoMemory(refusal)) => {
+            console.complain(format_args!("there is too little memory: {refusal}"));
+            REFUSED
+        }
+        // Whoever read the output has enough of it.
+        Err(Stop::Unwritable(error)) if error.kind() == ErrorKind::BrokenPipe => DONE,
+        Err(Stop::Unwritable(error)) => {
+            console.complain(format_args!("the output cannot be written: {error}"));
+            REFUSED
+        }
+    }
+}
+
+fn carry_out(args: &[OsString], console: &mut Console) -> Result<u8, Stop> {
+    match args::parse(args)? {
+        Request::Help(verb) => {
+            console.print(help::text(verb))?;
+            Ok(DONE)
+        }
+        Request::Evaluate { setting, tables, jobs } => evaluate::run(&setting, &tables, jobs, console),
+        Request::Ladder { setting, tables, jobs } => ladder::run(&setting, &tables, jobs, console),
+        Request::Reply { setting, table, seat } => reply::run(&setting, &table, &seat, console),
+        Request::Template { setting } => template::run(&setting, console),
+    }
+}

@@ -1,0 +1,44 @@
+//! `template`: a table to fill in, with each set in words.
+
+use chukkanalli::{Evaluator, Game, InfoSet};
+
+use super::{game, Stop, DONE};
+use crate::args::{Setting, Verb};
+use crate::console::Console;
+use crate::words::{action_words, game_words, set_words};
+
+pub fn run(setting: &Setting, console: &mut Console) -> Result<u8, Stop> {
+    let evaluator = game::evaluator(Verb::Template, setting, None)?;
+    console.print(&text(&evaluator, setting))?;
+    Ok(DONE)
+}
+
+fn text(evaluator: &Evaluator, setting: &Setting) -> String {
+    let (game, counts, d) = (evaluator.game(), evaluator.counts(), setting.d.value);
+    let mut text = format!("# {}, D {d}: {} sets, {} entries\n", game_words(game), counts.sets, counts.entries);
+    text += "# A line for each set: the parts of its actions, and behind the # their names and what the seat knows.\n";
+    text += &format!("# The parts of a set add up to {d}. Each set has all of them on its first action, so this\n");
+    let name = game.name().to_lowercase();
+    text += &format!("# table is valid as it is: chukkanalli evaluate {name} {} {d} FILE\n\n", game.seats());
+    let sets = evaluator.sets();
+    let width = sets.iter().map(|set| parts(set, d).len()).max().unwrap_or(0);
+    for set in &sets {
+        text += &line(game, set, d, width);
+    }
+    text
+}
+
+fn line(game: Game, set: &InfoSet, d: u64, width: usize) -> String {
+    let parts = parts(set, d);
+    let actions = action_words(game, &set.legal);
+    format!("{parts:width$}  # {actions}: seat {}, {}\n", set.seat, set_words(game, set))
+}
+
+/// All parts on the first action.
+fn parts(set: &InfoSet, d: u64) -> String {
+    let mut parts = d.to_string();
+    for _ in &set.legal[1..] {
+        parts += " 0";
+    }
+    parts
+}

@@ -1,0 +1,242 @@
+//! Random command lines for the commands, with random tables.
+
+use std::ffi::OsString;
+use std::fs;
+use std::os::unix::ffi::OsStringExt;
+use std::panic::{self, AssertUnwindSafe};
+use std::path::Path;
+
+use chukkanalli_cli::console::Console;
+
+use crate::model::{self, Listed};
+use crate::random::Random;
+use crate::{path_of, texts, Seen};
+
+/// The first half of each list fits most games.
+const SEATS: [&str; 16] = [
+    "2",
+    "2",
+    "2",
+    "2",
+    "2",
+    "3",
+    "4",
+    "5",
+    "0",
+    "1",
+    "7",
+    "11",
+    "258",
+    "4294967298",
+    "18446744073709551616",
+    "18446744073709551618",
+];
+const PARTS: [&str; 16] = [
+    "1",
+    "1",
+    "2",
+    "3",
+    "3",
+    "7",
+    "16",
+    "64",
+    "0",
+    "17",
+    "65",
+    "256",
+    "257",
+    "320",
+    "18446744073709551616",
+    "18446744073709551617",
+];
+const SEAT: [&str; 8] = ["0", "0", "1", "1", "2", "6", "256", "18446744073709551616"];
+const ODD: [&[u8]; 20] = [
+    b"",
+    b"-",
+    b"--",
+    b"-h",
+    b"--help",
+    b"--jobs",
+    b"--jobs=2",
+    b"--jobs=0",
+    b"--jobs=99999999999999999999",
+    b"-1",
+    b"2^64",
+    b"two",
+    b"+2",
+    b"kuhn",
+    b"\xFF",
+    b"a\nb",
+    b"/dev/null",
+    b"/",
+    b"nowhere",
+    b"\x1b[2J",
+];
+
+/// One of a list, in nine of ten cases of its first half.
+fn mostly_fit(random: &mut Random, list: &[&'static str]) -> &'static str {
+    let (fit, other) = list.split_at(list.len() / 2);
+    let half = if random.one_in(10) { other } else { fit };
+    random.pick(half)
+}
+
+/// What came of a command line.
+#[derive(Debug, PartialEq, Eq)]
+struct Ran {
+    status: u8,
+    out: String,
+    err: String,
+}
+
+fn run(args: &[OsString]) -> Ran {
+    let (mut out, mut err) = (Vec::new(), Vec::new());
+    let tried = panic::catch_unwind(AssertUnwindSafe(|| {
+        chukkanalli_cli::run(args, &mut Console::new(&mut out, &mut err, false))
+    }));
+    let status = tried.unwrap_or_else(|_| panic!("a panic on {args:?}"));
+    let text = |bytes| String::from_utf8(bytes).unwrap_or_else(|_| panic!("no text from {args:?}"));
+    Ran { status, out: text(out), err: text(err) }
+}
+
+pub fn try_one(random: &mut Random, games: &[Listed], folder: &Path, seen: &mut Seen) {
+    let line = Line::draw(random, games, folder);
+    let spoiled = random.one_in(3);
+    let args = line.args(random, folder, spoiled);
+    let ran = run(&args);
+    sound(&args, &ran);
+    if !spoiled {
+        line.hold(games, &args, &ran);
+    }
+    seen.count(ran.status, &ran.err);
+}
+
+/// What holds of every run.
+fn sound(args: &[OsString], ran: &Ran) {
+    let Ran { status, out, err } = ran;
+    assert!(*status <= 2, "status {status} of {args:?}");
+    assert_eq!(*status == 0, err.is_empty(), "status {status} of {args:?} with {err:?}");
+    assert!(*status != 2 || out.is_empty(), "status 2 of {args:?} with {out:?}");
+    assert!(err.lines().all(|line| line.starts_with("chukkanalli: ")), "{err:?} of {args:?}");
+    assert!(!err.contains(|c: char| c.is_control() && c != '\n'), "{err:?} of {args:?}");
+    assert!(*status != 0 || !out.is_empty(), "nothing of {args:?}");
+}
+
+/// A command line whose outcome the model knows.
+struct Line {
+    verb: &'static str,
+    game: &'static str,
+    seats: &'static str,
+    d: &'static str,
+    seat: &'static str,
+    tables: Vec<Vec<u8>>,
+}
+
+impl Line {
+    fn draw(random: &mut Random, games: &[Listed], folder: &Path) -> Self {
+        let mut line = Line {
+            verb: random.pick(&["evaluate", "evaluate", "ladder", "ladder", "reply", "reply", "template"]),
+            game: if random.one_in(20) { "chess" } else { random.pick(&["kuhn", "leduc"]) },
+            seats: mostly_fit(random, &SEATS),
+            d: mostly_fit(random, &PARTS),
+            seat: mostly_fit(random, &SEAT),
+            tables: Vec::new(),
+        };
+        if random.one_in(2000) {
+            (line.game, line.seats, line.d) = ("kuhn", "6", "16");
+        }
+        let many = if matches!(line.verb, "evaluate" | "ladder") { 1 + random.below(5) } else { 1 };
+        for k in 0..many {
+            let bytes = line.table(random, games);
+            fs::write(path_of(folder, k), &bytes).expect("the folder can be written");
+            line.tables.push(bytes);
+        }
+        line
+    }
+
+    /// A table of the line's game, most of the time, valid or spoiled.
+    fn table(&self, random: &mut Random, games: &[Listed]) -> Vec<u8> {
+        let own = model::game_of(games, self.game, value(self.seats)).ok();
+        let listed = match own {
+            Some(listed) if !random.one_in(8) => listed,
+            _ => &games[random.below(3)],
+        };
+        let d = u64::try_from(value(self.d)).unwrap_or(1).min(200);
+        let mut bytes = texts::valid(random, listed, d);
+        if random.one_in(3) {
+            texts::spoil(random, &mut bytes);
+        }
+        bytes
+    }
+
+    fn args(&self, random: &mut Random, folder: &Path, spoiled: bool) -> Vec<OsString> {
+        let mut args: Vec<OsString> = [self.verb, self.game, self.seats, self.d].map(OsString::from).to_vec();
+        if self.verb != "template" {
+            args.extend((0..self.tables.len()).map(|k| path_of(folder, k).into_os_string()));
+        }
+        if self.verb == "reply" {
+            args.push(OsString::from(self.seat));
+        }
+        for _ in 0..if spoiled { 1 + random.below(3) } else { 0 } {
+            let at = random.below(args.len() + 1);
+            let odd = OsString::from_vec(random.pick(&ODD).to_vec());
+            match random.below(3) {
+                0 if at < args.len() => args[at] = odd,
+                1 if at < args.len() => drop(args.remove(at)),
+                _ => args.insert(at, odd),
+            }
+        }
+        args
+    }
+
+    /// Document 01's 1, 2, 3, 5 or 6 of the arguments, or the game.
+    fn refusal<'a>(&self, games: &'a [Listed]) -> Result<&'a Listed, u64> {
+        let listed = model::game_of(games, self.game, value(self.seats))?;
+        if self.verb == "reply" && value(self.seat) >= u128::from(listed.game.seats()) {
+            return Err(5);
+        }
+        if !(1..=u128::from(listed.most_parts())).contains(&value(self.d)) {
+            return Err(6);
+        }
+        Ok(listed)
+    }
+
+    /// Holds a run to the model.
+    fn hold(&self, games: &[Listed], args: &[OsString], ran: &Ran) {
+        match self.refusal(games) {
+            Err(number) => {
+                assert_eq!(ran.status, 2, "{args:?}: {ran:?}");
+                assert!(ran.err.contains(&format!("refused with {number}: ")), "{number} of {args:?}: {ran:?}");
+            }
+            Ok(_) if self.verb == "template" => assert_eq!(ran.status, 0, "{args:?}: {ran:?}"),
+            Ok(listed) => self.hold_tables(listed, args, ran),
+        }
+    }
+
+    fn hold_tables(&self, listed: &Listed, args: &[OsString], ran: &Ran) {
+        let outcome = |bytes: &Vec<u8>| match model::read(bytes) {
+            Ok((parts, _)) => Some(listed.table_refusal(value(self.d) as u64, &parts)),
+            Err(_) => None,
+        };
+        let outcomes: Vec<Option<u64>> = self.tables.iter().map(outcome).collect();
+        let bad: Vec<&Option<u64>> = outcomes.iter().filter(|outcome| **outcome != Some(0)).collect();
+        assert_eq!(ran.status, u8::from(!bad.is_empty()), "{args:?}: {ran:?}");
+        assert_eq!(ran.err.lines().count(), bad.len(), "{args:?}: {ran:?}");
+        for (complaint, outcome) in ran.err.lines().zip(bad) {
+            let expected = outcome.map_or(String::new(), |number| format!("refused with {number}: "));
+            assert!(complaint.contains(&expected), "{outcome:?} of {args:?}: {ran:?}");
+            assert_eq!(complaint.contains("refused with"), outcome.is_some(), "{args:?}: {ran:?}");
+        }
+        let good = outcomes.len() - ran.err.lines().count();
+        let headings = ran.out.lines().filter(|line| line.contains(" units") && line.contains(", D ")).count();
+        assert_eq!(headings, if self.verb == "ladder" { good.min(1) } else { good }, "{args:?}: {ran:?}");
+        if matches!(self.verb, "evaluate" | "ladder") {
+            let jobs = [OsString::from("--jobs=3")];
+            assert_eq!(&run(&[args, &jobs].concat()), ran, "threads change the outcome of {args:?}");
+        }
+    }
+}
+
+/// The value of digits that 128 bits hold.
+fn value(word: &str) -> u128 {
+    word.parse().expect("the lists of numbers hold numbers")
+}

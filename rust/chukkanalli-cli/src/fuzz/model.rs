@@ -1,0 +1,108 @@
+//! What is expected: the reader once more, byte by byte, and the refusals of document 01 by its list.
+
+use chukkanalli::{Evaluator, Game};
+
+/// A game with a tree, and the actions of each of its sets.
+pub struct Listed {
+    pub game: Game,
+    pub actions: Vec<usize>,
+}
+
+impl Listed {
+    pub fn name(&self) -> &'static str {
+        match self.game {
+            Game::Kuhn { .. } => "kuhn",
+            Game::Leduc => "leduc",
+        }
+    }
+
+    pub fn most_parts(&self) -> u64 {
+        match self.game {
+            Game::Kuhn { seats: 5 | 6 } => 16,
+            _ => 64,
+        }
+    }
+
+    pub fn entries(&self) -> usize {
+        self.actions.iter().sum()
+    }
+
+    /// Document 01's 7 and 8, or 0.
+    pub fn table_refusal(&self, d: u64, parts: &[u8]) -> u64 {
+        if parts.len() != self.entries() {
+            return 7;
+        }
+        let mut rest = parts;
+        for &count in &self.actions {
+            let (own, behind) = rest.split_at(count);
+            if own.iter().map(|&part| u64::from(part)).sum::<u64>() != d {
+                return 8;
+            }
+            rest = behind;
+        }
+        0
+    }
+}
+
+/// Kuhn with 2 to 6 seats, and Leduc.
+pub fn games() -> Vec<Listed> {
+    let games = (2..=6).map(|seats| Game::Kuhn { seats }).chain([Game::Leduc]);
+    let listed = games.map(|game| {
+        let sets = Evaluator::new(game).expect("the game has a tree").sets();
+        Listed { game, actions: sets.iter().map(|set| set.legal.len()).collect() }
+    });
+    listed.collect()
+}
+
+/// Document 01's 1, 2 or 3, or the game.
+pub fn game_of<'a>(games: &'a [Listed], name: &str, seats: u128) -> Result<&'a Listed, u64> {
+    let range = match name {
+        "kuhn" => 2..=10,
+        "leduc" => 2..=2,
+        _ => return Err(1),
+    };
+    if !range.contains(&seats) {
+        return Err(2);
+    }
+    games.iter().find(|listed| listed.name() == name && u128::from(listed.game.seats()) == seats).ok_or(3)
+}
+
+/// The parts of a text with the line of each, or the line of its first fault.
+pub fn read(bytes: &[u8]) -> Result<(Vec<u8>, Vec<usize>), usize> {
+    let bytes = if bytes.starts_with(b"\xEF\xBB\xBF") { &bytes[3..] } else { bytes };
+    let lossy = String::from_utf8_lossy(bytes);
+    if let Some(line) = first_odd(bytes, &lossy) {
+        return Err(line);
+    }
+    let (mut parts, mut lines) = (Vec::new(), Vec::new());
+    let joined = lossy.replace("\r\n", "\n").replace('\r', "\n");
+    for (line, text) in (1..).zip(joined.split('\n')) {
+        let numbers = &text[..text.find('#').unwrap_or(text.len())];
+        for word in numbers.split(char::is_whitespace).filter(|word| !word.is_empty()) {
+            let mut value = Some(0u32);
+            for c in word.chars() {
+                value = value.zip(c.to_digit(10)).map(|(value, digit)| (10 * value + digit).min(1000));
+            }
+            match value {
+                Some(value @ 0..=255) => parts.push(value as u8),
+                _ => return Err(line),
+            }
+            lines.push(line);
+        }
+    }
+    Ok((parts, lines))
+}
+
+/// The line of the first byte that is not UTF-8, if there is one, else of the first control character.
+fn first_odd(bytes: &[u8], lossy: &str) -> Option<usize> {
+    let odd = match std::str::from_utf8(bytes) {
+        Err(error) => Some(error.valid_up_to()),
+        Ok(_) => lossy.find(|c: char| c.is_control() && !"\t\r\n".contains(c)),
+    };
+    odd.map(|odd| {
+        let before = &bytes[..odd];
+        let ends =
+            (0..odd).filter(|&at| before[at] == b'\n' || (before[at] == b'\r' && bytes.get(at + 1) != Some(&b'\n')));
+        1 + ends.count()
+    })
+}

@@ -1,0 +1,140 @@
+//! Random texts for the reader.
+
+use chukkanalli_cli::reader;
+
+use crate::model::{self, Listed};
+use crate::random::Random;
+
+/// What tables are made of, and what they are spoiled with.
+const PIECES: [&[u8]; 40] = [
+    b"0",
+    b"1",
+    b"2",
+    b"3",
+    b"16",
+    b"64",
+    b"255",
+    b"256",
+    b"257",
+    b"-1",
+    b"-0",
+    b"+1",
+    b"1.5",
+    b"007",
+    b"0x1",
+    b"1e3",
+    b" ",
+    b"  ",
+    b"\t",
+    b"\n",
+    b"\r\n",
+    b"\r",
+    b"\n\n",
+    b"#",
+    b"# a comment\n",
+    b"#\r\n",
+    b"##1 2 3\r",
+    b"1 0\n",
+    b"0 1 # x\n",
+    b"18446744073709551616",
+    b"99999999999999999999999999999999999999999",
+    b"\xEF\xBB\xBF",
+    b"\xFF\xFE",
+    b"\0",
+    b"\x1b[2J",
+    b"\xC2\xA0",
+    b"\xE2\x80\xA8",
+    b"\xD9\xA1",
+    b"\x0B",
+    b"\xC3",
+];
+
+/// A text of pieces and random bytes.
+fn soup(random: &mut Random) -> Vec<u8> {
+    let mut bytes = Vec::new();
+    for _ in 0..random.below(30) {
+        if random.one_in(12) {
+            bytes.push(random.draw() as u8);
+        } else {
+            bytes.extend(random.pick(&PIECES));
+            bytes.extend(random.pick(&[&b" "[..], b"\n", b""]));
+        }
+    }
+    bytes
+}
+
+/// A valid table of a game with some D, in some layout.
+pub fn valid(random: &mut Random, listed: &Listed, d: u64) -> Vec<u8> {
+    let mut text = String::new();
+    let end = random.pick(&["\n", "\r\n", "\r", "  ", " # set\n"]);
+    for &count in &listed.actions {
+        let mut left = d;
+        for action in 0..count {
+            let part = if action + 1 == count { left } else { random.draw() % (left + 1) };
+            left -= part;
+            text += &format!("{part} ");
+        }
+        text += end;
+    }
+    if random.one_in(4) {
+        text.insert(0, '\u{feff}');
+    }
+    text.into_bytes()
+}
+
+/// A few bytes changed, taken out, put in or moved.
+pub fn spoil(random: &mut Random, bytes: &mut Vec<u8>) {
+    for _ in 0..1 + random.below(3) {
+        let at = random.below(bytes.len() + 1);
+        let to = (at + random.below(12)).min(bytes.len());
+        match random.below(8) {
+            0 if at < bytes.len() => bytes[at] = random.draw() as u8,
+            5..=7 => {
+                for byte in bytes[at..].iter_mut().filter(|byte| byte.is_ascii_digit()).take(1) {
+                    *byte = b'0' + random.below(10) as u8;
+                }
+            }
+            1 => drop(bytes.drain(at..to)),
+            2 => drop(bytes.splice(at..at, random.pick(&PIECES).to_vec())),
+            3 => {
+                let piece = bytes[at..to].to_vec();
+                bytes.extend(piece);
+            }
+            _ => bytes.truncate(at),
+        }
+    }
+}
+
+pub fn try_one(random: &mut Random, games: &[Listed]) {
+    let mut bytes = if random.one_in(3) {
+        let (listed, d) = (&games[random.below(2)], 1 + random.draw() % 64);
+        valid(random, listed, d)
+    } else {
+        soup(random)
+    };
+    if random.one_in(2) {
+        spoil(random, &mut bytes);
+    }
+    let expected = model::read(&bytes);
+    let got = read(&bytes);
+    assert_eq!(got, expected, "the reader on {:?}", String::from_utf8_lossy(&bytes));
+    let marked = [&b"\xEF\xBB\xBF"[..], &bytes].concat();
+    if !bytes.starts_with(b"\xEF\xBB\xBF") {
+        assert_eq!(read(&marked), got, "a mark before {:?}", String::from_utf8_lossy(&bytes));
+    }
+    if !bytes.contains(&b'\r') {
+        let ends: Vec<u8> = bytes.iter().flat_map(|&b| if b == b'\n' { vec![b'\r', b'\n'] } else { vec![b] }).collect();
+        assert_eq!(read(&ends), got, "other line ends in {:?}", String::from_utf8_lossy(&bytes));
+    }
+}
+
+/// The reader's answer in the model's form.
+fn read(bytes: &[u8]) -> Result<(Vec<u8>, Vec<usize>), usize> {
+    match reader::read(bytes) {
+        Ok(table) => {
+            let lines = (0..table.parts.len()).map(|entry| table.line_of(entry)).collect();
+            Ok((table.parts, lines))
+        }
+        Err(fault) => Err(fault.line.expect("a fault of a text is in a line")),
+    }
+}

@@ -1,0 +1,112 @@
+//! The texts of --help.
+
+use std::ffi::OsStr;
+
+use crate::args::Verb;
+
+pub fn is_asked_by(arg: &OsStr) -> bool {
+    arg == "--help" || arg == "-h"
+}
+
+/// The help of a command, or of all.
+pub fn text(verb: Option<Verb>) -> &'static str {
+    match verb {
+        None => ALL,
+        Some(Verb::Evaluate) => EVALUATE,
+        Some(Verb::Ladder) => LADDER,
+        Some(Verb::Reply) => REPLY,
+        Some(Verb::Template) => TEMPLATE,
+    }
+}
+
+const ALL: &str = "\
+Evaluates strategy tables for Kuhn and Leduc poker, exactly, by proved calls.
+
+  chukkanalli evaluate GAME SEATS D TABLE...   what tables are worth, best values, NashConv
+  chukkanalli ladder GAME SEATS D TABLE...     tables in order of NashConv
+  chukkanalli reply GAME SEATS D TABLE SEAT    the perfect reply of a seat to a table, in words
+  chukkanalli template GAME SEATS D            a table to fill in, with each set in words
+  chukkanalli COMMAND --help                   more about a command
+
+GAME   kuhn or leduc
+SEATS  2 to 6 for kuhn, 2 for leduc
+D      the parts per set: 1 to 64, for kuhn with 5 or 6 seats 1 to 16
+TABLE  a text file: set after set, the part of each action as a whole number; in each set they
+       add up to D. A # begins a comment, which goes on to the end of the line.
+SEAT   a seat, from 0
+
+What cannot be evaluated is refused on stderr, with the file and the line, and with the number
+of the refusal where document 01, the paper behind the calls, has one.
+Status: 0; 1 where a table was refused or cannot be read; 2 for bad use.
+";
+
+const EVALUATE: &str = "\
+chukkanalli evaluate GAME SEATS D TABLE... [--jobs N]
+
+Prints for each table what it is worth to each seat, each seat's best value (the most that any
+table gets it which differs in that seat's sets only) and NashConv, the sum of best value - worth:
+in units, in chips per hand as a fraction in lowest terms, and that rounded to nine decimals.
+
+--jobs N   evaluates N tables at a time, by default one a core, at most 256; what is printed is
+           the same
+
+  chukkanalli evaluate kuhn 2 1 samples/always-pass.txt
+";
+
+const LADDER: &str = "\
+chukkanalli ladder GAME SEATS D TABLE... [--jobs N]
+
+Prints the tables in order of NashConv, the lowest and so the hardest to beat first. Tables with
+equal NashConv have the same rank; the comparison is exact. A table that was refused or cannot be
+read stands below, with the reason.
+
+--jobs N   evaluates N tables at a time, by default one a core, at most 256; what is printed is
+           the same
+
+  chukkanalli ladder kuhn 2 3 samples/equilibrium.txt samples/always-pass.txt
+";
+
+const REPLY: &str = "\
+chukkanalli reply GAME SEATS D TABLE SEAT
+
+Prints the perfect reply of a seat to a table, a line for each of its sets: its card, the public
+card (leduc), what was played, and the action that the reply takes. No table of the seat gets
+more. Of equally good actions it takes the first.
+
+  chukkanalli reply kuhn 2 1 samples/always-pass.txt 0
+";
+
+const TEMPLATE: &str = "\
+chukkanalli template GAME SEATS D
+
+Prints a table to fill in, a line for each set: the parts of its actions, and as a comment the
+names of the actions, the seat, its card, the public card (leduc) and what was played. Each set
+has D on its first action, so the table is valid as it is.
+
+  chukkanalli template kuhn 2 4 >mine.txt
+";
+
+#[cfg(test)]
+mod tests {
+    use super::*;
+
+    #[test]
+    fn every_command_has_a_help_that_begins_with_its_use() {
+        for verb in Verb::ALL {
+            let mut usage = format!("chukkanalli {} {}", verb.name(), verb.places().join(" "));
+            if verb.takes_many() {
+                usage += "... [--jobs N]";
+            }
+            assert_eq!(text(Some(verb)).lines().next(), Some(usage.as_str()));
+            let listed = usage.trim_end_matches(" [--jobs N]");
+            assert!(text(None).contains(&format!("  {listed}  ")), "{listed}");
+        }
+    }
+
+    #[test]
+    fn no_line_is_wider_than_a_terminal() {
+        for verb in Verb::ALL.into_iter().map(Some).chain([None]) {
+            assert!(text(verb).lines().all(|line| line.len() <= 100));
+        }
+    }
+}

@@ -1,0 +1,246 @@
+//! Every command on good input: all that it prints, and its status.
+
+mod common;
+
+use common::{program, run, run_line, table, Run};
+use std::process::Stdio;
+
+/// A run that goes well and prints this.
+fn prints(text: &str) -> Run {
+    Run { status: 0, out: text.to_string(), err: String::new() }
+}
+
+#[test]
+fn evaluate_prints_worths_best_values_and_nash_conv() {
+    let text = "\
+samples/always-pass.txt: Kuhn with 2 seats, D 1, 6 units
+
+                   units  chips per hand  in decimals
+seat 0 worth           0               0  0.000000000
+seat 0 best value      6               1  1.000000000
+seat 1 worth           0               0  0.000000000
+seat 1 best value      6               1  1.000000000
+NashConv              12               2  2.000000000
+";
+    assert_eq!(run_line("evaluate kuhn 2 1 samples/always-pass.txt"), prints(text));
+}
+
+#[test]
+fn evaluate_prints_exact_fractions_table_after_table() {
+    let text = "\
+samples/equilibrium.txt: Kuhn with 2 seats, D 3, 162 units
+
+                   units  chips per hand   in decimals
+seat 0 worth          -9           -1/18  -0.055555556
+seat 0 best value     -9           -1/18  -0.055555556
+seat 1 worth           9            1/18   0.055555556
+seat 1 best value      9            1/18   0.055555556
+NashConv               0               0   0.000000000
+
+samples/one-in-three.txt: Kuhn with 2 seats, D 3, 162 units
+
+                   units  chips per hand   in decimals
+seat 0 worth          12            2/27   0.074074074
+seat 0 best value    108             2/3   0.666666667
+seat 1 worth         -12           -2/27  -0.074074074
+seat 1 best value     90             5/9   0.555555556
+NashConv             198            11/9   1.222222222
+";
+    let run = run_line("evaluate kuhn 2 3 samples/equilibrium.txt samples/one-in-three.txt");
+    assert_eq!(run, prints(text));
+}
+
+#[test]
+fn reply_tells_the_action_of_each_set() {
+    let text = "\
+samples/always-pass.txt: Kuhn with 2 seats, D 1, 6 units
+
+                   units  chips per hand  in decimals
+seat 0 worth           0               0  0.000000000
+seat 0 best value      6               1  1.000000000
+
+the perfect reply of seat 0:
+card 0, first action of the hand: BET
+card 0, after PASS BET: PASS
+card 1, first action of the hand: BET
+card 1, after PASS BET: PASS
+card 2, first action of the hand: PASS
+card 2, after PASS BET: PASS
+";
+    assert_eq!(run_line("reply kuhn 2 1 samples/always-pass.txt 0"), prints(text));
+}
+
+#[test]
+fn reply_goes_by_the_cards_whatever_the_order_of_the_sets() {
+    let reply = run_line("reply kuhn 2 1 samples/always-pass.txt 1");
+    let lines: Vec<&str> = reply.out.lines().skip_while(|line| !line.starts_with("card")).collect();
+    let text = [
+        "card 0, after PASS: BET",
+        "card 0, after BET: PASS",
+        "card 1, after PASS: BET",
+        "card 1, after BET: PASS",
+        "card 2, after PASS: PASS",
+        "card 2, after BET: PASS",
+    ];
+    assert_eq!(lines, text);
+}
+
+#[test]
+fn reply_in_leduc_tells_the_public_card_and_both_rounds() {
+    let always_first = table("leduc-first.txt", run_line("template leduc 2 4").out);
+    let reply = run(["reply", "leduc", "2", "4", &always_first, "1"]);
+    assert_eq!((reply.status, reply.err.as_str()), (0, ""));
+    let lines: Vec<&str> = reply.out.lines().skip_while(|line| !line.starts_with("card")).collect();
+    assert_eq!(lines.len(), 468);
+    let raise = "card 5 (rank 2), public card 0 (rank 0), after CALL CALL, in round 2 after CALL: RAISE";
+    assert!(lines.contains(&raise), "{}", reply.out);
+    assert!(lines[0].starts_with("card 0 (rank 0), no public card, after CALL: "), "{}", lines[0]);
+    assert!(lines.iter().all(|line| ["FOLD", "CALL", "RAISE"].contains(&line.rsplit(": ").next().unwrap())));
+}
+
+#[test]
+fn ladder_ranks_by_nash_conv_with_equals_together() {
+    let same = table("same.txt", std::fs::read(common::root().join("samples/one-in-three.txt")).unwrap());
+    let passes = table("passes.txt", "3 0\n".repeat(12));
+    let run = run(["ladder", "kuhn", "2", "3", &passes, &same, "samples/equilibrium.txt", "samples/one-in-three.txt"]);
+    let text = format!(
+        "\
+Kuhn with 2 seats, D 3, 162 units
+
+rank  NashConv  chips per hand  in decimals  table
+   1         0               0  0.000000000  samples/equilibrium.txt
+   2       198            11/9  1.222222222  {same}
+   2       198            11/9  1.222222222  samples/one-in-three.txt
+   4       324               2  2.000000000  {passes}
+"
+    );
+    assert_eq!(run, prints(&text));
+}
+
+#[test]
+fn ladder_lists_what_it_cannot_rank() {
+    let run = run_line("ladder kuhn 2 3 nowhere.txt samples/equilibrium.txt samples/always-pass.txt");
+    let sum = "samples/always-pass.txt:5: refused with 8: in some set the parts do not add up to D: \
+               set 0 (seat 0, card 0, first action of the hand) has 1 + 0 = 1, and D is 3";
+    let missing = "nowhere.txt: there is no such file";
+    let text = format!(
+        "\
+Kuhn with 2 seats, D 3, 162 units
+
+rank  NashConv  chips per hand  in decimals  table
+   1         0               0  0.000000000  samples/equilibrium.txt
+
+not ranked:
+{missing}
+{sum}
+"
+    );
+    let err = format!("chukkanalli: {missing}\nchukkanalli: {sum}\n");
+    assert_eq!(run, Run { status: 1, out: text, err });
+}
+
+#[test]
+fn ladder_without_a_ranked_table_still_lists_all() {
+    let run = run_line("ladder leduc 2 3 nowhere.txt samples/equilibrium.txt");
+    let length = "samples/equilibrium.txt:15: refused with 7: the table's length is not exactly the entry count: \
+                  24 numbers, and Leduc with 2 seats has 2184 entries";
+    let missing = "nowhere.txt: there is no such file";
+    let text = format!("Leduc with 2 seats, D 3\n\nnot ranked:\n{missing}\n{length}\n");
+    let err = format!("chukkanalli: {missing}\nchukkanalli: {length}\n");
+    assert_eq!(run, Run { status: 1, out: text, err });
+}
+
+#[test]
+fn a_template_is_a_table_of_its_game() {
+    for (game, seats, d, sets) in
+        [("kuhn", 2, 1, 12), ("kuhn", 3, 64, 48), ("kuhn", 4, 7, 160), ("kuhn", 5, 16, 480), ("leduc", 2, 64, 936)]
+    {
+        let template = run_line(&format!("template {game} {seats} {d}"));
+        assert_eq!((template.status, template.err.as_str()), (0, ""));
+        assert_eq!(template.out.lines().filter(|line| line.starts_with(&d.to_string())).count(), sets);
+        let file = table(&format!("template-{game}-{seats}-{d}.txt"), &template.out);
+        let evaluated = run(["evaluate", game, &seats.to_string(), &d.to_string(), &file]);
+        assert_eq!((evaluated.status, evaluated.err.as_str()), (0, ""));
+    }
+    let kuhn = run_line("template kuhn 2 1").out;
+    assert!(kuhn.contains("\n1 0  # PASS BET: seat 1, card 1, after PASS\n"), "{kuhn}");
+    let leduc = run_line("template leduc 2 4").out;
+    let line = "\n4 0 0  # FOLD CALL RAISE: seat 0, card 0 (rank 0), no public card, after CALL RAISE\n";
+    assert!(leduc.contains(line), "{leduc}");
+}
+
+#[test]
+fn byte_order_marks_and_line_ends_change_nothing() {
+    let plain = "# all PASS\n".to_string() + &"1 0 # a set\n".repeat(12);
+    let figures =
+        |file: &str| run(["evaluate", "kuhn", "2", "1", file]).out.lines().skip(1).collect::<Vec<_>>().join("\n");
+    let expected = figures(&table("plain.txt", &plain));
+    assert!(expected.contains("NashConv"));
+    assert_eq!(figures(&table("crlf.txt", plain.replace('\n', "\r\n"))), expected);
+    assert_eq!(figures(&table("bom.txt", format!("\u{feff}{plain}"))), expected);
+    assert_eq!(figures(&table("both.txt", format!("\u{feff}{}", plain.replace('\n', "\r\n")))), expected);
+    assert_eq!(figures(&table("one-line.txt", "1 0 ".repeat(12).trim_end())), expected);
+}
+
+#[test]
+fn what_is_printed_does_not_depend_on_the_threads() {
+    let mut files: Vec<String> = (0..20)
+        .map(|k| {
+            let parts = (0..160).map(|set| format!("{} {}\n", (k * set) % 8, 7 - (k * set) % 8));
+            table(&format!("threads-{k}.txt"), parts.collect::<String>())
+        })
+        .collect();
+    files.insert(7, "nowhere.txt".to_string());
+    files.insert(3, "samples/always-pass.txt".to_string());
+    for command in ["evaluate", "ladder"] {
+        let with = |jobs: &str| {
+            run([command, "kuhn", "4", "7", "--jobs", jobs].into_iter().chain(files.iter().map(String::as_str)))
+        };
+        let one = with("1");
+        assert_eq!(one.status, 1);
+        assert_eq!(one.err.lines().count(), 2);
+        for jobs in ["2", "3", "64", "18446744073709551616"] {
+            assert_eq!(with(jobs), one);
+        }
+        assert_eq!(run([command, "kuhn", "4", "7"].into_iter().chain(files.iter().map(String::as_str))), one);
+    }
+}
+
+#[test]
+fn kuhn_with_6_seats_shows_no_progress_in_a_pipe() {
+    let file = table("kuhn6.txt", run_line("template kuhn 6 16").out);
+    let evaluated = run(["evaluate", "kuhn", "6", "16", &file, &file, "--jobs=2"]);
+    assert_eq!((evaluated.status, evaluated.err.as_str()), (0, ""));
+    assert!(evaluated.out.contains("NashConv           2659938529915699200              30  30.000000000\n"));
+}
+
+#[test]
+fn help_is_there_for_each_and_for_all() {
+    for line in ["--help", "-h"] {
+        let help = run_line(line);
+        assert_eq!((help.status, help.err.as_str()), (0, ""));
+        assert!(help.out.contains("chukkanalli COMMAND --help"));
+    }
+    for command in ["evaluate", "ladder", "reply", "template"] {
+        let help = run([command, "kuhn", "--help"]);
+        assert_eq!((help.status, help.err.as_str()), (0, ""));
+        assert!(help.out.starts_with(&format!("chukkanalli {command} GAME SEATS D")));
+    }
+}
+
+#[test]
+fn a_reader_that_leaves_early_is_no_fault() {
+    let mut child =
+        program().args(["template", "kuhn", "6", "16"]).stdout(Stdio::piped()).stderr(Stdio::piped()).spawn().unwrap();
+    drop(child.stdout.take());
+    let run: Run = child.wait_with_output().unwrap().into();
+    assert_eq!(run, prints(""));
+}
+
+#[test]
+fn an_output_that_cannot_be_written_is_told() {
+    let full = std::fs::OpenOptions::new().write(true).open("/dev/full").unwrap();
+    let run: Run = program().args(["template", "kuhn", "2", "1"]).stdout(full).output().unwrap().into();
+    assert_eq!(run.status, 1);
+    assert!(run.err.starts_with("chukkanalli: the output cannot be written: "), "{}", run.err);
+}
