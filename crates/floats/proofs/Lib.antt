@@ -1,0 +1,2 @@
+-- Lemmas on floats and their patterns.
+pub mod Patterns
