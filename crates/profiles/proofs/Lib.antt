@@ -1,0 +1,2 @@
+-- Lemmas on f64 values.
+pub mod Deciding

@@ -73,15 +73,21 @@ unfoldable pub lead : (ℕ → Float) → ℕ → Lead
 lead q zero = (0, inf true)
 lead q (suc n) = let b : Lead = lead q n in cond (lt (b .1) (q n)) (n, q n) b
 
+-- a member of a set: its reach, and its children
+abbrev pub Member : Type 0
+Member = Float × Trees
+
+-- the actions of a set: those of its first member
+unfoldable pub actions : List Member → ℕ
+unfolding fan
+actions [] = 0
+actions (m ∷ ms) = fan (m .1)
+
 -- seat i replies to the others of a profile
 module _ (s : Profile) (i : ℕ) where
   -- of reach r at a decision of seat j with key k, what goes on to an action: own moves pass it on
   abbrev pub passed : Float → ℕ → Key → ℕ → Float
   passed r j k a = cond (eqb j i) r (times r (s j k a))
-
-  -- a member of a set: its reach, and its children
-  abbrev pub Member : Type 0
-  Member = Float × Trees
 
   -- the members of the set k in a tree of reach r, in node order
   module _ (k : Key) where
@@ -102,12 +108,6 @@ module _ (s : Profile) (i : ℕ) where
   unfolding value
   summed c a v [] = v
   summed c a v (m ∷ ms) = summed c a (plus v (times (m .0) (picked s i (λ j. eqb j i) c (m .1) a))) ms
-
-  -- the actions of a set: those of its first member
-  unfoldable pub actions : List Member → ℕ
-  unfolding fan
-  actions [] = 0
-  actions (m ∷ ms) = fan (m .1)
 
   -- the sum behind action a of the set k, where reach is 1.0 at the root
   unfoldable pub setSum : Tree → Choice → Key → ℕ → Float
