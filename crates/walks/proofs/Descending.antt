@@ -1,23 +1,23 @@
 -- Ways down a stored tree with what is passed down: to the children of a node, and to the members of a set. Assumes nothing.
 use mathlib.Core.Path.{_≡_, sym, subst}
 use mathlib.Core.Bool.{false, cond}
-use mathlib.Core.List.{List, [], _∷_, _++_}
+use mathlib.Core.List.{List}
 use Prim.Native.Nat.{ℕ, zero, suc, pred, _+_, _≤_, _<_}
 use native.Mathlib.Nat as NatL
 use native.Mathlib.Omega.{arith}
 use lib.Dec.{eqb}
-use Rattle.finite.proofs.Tests.{Tested, holds, fails, tested}
 use Rattle.game.specs.Tree.{Key, Tree, end, chance, decide, Trees, nil, cons, fan, Every}
 use Rattle.game.specs.Reply.{same}
 use Rattle.game.specs.Sets.{Levels}
-use Rattle.game.specs.Sets.{size, firstEntry}
-use Rattle.game.proofs.Tests.{T-of, same→eq, eqb-is}
+use Rattle.game.specs.Sets.{size, firstEntry, isOf}
+use Rattle.game.proofs.Sets.{isOf-seat, isOf-key}
 use Rattle.arena.specs.Index.{laterIn}
 use Rattle.arena.specs.Walk.{Behind}
 use Rattle.walks.specs.Child.{nth, placeOf, Child}
 use Rattle.walks.specs.Stage.{Stage, Noted, Stands, StandsAll}
 use Rattle.walks.specs.Found.{Member, found, foundAll}
-use Rattle.walks.proofs.Standing.{kids-decide, first, known-of, held-in, held-in-all}
+use Rattle.walks.proofs.Standing.{kids-decide, known-of, held-in, held-in-all}
+use Rattle.walks.proofs.Finding.{EachMember, each-append, each-cond}
 
 -- what holds of a standing tree with u, and goes down to its children with what is passed to them
 pub record Descent {i h k : ℕ} (S : Stage i h k) {W : Type 0} (deal : W → ℕ → W) (move : W → ℕ → Key → ℕ → W) : Type 1 where
@@ -76,14 +76,8 @@ module _ {i h k : ℕ} {S : Stage i h k} {W : Type 0} {deal : W → ℕ → W} {
     abbrev pub Found : Member W → Type 0
     Found m = D .Here (suc (S .levels i y)) (m .0) (m .1) (decide i y (m .2))
 
-    unfoldable pub EachFound : List (Member W) → Type 0
-    EachFound [] = Unit {0}
-    EachFound (m ∷ ms) = Found m × EachFound ms
-
-    each-join : (ms ns : List (Member W)) → EachFound ms → EachFound ns → EachFound (ms ++ ns)
-    unfolding EachFound
-    each-join [] ns p q = q
-    each-join (m ∷ ms) ns p q = (p .0, each-join ms ns (p .1) q)
+    abbrev pub EachFound : List (Member W) → Type 0
+    EachFound ms = EachMember Found ms
 
     this : (d a : ℕ) (u : W) (j : ℕ) (l : Key) (f : Trees) → j ≡ i → l ≡ y → D .Here d a u (decide j l f) → Found (a, u, f)
     unfolding Levels
@@ -93,26 +87,17 @@ module _ {i h k : ℕ} {S : Stage i h k} {W : Type 0} {deal : W → ℕ → W} {
         let e : d ≡ suc (S .levels i y) = omega (arith, s .level .0, s .level .1) in
         subst (λ x. D .Here x a u (decide i y f)) e o
 
-    member : (d a : ℕ) (u : W) (j : ℕ) (l : Key) (f : Trees) → D .Here d a u (decide j l f) → (ms : List (Member W)) → EachFound ms
-        → EachFound (cond (cond (eqb j i) (same l y) false) ((a, u, f) ∷ ms) ms)
-    unfolding EachFound
-    member d a u j l f r ms q = at (tested (eqb j i)) (tested (same l y))
-      where
-        at : Tested (eqb j i) → Tested (same l y) → EachFound (cond (cond (eqb j i) (same l y) false) ((a, u, f) ∷ ms) ms)
-        at (fails e) t = rw e q
-        at (holds e) (fails t) = rw (e, t) q
-        at (holds e) (holds t) = rw (e, t) (this d a u j l f (eqb-is j i e) (same→eq l y (T-of t)) r, q)
-
     mutual
-      unfolding found EachFound
+      unfolding found EachMember isOf
 
       -- each stands with its level
       pub each-found : (t : Tree) (d a : ℕ) (u : W) → D .Here d a u t → EachFound (found deal move i y a u t)
       each-found (end p) d a u r = tt
       each-found (chance f) d a u r = each-found-all f (pred d) (suc a) (λ x. deal u (fan f)) 0 (D .dealt d a u f r)
-      each-found (decide j l f) d a u r = member d a u j l f r (foundAll deal move i y (suc a) (move u j l) 0 f) (each-found-all f (pred d) (suc a) (move u j l) 0 (D .moved d a u j l f r))
+      each-found (decide j l f) d a u r = each-cond Found (a, u, f) (foundAll deal move i y (suc a) (move u j l) 0 f) (cond (eqb j i) (same l y) false)
+          (λ w. this d a u j l f (isOf-seat i y (j, l, 0) w) (isOf-key i y (j, l, 0) w) r) (each-found-all f (pred d) (suc a) (move u j l) 0 (D .moved d a u j l f r))
 
       each-found-all : (f : Trees) (d a : ℕ) (g : ℕ → W) (x : ℕ) → D .HereAll d a g x f → EachFound (foundAll deal move i y a g x f)
       each-found-all nil d a g x r = tt
-      each-found-all (cons t f) d a g x r = each-join (found deal move i y a (g x) t) (foundAll deal move i y (a + size t) g (suc x) f)
+      each-found-all (cons t f) d a g x r = each-append Found (found deal move i y a (g x) t) (foundAll deal move i y (a + size t) g (suc x) f)
           (each-found t d a (g x) (D .one d a g x t f r)) (each-found-all f d (a + size t) g (suc x) (D .others d a g x t f r))

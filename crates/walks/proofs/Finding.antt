@@ -80,3 +80,19 @@ numbers-rise j y a (t ∷ ts) = at (decides j y t) (numbers-rise j y (suc a) ts)
     at : (x : Bool) → Rising (numbers j y (suc a) ts) → Rising (cond x (a ∷ numbers j y (suc a) ts) (numbers j y (suc a) ts))
     at true r = ((λ b o. numbers-from j y (suc a) ts b o), r)
     at false r = r
+
+-- ---- a property of each member
+module _ {W : Type 0} (P : Member W → Type 0) where
+  unfoldable pub EachMember : List (Member W) → Type 0
+  EachMember [] = Unit {0}
+  EachMember (x ∷ xs) = P x × EachMember xs
+
+  pub each-append : (xs ys : List (Member W)) → EachMember xs → EachMember ys → EachMember (xs ++ ys)
+  unfolding EachMember
+  each-append [] ys h g = g
+  each-append (x ∷ xs) ys h g = (h .0, each-append xs ys (h .1) g)
+
+  pub each-cond : (x : Member W) (xs : List (Member W)) (b : Bool) → (b ≡ true → P x) → EachMember xs → EachMember (cond b (x ∷ xs) xs)
+  unfolding EachMember
+  each-cond x xs true h g = (h refl, g)
+  each-cond x xs false h g = g

@@ -17,7 +17,7 @@ use Rattle.walks.specs.Child.{nth, Child}
 use Rattle.walks.specs.Stage.{Stage, Known, Noted, Stands}
 use Rattle.walks.specs.Found.{Member, found}
 use Rattle.walks.proofs.Standing.{known-of, inside, same-fan, seen}
-use Rattle.walks.proofs.Finding.{places, places-found, Rising, numbers-rise}
+use Rattle.walks.proofs.Finding.{places, places-found, Rising, numbers-rise, EachMember}
 use Rattle.walks.proofs.Descending.{Descent, EachFound, each-found, child-at}
 
 module _ {i h k : ℕ} {S : Stage i h k} {W : Type 0} {deal : W → ℕ → W} {move : W → ℕ → Key → ℕ → W} (D : Descent S deal move) (y : Key) where
@@ -30,13 +30,13 @@ module _ {i h k : ℕ} {S : Stage i h k} {W : Type 0} {deal : W → ℕ → W} {
 
   -- where the first of them stands
   standing : (c : ℕ) (m : Member W) (ms : List (Member W)) → Remaining c (m ∷ ms) → (c ≡ m .0) × Stands S (suc (S .levels i y)) (m .0) (decide i y (m .2))
-  unfolding EachFound firstOf
+  unfolding EachMember firstOf
   standing c m ms r = (r .here, D .stands (suc (S .levels i y)) (m .0) (m .1) (decide i y (m .2)) (r .each .0))
 
   -- all of them
   pub remaining-start : (old : List ℕ) → Noted S old → (n : ℕ) → Known S i y n → (u : W) → D .Here 32 0 u (S .tree) → (c : ℕ) → c ≡ getD old (h + firstEntry (S .tree) i y) 0 % 2097152
       → Remaining c (found deal move i y 0 u (S .tree))
-  unfolding EachFound firstOf size
+  unfolding EachMember firstOf size
   remaining-start old m n g u r c e = record {
     each = each;
     linked = rw where-found (members-linked (S .seats) h (S .words) (S .tree) (S .indexed) i y);
@@ -60,7 +60,7 @@ module _ {i h k : ℕ} {S : Stage i h k} {W : Type 0} {deal : W → ℕ → W} {
 
   -- one after the other
   pub remaining-more : (w : List ℕ) → Noted S w → (c next : ℕ) (x : Member W) (ms : List (Member W)) → Remaining c (x ∷ ms) → next ≡ laterOf (getD w c 0) → Remaining next ms
-  unfolding EachFound Linked Rising firstOf
+  unfolding EachMember Linked Rising firstOf
   remaining-more w m c next x ms r z = record {
     each = r .each .1;
     linked = r .linked .1;
@@ -71,7 +71,7 @@ module _ {i h k : ℕ} {S : Stage i h k} {W : Type 0} {deal : W → ℕ → W} {
   -- the child behind an action of the first of them
   pub remaining-child : (w : List ℕ) → Noted S w → (n : ℕ) → Known S i y n → (c a q : ℕ) (x : Member W) (ms : List (Member W)) → Remaining c (x ∷ ms) → Child w c a q → a < n
       → (a < fan (x .2)) × D .Here (S .levels i y) q (move (x .1) i y a) (nth (x .2) a)
-  unfolding EachFound Every
+  unfolding EachMember Every
   remaining-child w m n g c a q x ms r o l = (few, child-at D w m (S .levels i y) (x .0) (x .1) i y (x .2) (r .each .0) a q (subst (λ j. Child w j a q) (standing c x ms r .0) o) few)
     where
       few : a < fan (x .2)
