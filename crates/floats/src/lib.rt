@@ -7,7 +7,7 @@ ghost use Prim.Native.Nat.{_<_};
 ghost use lib.ListN.{length, getD, set};
 ghost use lib.Ieee.{nan, binary64, toBits, ofBits, ofInt};
 ghost use Rattle.arena.specs.Words.{payoffOf};
-ghost use Rattle.profiles.specs.Values.{weight};
+ghost use Rattle.profiles.specs.Values.{plus, times, weight};
 
 // x's pattern; of a NaN one fixed pattern, since bits are undefined at a NaN.
 fn pack(x: f64) -> u64
@@ -67,4 +67,12 @@ pub fn entry(part: &[f64], action: usize) -> f64
     ensures { λ r. ⌜ r ≡ getD (now (part .entry)) action nan ⌝ }
 {
     part[action]
+}
+
+// The sum so far, and an action's entry × what the action gives.
+pub fn weighed(part: &[f64], action: usize, sum: f64, gain: f64) -> f64
+    requires { ⌜ action < length (now part) ⌝ }
+    ensures { λ r. ⌜ r ≡ plus sum (times (getD (now (part .entry)) action nan) gain) ⌝ }
+{
+    sum + entry(part, action) * gain
 }
