@@ -67,6 +67,12 @@ lead-few q (suc (suc n)) l = at (lt (lead q (suc n) .1) (q (suc n))) (lead-few q
     at true m = omega arith
     at false m = omega arith
 
+pub two-few : (x y : Float) → lead (λ a. getD (x ∷ y ∷ []) a nan) 2 .0 < 2
+two-few x y = lead-few (λ a. getD (x ∷ y ∷ []) a nan) 2 (omega arith)
+
+pub three-few : (x y z : Float) → lead (λ a. getD (x ∷ y ∷ z ∷ []) a nan) 3 .0 < 3
+three-few x y z = lead-few (λ a. getD (x ∷ y ∷ z ∷ []) a nan) 3 (omega arith)
+
 pub lead-same : (p q : ℕ → Float) (n : ℕ) → ((a : ℕ) → a < n → p a ≡ q a) → lead p n ≡ lead q n
 unfolding lead
 lead-same p q zero e = refl

@@ -71,7 +71,7 @@ module _ (P : List Float) (i d h b k a : ℕ) (old : List ℕ) where
       value-other z c q v S m (decide j n f) y le g =
           let l : j ≡ i → ⊥ = λ o. q (ap actorOf (says S m (decide j n f) y g) ∙ g .held .0 .1 ∙ o) in
           let o = v S m j n f (pred y) (omega arith) (ap setOf (says S m (decide j n f) y g) ∙ g .held .0 .3) (ap actionsOf (says S m (decide j n f) y g) ∙ g .held .0 .2) (g .known .0)
-                  (subst (λ w. StandsAll (S .stage) (pred y) w f) next-place (kids-decide (S .stage) y a j n f g)) in
+          (subst (λ w. StandsAll (S .stage) (pred y) w f) next-place (kids-decide (S .stage) y a j n f g)) in
           (o .0, o .1 ∙ ap (λ t. cond t (picked (entries S) i (own S) (S .stage .choice) f (S .stage .choice n)) (addedUp S (entries S j n) 0 nought f)) (sym (ne-eqb j i l)))
 
       -- the seat's own
@@ -156,17 +156,17 @@ module _ (P : List Float) (i d h b k a x : ℕ) (old : List ℕ) where
   pub split-short : (r : Float) → length P < setOf x + actionsOf x → Split P i d h b k a x old old r
   split-short r l S m j y f lev le e n g o = absurd (omega (arith, l, e, n, known-of (S .stage) (λ j y n. firstEntry (S .stage .tree) j y + n ≤ length P) (S .inside) j y (fan f) g))
 
-  -- the entries of the part are the set's
-  abbrev part : List Float
-  part = take (setOf x + actionsOf x - setOf x) (drop (setOf x) P)
+  module _ (e₀ n₀ : ℕ) (is-first : e₀ ≡ setOf x) (is-count : n₀ ≡ actionsOf x) (room : e₀ + n₀ ≤ length P) where
+    -- the entries of the part are the set's
+    abbrev pub part : List Float
+    part = take (e₀ + n₀ - e₀) (drop e₀ P)
 
-  module _ (room : setOf x + actionsOf x ≤ length P) where
     part-is : (S : Scene P i h b k) (j : ℕ) (y : Key) → setOf x ≡ firstEntry (S .stage .tree) j y → (c : ℕ) → c < actionsOf x → getD part c nan ≡ entries S j y c
     unfolding profileOf
-    part-is S j y e c l = part-entry P (setOf x) (setOf x + actionsOf x) (omega arith) room c (omega arith) ∙ ap (λ n. getD P (n + c) nan) e
+    part-is S j y e c l = part-entry P e₀ (e₀ + n₀) (omega arith) room c (omega (arith, is-count)) ∙ ap (λ n. getD P (n + c) nan) (is-first ∙ e)
 
     module _ (u v : List ℕ) (g₀ g₁ s₀ s₁ : Float) (p : ℕ) (G : Gained P i d h b k a old u g₀) (B : Behind u a p) (H : Gained P i d h b k p u v g₁)
-        (e₀ : s₀ ≡ plus nought (times (getD part 0 nan) g₀)) (e₁ : s₁ ≡ plus s₀ (times (getD part 1 nan) g₁)) where
+        (q₀ : s₀ ≡ plus nought (times (getD part 0 nan) g₀)) (q₁ : s₁ ≡ plus s₀ (times (getD part 1 nan) g₁)) where
       -- after the first two: the third is next, if there is one
       both : (S : Scene P i h b k) → Noted (S .stage) old → (j : ℕ) (y : Key) (t₀ t₁ : Tree) (f : Trees) (lev : ℕ) → lev ≤ d → setOf x ≡ firstEntry (S .stage .tree) j y → 2 ≤ actionsOf x
           → StandsAll (S .stage) lev a (cons t₀ (cons t₁ f))
@@ -177,8 +177,8 @@ module _ (P : List Float) (i d h b k a x : ℕ) (old : List ℕ) where
           let Q : p ≡ a + size t₀ = behind-is P i d h b k a (a + sizes (cons t₀ (cons t₁ f))) old nought S u (A .0) lev a p t₀ (cons t₁ f) r B in
           let R : StandsAll (S .stage) lev p (cons t₁ f) = subst (λ w. StandsAll (S .stage) lev w (cons t₁ f)) (sym Q) (rest (S .stage) lev a t₀ (cons t₁ f) r) in
           let C = H S (A .0) t₁ lev le (first (S .stage) lev p t₁ f R) in
-          let E₀ : s₀ ≡ plus nought (times (entries S j y 0) (gained S t₀)) = e₀ ∙ ap (λ w. plus nought (times w g₀)) (part-is S j y e 0 (omega arith)) ∙ ap (λ w. plus nought (times (entries S j y 0) w)) (A .1) in
-          let E₁ : s₁ ≡ plus s₀ (times (entries S j y 1) (gained S t₁)) = e₁ ∙ ap (λ w. plus s₀ (times w g₁)) (part-is S j y e 1 (omega arith)) ∙ ap (λ w. plus s₀ (times (entries S j y 1) w)) (C .1) in
+          let E₀ : s₀ ≡ plus nought (times (entries S j y 0) (gained S t₀)) = q₀ ∙ ap (λ w. plus nought (times w g₀)) (part-is S j y e 0 (omega arith)) ∙ ap (λ w. plus nought (times (entries S j y 0) w)) (A .1) in
+          let E₁ : s₁ ≡ plus s₀ (times (entries S j y 1) (gained S t₁)) = q₁ ∙ ap (λ w. plus s₀ (times w g₁)) (part-is S j y e 1 (omega arith)) ∙ ap (λ w. plus s₀ (times (entries S j y 1) w)) (C .1) in
           (C .0, R, ap (λ w. addedUp S (entries S j y) 2 w f) (sym (E₁ ∙ ap (λ w. plus w (times (entries S j y 1) (gained S t₁))) E₀)))
 
       pub split-two : actionsOf x ≡ 2 → Split P i d h b k a x old v s₁
@@ -236,8 +236,7 @@ unfolding Every Levels value
 own-is P i d h b k a x old mid new c at r p q v S m y z f le e n g =
     let o : Noted (S .stage) mid × (c ≡ S .stage .choice y) = p S m y (subst (Known (S .stage) i y) (sym n) (g .known .0)) e (NatL.le-trans (NatL.le-of-eq (g .level .1)) le) in
     let l : c < fan f = subst (λ w. w < fan f) (sym (o .1)) (choice-few S y (fan f) (g .known .0)) in
-    let u = v S (o .0) (nth f c) z le (child-at (plain (S .stage)) mid (o .0) z a tt i y f g c at q l) in
-    (
+    let u = v S (o .0) (nth f c) z le (child-at (plain (S .stage)) mid (o .0) z a tt i y f g c at q l) in (
       u .0,
       u .1 ∙ sym (picked-nth S f c l) ∙ ap (picked (entries S) i (own S) (S .stage .choice) f) (o .1)
           ∙ ap (λ t. cond t (picked (entries S) i (own S) (S .stage .choice) f (S .stage .choice y)) (addedUp S (entries S i y) 0 nought f)) (sym (eq-eqb i i refl)),

@@ -17,8 +17,8 @@ use arena::words::set;
 use arena::words::word;
 use floats::float_at;
 use floats::payoff_of;
-use floats::weight;
 use floats::weighed;
+use floats::weight;
 use walks::child;
 ghost use Prim.Native.Nat.{_+_};
 ghost use Rattle.response.specs.Valued.{Walkable, Valued, Gained, Dealt, Split, ValuedOwn, Totalled, Chosen};
@@ -46,7 +46,17 @@ pub fn value(
         return 0.0;
     }
     if sort == CHANCE {
-        return dealt(w, profile, a + 1, next(x), seat, depth - 1, heads, reach, kept);
+        return dealt(
+            w,
+            profile,
+            a + 1,
+            next(x),
+            seat,
+            depth - 1,
+            heads,
+            reach,
+            kept,
+        );
     }
     if actor(x) == seat {
         return own(w, profile, a, x, seat, depth - 1, heads, reach, kept);
@@ -157,7 +167,17 @@ fn own(
     requires { ⌜ Walkable (a + 1) seat depth heads reach kept ⌝ }
     ensures { λ r. ⌜ ValuedOwn (now (profile .entry)) seat depth heads reach kept a x (now (w .entry)) (now (w .exit)) r ⌝ }
 {
-    let choice = choose(w, profile, set(x), actions(x), seat, depth, heads, reach, kept);
+    let choice = choose(
+        w,
+        profile,
+        set(x),
+        actions(x),
+        seat,
+        depth,
+        heads,
+        reach,
+        kept,
+    );
     let at = child(w, a, choice);
     gain(w, profile, at, seat, depth, heads, reach, kept)
 }
