@@ -1,5 +1,5 @@
 -- The worths of a tree from those of its children. Assumes nothing.
-use mathlib.Core.Path.{_≡_, refl, sym, ap, _∙_, subst}
+use mathlib.Core.Path.{_≡_, refl, sym, ap, _∙_}
 use mathlib.Core.Bool.{false}
 use mathlib.Core.List.{List, [], _∷_}
 use Prim.Native.Nat.{ℕ, zero, suc, _+_, _-_, _≤_, _<_}
@@ -9,11 +9,11 @@ use lib.Seq.{getD-take, getD-drop}
 use lib.Ieee.{Float, nan, binary64, ofInt}
 use Rattle.game.specs.Tree.{Key, Tree, end, chance, decide, Trees, nil, cons, fan, Every}
 use Rattle.game.specs.Sets.{size, sizes, firstEntry}
-use Rattle.profiles.specs.Values.{Profile, profileOf, nought, plus, times, weight, edge, value, added, worth}
+use Rattle.profiles.specs.Values.{profileOf, nought, plus, times, weight, edge, value, added, worth}
 use Rattle.arena.specs.Words.{END, CHANCE, kindOf, actionsOf, setOf, nextOf, payoffOf}
 use Rattle.arena.specs.Held.{Says, Held}
 use Rattle.arena.specs.Walk.{Behind, Fan}
-use Rattle.arena.specs.Legible.{Legible, LegibleAll}
+use Rattle.arena.specs.Legible.{LegibleAll}
 use Rattle.arena.proofs.Building.{size-some}
 use Rattle.arena.proofs.Reading.{deep-some, chance-row, decide-row, first, rest, near}
 use Rattle.expected.specs.Expected.{Holds, Walkable, total, Expected, Gained, Dealt, Moved}

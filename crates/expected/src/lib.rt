@@ -38,28 +38,30 @@ fn more(v: Six, p: f64, g: Six) -> Six
 {
     let x = v.of;
     let y = g.of;
-    let mut z = [0.0; 6];
-    z[0] = x[0] + p * y[0];
-    z[1] = x[1] + p * y[1];
-    z[2] = x[2] + p * y[2];
-    z[3] = x[3] + p * y[3];
-    z[4] = x[4] + p * y[4];
-    z[5] = x[5] + p * y[5];
-    Six { of: z }
+    let a = x[0] + p * y[0];
+    let b = x[1] + p * y[1];
+    let c = x[2] + p * y[2];
+    let d = x[3] + p * y[3];
+    let e = x[4] + p * y[4];
+    let f = x[5] + p * y[5];
+    Six {
+        of: [a, b, c, d, e, f],
+    }
 }
 
 // g of the end with word x: the payoff on its edge, and 0.0.
 fn paid(x: u64) -> Six
     ensures { λ r. ⌜ Holds (λ i. plus (ofInt binary64 (payoffOf x i)) nought) (r .of) ⌝ }
 {
-    let mut z = [0.0; 6];
-    z[0] = payoff_of(x, 0) + 0.0;
-    z[1] = payoff_of(x, 1) + 0.0;
-    z[2] = payoff_of(x, 2) + 0.0;
-    z[3] = payoff_of(x, 3) + 0.0;
-    z[4] = payoff_of(x, 4) + 0.0;
-    z[5] = payoff_of(x, 5) + 0.0;
-    Six { of: z }
+    let a = payoff_of(x, 0) + 0.0;
+    let b = payoff_of(x, 1) + 0.0;
+    let c = payoff_of(x, 2) + 0.0;
+    let d = payoff_of(x, 3) + 0.0;
+    let e = payoff_of(x, 4) + 0.0;
+    let f = payoff_of(x, 5) + 0.0;
+    Six {
+        of: [a, b, c, d, e, f],
+    }
 }
 
 // g of a node with the worths v that does not end the hand: 0.0 on its edge, and its worth.
@@ -67,14 +69,15 @@ fn unpaid(v: Six) -> Six
     ensures { λ r. ⌜ Holds (λ i. plus nought (getD (v .of) i nan)) (r .of) ⌝ }
 {
     let x = v.of;
-    let mut z = [0.0; 6];
-    z[0] = 0.0 + x[0];
-    z[1] = 0.0 + x[1];
-    z[2] = 0.0 + x[2];
-    z[3] = 0.0 + x[3];
-    z[4] = 0.0 + x[4];
-    z[5] = 0.0 + x[5];
-    Six { of: z }
+    let a = 0.0 + x[0];
+    let b = 0.0 + x[1];
+    let c = 0.0 + x[2];
+    let d = 0.0 + x[3];
+    let e = 0.0 + x[4];
+    let f = 0.0 + x[5];
+    Six {
+        of: [a, b, c, d, e, f],
+    }
 }
 
 // The worths of the tree at place a.

@@ -1,6 +1,5 @@
 use borrow.Author.Needs.{needs}
 use mathlib.Core.Path.{_∙_}
-use native.Mathlib.Omega.{arith}
 use Rattle.expected.proofs.Summing.{part-entry}
 use Rattle.expected.proofs.chance_of.Statement.{statement}
 use Rattle.expected.proofs.chance_of.Tie as tie

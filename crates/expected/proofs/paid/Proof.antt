@@ -10,38 +10,20 @@ use Rattle.expected.proofs.paid.Tie as tie
 payoff-of-requires : tie.Need-payoff-of-requires
 payoff-of-requires c κs = search needs
 
-array-write-z : tie.Need-array-write-z
-array-write-z c = search needs
-
 payoff-of-requires-2 : tie.Need-payoff-of-requires-2
 payoff-of-requires-2 c κs = search needs
-
-array-write-z-2 : tie.Need-array-write-z-2
-array-write-z-2 c = search needs
 
 payoff-of-requires-3 : tie.Need-payoff-of-requires-3
 payoff-of-requires-3 c κs = search needs
 
-array-write-z-3 : tie.Need-array-write-z-3
-array-write-z-3 c = search needs
-
 payoff-of-requires-4 : tie.Need-payoff-of-requires-4
 payoff-of-requires-4 c κs = search needs
-
-array-write-z-4 : tie.Need-array-write-z-4
-array-write-z-4 c = search needs
 
 payoff-of-requires-5 : tie.Need-payoff-of-requires-5
 payoff-of-requires-5 c κs = search needs
 
-array-write-z-5 : tie.Need-array-write-z-5
-array-write-z-5 c = search needs
-
 payoff-of-requires-6 : tie.Need-payoff-of-requires-6
 payoff-of-requires-6 c κs = search needs
-
-array-write-z-6 : tie.Need-array-write-z-6
-array-write-z-6 c = search needs
 
 returns : tie.Need-returns
 returns c = six (λ i. plus (ofInt binary64 (payoffOf (c .before .before .before .before .before .before .args .x) i)) nought) _ _ _ _ _ _ (ap (λ y. plus y nought) (c .before .before .before .before .before .payoff-of .ensures)) (ap (λ y. plus y nought) (c .before .before .before .before .payoff-of2 .ensures)) (ap (λ y. plus y nought) (c .before .before .before .payoff-of3 .ensures)) (ap (λ y. plus y nought) (c .before .before .payoff-of4 .ensures)) (ap (λ y. plus y nought) (c .before .payoff-of5 .ensures)) (ap (λ y. plus y nought) (c .payoff-of6 .ensures))
@@ -51,15 +33,9 @@ paid-spec =
     tie.close
     (tie.spec
     payoff-of-requires
-    array-write-z
     payoff-of-requires-2
-    array-write-z-2
     payoff-of-requires-3
-    array-write-z-3
     payoff-of-requires-4
-    array-write-z-4
     payoff-of-requires-5
-    array-write-z-5
     payoff-of-requires-6
-    array-write-z-6
     returns)
