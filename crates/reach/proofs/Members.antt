@@ -1,21 +1,17 @@
--- The members of a set, each with its reach in the word that stands for its place. Assumes nothing.
+-- The members of a set with their places and reaches: those that the values add up. Assumes nothing.
 use mathlib.Core.Path.{_≡_, refl, ap, ap₂, _∙_}
 use mathlib.Core.Bool.{Bool, true, false, cond}
 use mathlib.Core.List.{List, [], _∷_, _++_, map}
 use Prim.Native.Nat.{ℕ, suc, _+_}
 use lib.Dec.{eqb}
-use lib.Ieee.{Float, binary64, ofBits}
-use lib.ListN.{getD}
-use borrow.Author.Tests.{eqb-true}
-use Rattle.finite.proofs.Tests.{Tested, holds, fails, tested, true≢false}
+use lib.Ieee.{Float}
 use Rattle.game.specs.Tree.{Key, Tree, end, chance, decide, Trees, nil, cons, fan}
 use Rattle.game.specs.Reply.{same}
 use Rattle.game.specs.Sets.{size}
 use Rattle.profiles.specs.Values as values
 use Rattle.profiles.specs.Values.{Profile, times, weight, passed}
 use Rattle.walks.specs.Found.{Member, found, foundAll}
-use Rattle.walks.proofs.Finding.{map-append, EachMember, each-append, each-cond}
-use Rattle.reach.specs.Reached.{Marked, MarkedAll}
+use Rattle.walks.proofs.Finding.{map-append}
 
 -- what a chance node with n children passes on of reach r
 abbrev pub dealt : Float → ℕ → Float
@@ -27,7 +23,7 @@ module _ (s : Profile) (i : ℕ) (k : Key) where
   foundAt a r t = found dealt (passed s i) i k a r t
 
   -- without its place
-  abbrev pub reached : Member Float → values.Member s i
+  abbrev pub reached : Member Float → values.Member
   reached m = (m .1, m .2)
 
   mutual
@@ -49,31 +45,3 @@ module _ (s : Profile) (i : ℕ) (k : Key) where
     reached-found-all nil a g x = refl
     reached-found-all (cons t f) a g x = map-append reached (foundAt a (g x) t) (foundAll dealt (passed s i) i k (a + size t) g (suc x) f)
         ∙ ap₂ _++_ (reached-found t a (g x)) (reached-found-all f (a + size t) g (suc x))
-
-  -- ---- the words
-  module _ (b : ℕ) (w : List ℕ) where
-    -- the word for the member's place holds its reach
-    abbrev pub Stored : Member Float → Type 0
-    Stored m = ofBits binary64 (getD w (b + m .0) 0) ≡ m .1
-
-    own : (j : ℕ) (l : Key) → cond (eqb j i) (same l k) false ≡ true → j ≡ i
-    own j l = at (tested (eqb j i))
-      where
-        at : Tested (eqb j i) → cond (eqb j i) (same l k) false ≡ true → j ≡ i
-        at (holds e) q = eqb-true j i e
-        at (fails e) q = true≢false false (rw e at q) refl
-
-    mutual
-      unfolding found EachMember Marked
-
-      -- so of each member of a tree that is marked
-      pub each-stored : (t : Tree) (a : ℕ) (r : Float) → Marked s i b w a r t → EachMember Stored (foundAt a r t)
-      each-stored (end p) a r h = tt
-      each-stored (chance f) a r h = each-stored-all f (suc a) (λ x. dealt r (fan f)) 0 h
-      each-stored (decide j l f) a r h = each-cond Stored (a, r, f) (foundAll dealt (passed s i) i k (suc a) (passed s i r j l) 0 f) (cond (eqb j i) (same l k) false) (λ e. h .0 (own j l e))
-          (each-stored-all f (suc a) (passed s i r j l) 0 (h .1))
-
-      each-stored-all : (f : Trees) (a : ℕ) (g : ℕ → Float) (x : ℕ) → MarkedAll s i b w a g x f → EachMember Stored (foundAll dealt (passed s i) i k a g x f)
-      each-stored-all nil a g x h = tt
-      each-stored-all (cons t f) a g x h = each-append Stored (foundAt a (g x) t) (foundAll dealt (passed s i) i k (a + size t) g (suc x) f)
-          (each-stored t a (g x) (h .0)) (each-stored-all f (a + size t) g (suc x) (h .1))

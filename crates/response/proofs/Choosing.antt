@@ -10,21 +10,20 @@ use lib.Ieee.{Float, nan, binary64, ofBits}
 use lib.ListN.{getD, set}
 use borrow.Author.Tests.{eq-eqb}
 use Rattle.game.specs.Tree.{Key, Tree, end, chance, decide, Trees, nil, cons, fan}
-use Rattle.game.specs.Reply.{same}
 use Rattle.game.specs.Sets.{size, firstEntry}
 use Rattle.arena.specs.Words.{laterOf}
 use Rattle.arena.specs.Index.{firstOf}
 use Rattle.profiles.specs.Values.{Profile, one, nought, plus, times, weight, picked, passed, lead, summed, setSum}
-use Rattle.profiles.specs.Values as Values
 use Rattle.walks.specs.Child.{nth, Child}
 use Rattle.walks.specs.Stage.{Known, Noted, Stands, StandsAll}
-use Rattle.walks.specs.Found.{Member, found, foundAll}
+use Rattle.walks.specs.Found.{Member, found}
 use Rattle.walks.proofs.Standing.{kids-chance, kids-decide, first, rest, known-of, root-stands}
 use Rattle.walks.proofs.Noting as noting
-use Rattle.walks.proofs.Finding.{EachMember, map-append}
+use Rattle.walks.proofs.Finding.{EachMember}
 use Rattle.walks.proofs.Descending.{Descent}
 use Rattle.walks.proofs.Remaining.{Remaining, remaining-start, remaining-more, remaining-child, remaining-none, remaining-some, remaining-rises}
 use Rattle.reach.specs.Reached.{Marked, MarkedAll}
+use Rattle.reach.proofs.Members.{dealt, reached, reached-found}
 use Rattle.response.specs.Valued.{Scene, entries, own, gained, behindAction, Gained, Chosen, Totalled}
 use Rattle.response.proofs.Picking.{lead-same}
 use Rattle.response.proofs.Valuing.{picked-nth}
@@ -68,34 +67,6 @@ module _ (P : List Float) (i d h b k e n : ℕ) (old : List ℕ) where
       same q A B C (suc zero) j = B
       same q A B C (suc (suc zero)) j = C
       same q A B C (suc (suc (suc a))) j = absurd (omega arith)
-
--- ---- the members, with their places, are those of the definition
-abbrev dealt : Float → ℕ → Float
-dealt r n = times r (weight n)
-
--- a member without its place
-abbrev placeless : Member Float → Values.Member
-placeless m = (m .1, m .2)
-
-module _ (s : Profile) (i : ℕ) (y : Key) where
-  mutual
-    unfolding found Values.found
-
-    members-placed : (t : Tree) (a : ℕ) (r : Float) → map placeless (found dealt (passed s i) i y a r t) ≡ Values.found s i y r t
-    members-placed (end p) a r = refl
-    members-placed (chance f) a r = members-placed-all f (suc a) (λ x. times r (weight (fan f))) 0
-    members-placed (decide j l f) a r = at (cond (eqb j i) (same l y) false) (members-placed-all f (suc a) (passed s i r j l) 0)
-      where
-        at : (c : Bool) → map placeless (foundAll dealt (passed s i) i y (suc a) (passed s i r j l) 0 f) ≡ Values.foundAll s i y (passed s i r j l) 0 f
-            → map placeless (cond c ((a, r, f) ∷ foundAll dealt (passed s i) i y (suc a) (passed s i r j l) 0 f) (foundAll dealt (passed s i) i y (suc a) (passed s i r j l) 0 f))
-            ≡ cond c ((r, f) ∷ Values.foundAll s i y (passed s i r j l) 0 f) (Values.foundAll s i y (passed s i r j l) 0 f)
-        at true e = ap (λ ms. (r, f) ∷ ms) e
-        at false e = e
-
-    members-placed-all : (f : Trees) (a : ℕ) (g : ℕ → Float) (x : ℕ) → map placeless (foundAll dealt (passed s i) i y a g x f) ≡ Values.foundAll s i y g x f
-    members-placed-all nil a g x = refl
-    members-placed-all (cons t f) a g x = map-append placeless (found dealt (passed s i) i y a (g x) t) (foundAll dealt (passed s i) i y (a + size t) g (suc x) f)
-        ∙ ap₂ _++_ (members-placed t a (g x)) (members-placed-all f (a + size t) g (suc x))
 
 -- ---- the way down with reaches
 module _ {P : List Float} {i h b k : ℕ} (S : Scene P i h b k) where
@@ -142,14 +113,14 @@ module _ {P : List Float} {i h b k : ℕ} (S : Scene P i h b k) (y : Key) (a : �
   -- members to come, the first of them at place c, and the sum before them
   pub record Rest (c : ℕ) (sum : Float) (ms : List (Member Float)) : Type 0 where
     pub remaining : Remaining (reaching S) y c ms
-    pub all : behindAction S y a ≡ summed (entries S) i (S .stage .choice) a sum (map placeless ms)
+    pub all : behindAction S y a ≡ summed (entries S) i (S .stage .choice) a sum (map (reached (entries S) i y) ms)
 
   rest-start : (old : List ℕ) → Noted (S .stage) old → (n : ℕ) → Known (S .stage) i y n → (c : ℕ) → c ≡ getD old (h + firstEntry (S .stage .tree) i y) 0 % 2097152
       → Rest c nought (found dealt (passed (entries S) i) i y 0 one (S .stage .tree))
   unfolding setSum
   rest-start old m n g c e = record {
     remaining = remaining-start (reaching S) y old m n g one (record { stands = root-stands (S .stage); marked = S .marked }) c e;
-    all = ap (summed (entries S) i (S .stage .choice) a nought) (sym (members-placed (entries S) i y (S .stage .tree) 0 one));
+    all = ap (summed (entries S) i (S .stage .choice) a nought) (sym (reached-found (entries S) i y (S .stage .tree) 0 one));
   }
 
   module _ (n : ℕ) (g : Known (S .stage) i y n) (l : a < n) (cur new : List ℕ) (c q : ℕ) (v s : Float) (next : ℕ) (sum : Float) (m : Noted (S .stage) cur) (o : Child cur c a q) (d : ℕ)
@@ -160,7 +131,7 @@ module _ {P : List Float} {i h b k : ℕ} (S : Scene P i h b k) (y : Key) (a : �
       given .0,
       record {
         remaining = remaining-more (reaching S) y new (given .0) c next (p, r, f) ms (t .remaining) z;
-        all = t .all ∙ ap (λ j. summed (entries S) i (S .stage .choice) a j (map placeless ms)) (sym (e ∙ ap (λ j. plus sum (times j v)) reach ∙ ap (λ j. plus sum (times r j)) (given .1)));
+        all = t .all ∙ ap (λ j. summed (entries S) i (S .stage .choice) a j (map (reached (entries S) i y) ms)) (sym (e ∙ ap (λ j. plus sum (times j v)) reach ∙ ap (λ j. plus sum (times r j)) (given .1)));
       },
     )
       where
