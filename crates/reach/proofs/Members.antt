@@ -1,7 +1,7 @@
 -- The members of a set, each with its reach in the word that stands for its place. Assumes nothing.
 use mathlib.Core.Path.{_≡_, refl, ap, ap₂, _∙_}
 use mathlib.Core.Bool.{Bool, true, false, cond}
-use mathlib.Core.List.{List, [], _∷_, _++_, map}
+use mathlib.Core.List.{List, _∷_, _++_, map}
 use Prim.Native.Nat.{ℕ, suc, _+_}
 use lib.Dec.{eqb}
 use lib.Ieee.{Float, binary64, ofBits}
@@ -10,11 +10,11 @@ use borrow.Author.Tests.{eqb-true}
 use Rattle.finite.proofs.Tests.{Tested, holds, fails, tested, true≢false}
 use Rattle.game.specs.Tree.{Key, Tree, end, chance, decide, Trees, nil, cons, fan}
 use Rattle.game.specs.Reply.{same}
-use Rattle.game.specs.Sets.{size}
+use Rattle.game.specs.Sets.{size, preorder, numbers}
 use Rattle.profiles.specs.Values as values
 use Rattle.profiles.specs.Values.{Profile, times, weight, passed}
 use Rattle.walks.specs.Found.{Member, found, foundAll}
-use Rattle.walks.proofs.Finding.{map-append, EachMember, each-append, each-cond}
+use Rattle.walks.proofs.Finding.{map-append, places, places-found, EachMember, each-append, each-cond}
 use Rattle.reach.specs.Reached.{Marked, MarkedAll}
 
 -- what a chance node with n children passes on of reach r
@@ -25,6 +25,10 @@ module _ (s : Profile) (i : ℕ) (k : Key) where
   -- the members of the set k in a tree at place a of reach r: place, reach and children
   abbrev pub foundAt : ℕ → Float → Tree → List (Member Float)
   foundAt a r t = found dealt (passed s i) i k a r t
+
+  -- they stand at the numbers of the set's nodes
+  pub found-places : (t : Tree) (a : ℕ) (r : Float) → places (foundAt a r t) ≡ numbers i k a (preorder t)
+  found-places t a r = places-found dealt (passed s i) i k t a r
 
   -- without its place
   abbrev pub reached : Member Float → values.Member s i
