@@ -37,23 +37,26 @@ pub fn collect(
     if sort == END {
         return;
     }
+    let child = a + 1;
+    let below = depth - 1;
     if sort == CHANCE {
         let end = next(x);
-        let each = r * weight(fan(w, a + 1, end));
-        spread(w, profile, a + 1, end, each, seat, reach, depth - 1);
+        let each = r * weight(fan(w, child, end));
+        spread(w, profile, child, end, each, seat, reach, below);
         return;
     }
     if actor(x) == seat {
         put_float(w, reach + a, r);
-        spread(w, profile, a + 1, next(x), r, seat, reach, depth - 1);
+        spread(w, profile, child, next(x), r, seat, reach, below);
         return;
     }
     let first = set(x);
-    let end = first + actions(x);
+    let count = actions(x);
+    let end = first + count;
     if profile.len() < end {
         return;
     }
-    divide(w, profile, a + 1, first, end, r, seat, reach, depth - 1);
+    divide(w, profile, child, first, end, r, seat, reach, below);
 }
 
 // The same of one tree of a row: an end has nothing to store, and needs no call.

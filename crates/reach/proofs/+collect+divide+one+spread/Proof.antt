@@ -200,6 +200,58 @@ collect-returns-2 : (t : ℕ) → collect-lts.Need-returns-2 (
 ) (collect-at t) collect.Post
 collect-returns-2 t c = storing.node-end _ _ _ _ _ _ _ _ (c .before .before .word .ensures) (sym (c .before .kind .ensures) ∙ c .if2 .taken)
 
+collect-add-child : (t : ℕ) → collect-lts.Need-add-child (
+  word-reads.Asked,
+  word-reads.Learnt,
+  kind-reads.Asked,
+  kind-reads.Learnt,
+  next-reads.Asked,
+  next-reads.Learnt,
+  fan-reads.Asked,
+  fan-reads.Learnt,
+  weight-reads.Asked,
+  weight-reads.Learnt,
+  spread-below t,
+  spread.Post,
+  actor-reads.Asked,
+  actor-reads.Learnt,
+  put-float-reads.Asked,
+  put-float-reads.Learnt,
+  set-reads.Asked,
+  set-reads.Learnt,
+  actions-reads.Asked,
+  actions-reads.Learnt,
+  divide-below t,
+  divide.Post,
+) (collect-at t) collect.Post
+collect-add-child t c = record { fits = omega (arith, c .before .before .before .before .before .before .before .pre .1 .place) }
+
+collect-sub-below : (t : ℕ) → collect-lts.Need-sub-below (
+  word-reads.Asked,
+  word-reads.Learnt,
+  kind-reads.Asked,
+  kind-reads.Learnt,
+  next-reads.Asked,
+  next-reads.Learnt,
+  fan-reads.Asked,
+  fan-reads.Learnt,
+  weight-reads.Asked,
+  weight-reads.Learnt,
+  spread-below t,
+  spread.Post,
+  actor-reads.Asked,
+  actor-reads.Learnt,
+  put-float-reads.Asked,
+  put-float-reads.Learnt,
+  set-reads.Asked,
+  set-reads.Learnt,
+  actions-reads.Asked,
+  actions-reads.Learnt,
+  divide-below t,
+  divide.Post,
+) (collect-at t) collect.Post
+collect-sub-below t c = omega (arith, c .before .before .before .before .if1 .left)
+
 collect-next-requires : (t : ℕ) → collect-lts.Need-next-requires (
   word-reads.Asked,
   word-reads.Learnt,
@@ -225,32 +277,6 @@ collect-next-requires : (t : ℕ) → collect-lts.Need-next-requires (
   divide.Post,
 ) (collect-at t) collect.Post
 collect-next-requires t c κs = search needs
-
-collect-add-fan : (t : ℕ) → collect-lts.Need-add-fan (
-  word-reads.Asked,
-  word-reads.Learnt,
-  kind-reads.Asked,
-  kind-reads.Learnt,
-  next-reads.Asked,
-  next-reads.Learnt,
-  fan-reads.Asked,
-  fan-reads.Learnt,
-  weight-reads.Asked,
-  weight-reads.Learnt,
-  spread-below t,
-  spread.Post,
-  actor-reads.Asked,
-  actor-reads.Learnt,
-  put-float-reads.Asked,
-  put-float-reads.Learnt,
-  set-reads.Asked,
-  set-reads.Learnt,
-  actions-reads.Asked,
-  actions-reads.Learnt,
-  divide-below t,
-  divide.Post,
-) (collect-at t) collect.Post
-collect-add-fan t c = record { fits = omega (arith, c .before .before .before .before .before .before .before .before .before .before .pre .1 .place) }
 
 collect-fan-requires : (t : ℕ) → collect-lts.Need-fan-requires (
   word-reads.Asked,
@@ -303,58 +329,6 @@ collect-weight-requires : (t : ℕ) → collect-lts.Need-weight-requires (
   divide.Post,
 ) (collect-at t) collect.Post
 collect-weight-requires t c κs = search needs
-
-collect-add-spread : (t : ℕ) → collect-lts.Need-add-spread (
-  word-reads.Asked,
-  word-reads.Learnt,
-  kind-reads.Asked,
-  kind-reads.Learnt,
-  next-reads.Asked,
-  next-reads.Learnt,
-  fan-reads.Asked,
-  fan-reads.Learnt,
-  weight-reads.Asked,
-  weight-reads.Learnt,
-  spread-below t,
-  spread.Post,
-  actor-reads.Asked,
-  actor-reads.Learnt,
-  put-float-reads.Asked,
-  put-float-reads.Learnt,
-  set-reads.Asked,
-  set-reads.Learnt,
-  actions-reads.Asked,
-  actions-reads.Learnt,
-  divide-below t,
-  divide.Post,
-) (collect-at t) collect.Post
-collect-add-spread t c = record { fits = omega (arith, c .before .before .before .before .before .before .before .before .before .before .before .before .before .pre .1 .place) }
-
-collect-sub-spread : (t : ℕ) → collect-lts.Need-sub-spread (
-  word-reads.Asked,
-  word-reads.Learnt,
-  kind-reads.Asked,
-  kind-reads.Learnt,
-  next-reads.Asked,
-  next-reads.Learnt,
-  fan-reads.Asked,
-  fan-reads.Learnt,
-  weight-reads.Asked,
-  weight-reads.Learnt,
-  spread-below t,
-  spread.Post,
-  actor-reads.Asked,
-  actor-reads.Learnt,
-  put-float-reads.Asked,
-  put-float-reads.Learnt,
-  set-reads.Asked,
-  set-reads.Learnt,
-  actions-reads.Asked,
-  actions-reads.Learnt,
-  divide-below t,
-  divide.Post,
-) (collect-at t) collect.Post
-collect-sub-spread t c = omega (arith, c .before .before .before .before .before .before .before .before .before .before .if1 .left)
 
 collect-spread-requires : (t : ℕ) → collect-lts.Need-spread-requires (
   word-reads.Asked,
@@ -512,32 +486,6 @@ collect-put-float-requires : (t : ℕ) → collect-lts.Need-put-float-requires (
 ) (collect-at t) collect.Post
 collect-put-float-requires t c κs = search needs
 
-collect-add-spread-2 : (t : ℕ) → collect-lts.Need-add-spread-2 (
-  word-reads.Asked,
-  word-reads.Learnt,
-  kind-reads.Asked,
-  kind-reads.Learnt,
-  next-reads.Asked,
-  next-reads.Learnt,
-  fan-reads.Asked,
-  fan-reads.Learnt,
-  weight-reads.Asked,
-  weight-reads.Learnt,
-  spread-below t,
-  spread.Post,
-  actor-reads.Asked,
-  actor-reads.Learnt,
-  put-float-reads.Asked,
-  put-float-reads.Learnt,
-  set-reads.Asked,
-  set-reads.Learnt,
-  actions-reads.Asked,
-  actions-reads.Learnt,
-  divide-below t,
-  divide.Post,
-) (collect-at t) collect.Post
-collect-add-spread-2 t c = record { fits = omega (arith, c .before .before .before .before .before .before .before .before .before .before .before .before .before .before .before .pre .1 .place) }
-
 collect-next-requires-2 : (t : ℕ) → collect-lts.Need-next-requires-2 (
   word-reads.Asked,
   word-reads.Learnt,
@@ -563,32 +511,6 @@ collect-next-requires-2 : (t : ℕ) → collect-lts.Need-next-requires-2 (
   divide.Post,
 ) (collect-at t) collect.Post
 collect-next-requires-2 t c κs = search needs
-
-collect-sub-spread-2 : (t : ℕ) → collect-lts.Need-sub-spread-2 (
-  word-reads.Asked,
-  word-reads.Learnt,
-  kind-reads.Asked,
-  kind-reads.Learnt,
-  next-reads.Asked,
-  next-reads.Learnt,
-  fan-reads.Asked,
-  fan-reads.Learnt,
-  weight-reads.Asked,
-  weight-reads.Learnt,
-  spread-below t,
-  spread.Post,
-  actor-reads.Asked,
-  actor-reads.Learnt,
-  put-float-reads.Asked,
-  put-float-reads.Learnt,
-  set-reads.Asked,
-  set-reads.Learnt,
-  actions-reads.Asked,
-  actions-reads.Learnt,
-  divide-below t,
-  divide.Post,
-) (collect-at t) collect.Post
-collect-sub-spread-2 t c = omega (arith, c .before .before .before .before .before .before .before .before .before .before .before .before .before .if1 .left)
 
 collect-spread-requires-2 : (t : ℕ) → collect-lts.Need-spread-requires-2 (
   word-reads.Asked,
@@ -797,58 +719,6 @@ collect-returns-5 : (t : ℕ) → collect-lts.Need-returns-5 (
   divide.Post,
 ) (collect-at t) collect.Post
 collect-returns-5 t c = storing.node-short _ _ _ _ _ _ _ _ (c .before .before .before .before .before .before .before .before .word .ensures) (λ q. c .before .before .before .before .before .before .if2 .left (c .before .before .before .before .before .before .before .kind .ensures ∙ q)) (λ q. c .before .before .before .before .before .if3 .left (c .before .before .before .before .before .before .before .kind .ensures ∙ q)) (omega (arith, c .before .before .set .ensures, c .before .actions .ensures, c .if5 .taken))
-
-collect-add-divide : (t : ℕ) → collect-lts.Need-add-divide (
-  word-reads.Asked,
-  word-reads.Learnt,
-  kind-reads.Asked,
-  kind-reads.Learnt,
-  next-reads.Asked,
-  next-reads.Learnt,
-  fan-reads.Asked,
-  fan-reads.Learnt,
-  weight-reads.Asked,
-  weight-reads.Learnt,
-  spread-below t,
-  spread.Post,
-  actor-reads.Asked,
-  actor-reads.Learnt,
-  put-float-reads.Asked,
-  put-float-reads.Learnt,
-  set-reads.Asked,
-  set-reads.Learnt,
-  actions-reads.Asked,
-  actions-reads.Learnt,
-  divide-below t,
-  divide.Post,
-) (collect-at t) collect.Post
-collect-add-divide t c = record { fits = omega (arith, c .before .before .before .before .before .before .before .before .before .before .before .before .before .before .pre .1 .place) }
-
-collect-sub-divide : (t : ℕ) → collect-lts.Need-sub-divide (
-  word-reads.Asked,
-  word-reads.Learnt,
-  kind-reads.Asked,
-  kind-reads.Learnt,
-  next-reads.Asked,
-  next-reads.Learnt,
-  fan-reads.Asked,
-  fan-reads.Learnt,
-  weight-reads.Asked,
-  weight-reads.Learnt,
-  spread-below t,
-  spread.Post,
-  actor-reads.Asked,
-  actor-reads.Learnt,
-  put-float-reads.Asked,
-  put-float-reads.Learnt,
-  set-reads.Asked,
-  set-reads.Learnt,
-  actions-reads.Asked,
-  actions-reads.Learnt,
-  divide-below t,
-  divide.Post,
-) (collect-at t) collect.Post
-collect-sub-divide t c = omega (arith, c .before .before .before .before .before .before .before .before .before .before .before .if1 .left)
 
 collect-divide-requires : (t : ℕ) → collect-lts.Need-divide-requires (
   word-reads.Asked,
@@ -1254,21 +1124,18 @@ pub +collect+divide+one+spread-spec : {M : Type 1} → statement M
     (collect-kind-requires t)
     (collect-same-length t)
     (collect-returns-2 t)
+    (collect-add-child t)
+    (collect-sub-below t)
     (collect-next-requires t)
-    (collect-add-fan t)
     (collect-fan-requires t)
     (collect-weight-requires t)
-    (collect-add-spread t)
-    (collect-sub-spread t)
     (collect-spread-requires t)
     (collect-same-length-2 t)
     (collect-returns-3 t)
     (collect-actor-requires t)
     (collect-add-put-float t)
     (collect-put-float-requires t)
-    (collect-add-spread-2 t)
     (collect-next-requires-2 t)
-    (collect-sub-spread-2 t)
     (collect-spread-requires-2 t)
     (collect-same-length-3 t)
     (collect-returns-4 t)
@@ -1277,8 +1144,6 @@ pub +collect+divide+one+spread-spec : {M : Type 1} → statement M
     (collect-add-end t)
     (collect-same-length-4 t)
     (collect-returns-5 t)
-    (collect-add-divide t)
-    (collect-sub-divide t)
     (collect-divide-requires t)
     (collect-same-length-5 t)
     (collect-returns-6 t))
