@@ -1,0 +1,2 @@
+-- Lemmas on the f64 values of a profile.
+pub mod Signs
