@@ -116,7 +116,8 @@ fn deal(w: &[u64], profile: &[f64], a: usize, end: usize, depth: usize) -> Six
     requires { ⌜ Walkable a depth ⌝ }
     ensures { λ r. ⌜ Dealt (now (profile .entry)) (now (w .entry)) a end depth (r .of) ⌝ }
 {
-    let p = weight(fan(w, a, end));
+    let count = fan(w, a, end);
+    let p = weight(count);
     let mut sums = none();
     let mut at = a;
     while at < end {

@@ -42,7 +42,7 @@ module _ (s : Profile) (i b : ℕ) (v w : List ℕ) where
   mutual
     unfolding Marked size
 
-    marked-same : (a : ℕ) (r : Float) (t : Tree) → Same v w (b + a) (b + (a + size t)) → Marked s i b v a r t → Marked s i b w a r t
+    pub marked-same : (a : ℕ) (r : Float) (t : Tree) → Same v w (b + a) (b + (a + size t)) → Marked s i b v a r t → Marked s i b w a r t
     marked-same a r (end p) e h = tt
     marked-same a r (chance f) e h = marked-same-all (suc a) (λ x. times r (weight (fan f))) 0 f (λ p l m. e p (omega arith) (omega arith)) h
     marked-same a r (decide j k f) e h = (λ o. ap (ofBits binary64) (e (b + a) (omega arith) (omega arith)) ∙ h .0 o, marked-same-all (suc a) (passed s i r j k) 0 f (λ p l m. e p (omega arith) (omega arith)) (h .1))

@@ -72,10 +72,10 @@ abbrev worths-below : ℕ → In 2 worths-kinds.ps
 worths-below t = and 2 worths-kinds.ps (falls 2 worths-kinds.ps _<_ μ-worths t) worths.Pre
 
 abbrev deal-Inv-loop : deal-lts.InvT-loop
-deal-Inv-loop w profile a end depth p sums₀ at₀ sums at = summing.Dealing profile w a depth end at (sums .of) × Walkable at depth
+deal-Inv-loop w profile a end depth count p sums₀ at₀ sums at = summing.Dealing profile w a depth end at (sums .of) × Walkable at depth
 
 abbrev deal-μ-loop : deal-lts.MeasureT-loop
-deal-μ-loop w profile a end depth p sums₀ at₀ sums at = end - at
+deal-μ-loop w profile a end depth count p sums₀ at₀ sums at = end - at
 
 deal-fan-requires : (t : ℕ) → deal-lts.Need-fan-requires (
   fan-reads.Asked,
