@@ -5,13 +5,21 @@ use mathlib.Core.List.{List}
 use Prim.Native.Nat.{ℕ, suc, _+_, _≤_, _<_}
 use native.Mathlib.Omega.{arith}
 use lib.Dec.{ltb}
-use borrow.Author.Tests.{lt-ltb}
+use borrow.Author.Tests.{lt-ltb, ltb-true}
 use lib.Ieee.{Float, nan, binary64, sub}
 use lib.ListN.{length, getD, set, replicate}
 use Rattle.finite.specs.Finite.{places}
-use Rattle.finite.proofs.Lists.{filled-none, filled-more, getD-places}
+use Rattle.finite.proofs.Lists.{filled-none, filled-more, getD-places, places-same}
+use Rattle.finite.proofs.Tests.{Tested, holds, fails, tested}
 use Rattle.profiles.specs.Values.{nought, plus}
 use Rattle.tables.specs.declared.Game.{Game}
+use Rattle.tables.specs.Games.{treeOf}
+use Rattle.arena.specs.Index.{laterIn}
+use Rattle.expected.specs.Expected.{Expected}
+use Rattle.stored.specs.Stored.{Stored}
+use Rattle.whole.specs.Facts.{Known}
+use Rattle.whole.proofs.Facts.{games-shaped, games-legible}
+use Rattle.game_values.specs.Accepted.{Accepted}
 use Rattle.game_values.specs.Values.{bestOf, worthOf, bySeat, bestsOf, worthsOf, gaps, nashConvOf}
 
 -- the first k of six places have f
@@ -33,10 +41,6 @@ module _ (g : Game) (P : List Float) where
   unfolding bestsOf
   all-bests k out a b e = front-all (bestOf g P) g k out a b e
 
-  pub all-worths : (k : ℕ) (out : List Float) → k ≤ g .seats → g .seats ≤ k → out ≡ front (worthOf g P) k → out ≡ worthsOf g P
-  unfolding worthsOf
-  all-worths k out a b e = front-all (worthOf g P) g k out a b e
-
   -- the worth of a seat
   pub worth-at : (ws : List Float) (k : ℕ) → g .seats ≤ 6 → ws ≡ worthsOf g P → k < g .seats → getD ws k nan ≡ worthOf g P k
   unfolding worthsOf
@@ -52,3 +56,21 @@ module _ (g : Game) (P : List Float) where
 
   pub gaps-all : (k : ℕ) (sum : Float) → k ≤ g .seats → g .seats ≤ k → sum ≡ gaps g P k → sum ≡ nashConvOf g P
   gaps-all k sum a b e = let q : k ≡ g .seats = omega arith in e ∙ ap (gaps g P) q
+
+-- ---- the games have at most six seats
+pub few-seats : (g : Game) → Known g → g .seats ≤ 6
+few-seats g a = games-shaped g a .most
+
+-- what is read of the tree for six seats, cut to the game's
+module _ (g : Game) (P : List Float) (a : Accepted g P) (w : List ℕ) (x : Stored g w) (r : List Float) (o : Expected P w 0 32 r) where
+  worth-is : (i : ℕ) → i < g .seats → getD r i nan ≡ worthOf g P i
+  unfolding worthOf
+  worth-is i l = o (g .seats) (treeOf g) (treeOf g) (laterIn (treeOf g)) (few-seats g (a .game)) (games-legible g w (length P) (a .game) x (a .long)) i l
+
+  pub cut-worths : (k : ℕ) (out : List Float) → k ≤ g .seats → g .seats ≤ k → out ≡ front (λ i. getD r i nan) k → out ≡ worthsOf g P
+  unfolding worthsOf
+  cut-worths k out l m e = front-all (λ i. getD r i nan) g k out l m e ∙ places-same 6 _ _ (λ i h. at i (tested (ltb i (g .seats))))
+    where
+      at : (i : ℕ) → Tested (ltb i (g .seats)) → cond (ltb i (g .seats)) (getD r i nan) nought ≡ cond (ltb i (g .seats)) (worthOf g P i) nought
+      at i (holds t) = rw t (worth-is i (ltb-true i (g .seats) t))
+      at i (fails t) = rw t refl
