@@ -1,0 +1,1 @@
+-- Lemmas on the calls' checks and answers.
