@@ -50,12 +50,18 @@ fn rest_refusal(g: Game, asked: Asked, entries: usize) -> u64
     requires { ⌜ seats-out g ≡ false ⌝ }
     ensures { λ r. ⌜ r ≡ first (restOf asked g entries) ⌝ }
 {
-    if let Asked::Best(seat) = asked {
-        if g.seats <= seat {
-            return refusals::SEAT;
+    match asked {
+        Asked::Best(seat) => {
+            if g.seats <= seat {
+                return refusals::SEAT;
+            }
+            entries_refusal(g, entries)
         }
+        Asked::Bests => entries_refusal(g, entries),
+        Asked::Worths => entries_refusal(g, entries),
+        Asked::NashConv => entries_refusal(g, entries),
+        Asked::Exploitability => entries_refusal(g, entries),
     }
-    entries_refusal(g, entries)
 }
 
 // What refuses a call: 1 to 4, then 5 and 7.
@@ -106,14 +112,22 @@ fn count_of(g: Game, asked: Asked) -> usize
     ensures { λ r. ⌜ r ≡ countOf asked g ⌝ }
 {
     match asked {
+        Asked::Best(_) => 1,
         Asked::Bests => g.seats,
         Asked::Worths => g.seats,
-        _ => 1,
+        Asked::NashConv => 1,
+        Asked::Exploitability => 1,
     }
 }
 
 // The answer of each call: its checks, then its values from the tree built at the front of the work memory.
-fn call(number: usize, seats: usize, work: &mut [u64], asked: Asked, profile: &[f64]) -> ValuesAnswer
+fn call(
+    number: usize,
+    seats: usize,
+    work: &mut [u64],
+    asked: Asked,
+    profile: &[f64],
+) -> ValuesAnswer
     ensures { λ r. ⌜ (r ≡ answer (refusalOf asked (gameOf number seats) (length (now (work .entry))) (length (now (profile .entry)))) (countOf asked (gameOf number seats)) (valuesOf asked (gameOf number seats) (now (profile .entry))))
         × Left (r .refusal) (gameOf number seats) (now (work .entry)) (now (work .exit)) ⌝ }
 {
