@@ -7,3 +7,4 @@ pub mod Building
 pub mod Walking
 pub mod Linking
 pub mod Members
+pub mod Reading

@@ -5,3 +5,4 @@ pub mod Index
 pub mod Built
 pub mod Payoffs
 pub mod Walk
+pub mod Legible

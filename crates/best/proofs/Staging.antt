@@ -30,7 +30,8 @@ use Rattle.units.proofs.Gains.{gain-bound, set-gain-bound}
 use Rattle.units.proofs.Choices.{best-gains, gain-best}
 use Rattle.stock.specs.Collected.{Storable, Collected}
 use Rattle.stock.proofs.Storing.{stocked-same}
-use Rattle.reply.specs.Valued.{Scene, Noted, Valued, Walkable}
+use Rattle.walks.specs.Stage.{Stage, Noted}
+use Rattle.reply.specs.Valued.{Scene, Valued, Walkable}
 use Rattle.reply_table.specs.Laid.{Tabled, replied, Laid}
 use Rattle.reply.proofs.Scenes.{root-here}
 use Rattle.stored.specs.Stored.{headsOf, Stored}
@@ -103,33 +104,23 @@ module _ (g : Game) (D i : ℕ) (table : Table) (a : Accepted g D table) (l : i 
     stocked = stocked-same D s i (unitsAt g) w z 0 U T (λ p h k. r .kept .words p (inl (omega (arith, size-is))))
         (o .is v (g .seats) T T (laterIn T) (λ p k. refl) readable (omega (arith, size-is, room .before)) (omega (arith, size-is, room .within, long)) .0)
 
-    unfoldable scene : Scene i (headsOf g) (unitsAt g) (keptAt g)
-    unfolding Deals Held Says strategyOf
-    scene = record {
+    unfoldable stage : Stage i (headsOf g) (keptAt g)
+    unfolding Deals Held Says
+    stage = record {
       words = z;
       seats = g .seats;
       tree = T;
-      parts = D;
-      strategy = s;
-      root = U;
       choice = c;
       levels = shaped .levels .0;
       indexed = indexed;
       deals = dealt T (root-deals g (a .game)) (indexed .held);
-      stocked = stocked;
       level = shaped .levels .1;
-      pays = pays;
       actions = games-fit g (a .game .known) (a .game .seats) .actions;
       few = shaped .actions;
-      decided = decided;
-      bounded = λ y b. below (setGain D s i c T U y b) U units-few (set-gain-bound D i U b s T y c (a .least) (games-fit g (a .game .known) (a .game .seats) .recall i l) valid pays);
-      small = units-few;
-      fair = λ j y b. readable .few (firstEntry T j y + b);
       seat = l;
       room = omega (arith, size-is, room .nodes);
       nodes = omega (arith, size-is, room .before);
       before = omega (arith, entries-is);
-      below = omega (arith, size-is);
       long = omega (arith, entries-is, room .within, long, length-is);
     }
       where
@@ -138,14 +129,30 @@ module _ (g : Game) (D i : ℕ) (table : Table) (a : Accepted g D table) (l : i 
         dealt (chance f) d h = h .0 .0
         dealt (decide j k f) d h = absurd d
 
+    unfoldable scene : Scene i (headsOf g) (unitsAt g) (keptAt g)
+    unfolding stage strategyOf
+    scene = record {
+      stage = stage;
+      parts = D;
+      strategy = s;
+      root = U;
+      stocked = stocked;
+      pays = pays;
+      decided = decided;
+      bounded = λ y b. below (setGain D s i c T U y b) U units-few (set-gain-bound D i U b s T y c (a .least) (games-fit g (a .game .known) (a .game .seats) .recall i l) valid pays);
+      small = units-few;
+      fair = λ j y b. readable .few (firstEntry T j y + b);
+      below = omega (arith, size-is);
+    }
+      where
         decided : Every (λ j y n. j ≡ i → c y ≡ topmost (setGain D s i c T U y) (pred n)) T
         decided =
             let b = best-gains (C g) (m g) D i s T (a .least) (games-fit g (a .game .known) (a .game .seats) .splits) (games-fit g (a .game .known) (a .game .seats) .recall i l) valid pays some in
             every-both (λ j y n. j ≡ i → (c y < n) × (c y ≡ topmost (setGain D s i c T U y) (pred n))) (λ j y n. 1 ≤ n) (λ j y n. j ≡ i → c y ≡ topmost (setGain D s i c T U y) (pred n)) (λ j y n e f q. e q .1) T b some
 
     -- no choice is noted
-    noted : Noted scene z
-    unfolding scene
+    noted : Noted stage z
+    unfolding stage
     noted = record {
       words = λ p k. refl;
       long = refl;
@@ -153,8 +160,8 @@ module _ (g : Game) (D i : ℕ) (table : Table) (a : Accepted g D table) (l : i 
     }
 
     module _ (e : List ℕ) (sum : ℕ) (k : Valued i 32 (headsOf g) (unitsAt g) (keptAt g) 0 z e sum) where
-      found : Noted scene e × (sum ≡ gain D s i c U T % 2 ^ 64)
-      unfolding scene
+      found : Noted stage e × (sum ≡ gain D s i c U T % 2 ^ 64)
+      unfolding stage scene
       found = k scene noted T U 32 (NatL.le-refl 32) (root-here scene)
 
       gain-few : gain D s i c U T ≤ U * 124
@@ -172,11 +179,11 @@ module _ (g : Game) (D i : ℕ) (table : Table) (a : Accepted g D table) (l : i 
           ∙ gain-best (C g) (m g) D i s T (a .least) (games-fit g (a .game .known) (a .game .seats) .splits) (games-fit g (a .game .known) (a .game .seats) .recall i l) valid pays some)
 
       pub staged : Staged g D i table e
-      unfolding scene
+      unfolding stage scene
       staged = record { scene = scene; noted = found .0; tree = refl; parts = refl; strategy = refl; root = refl; choice = refl }
 
       pub stored : Stored g e
-      unfolding scene
+      unfolding stage scene
       stored = indexed-same (g .seats) (headsOf g) z e T some (omega (arith, size-is, room .before)) (λ p j. found .0 .words p (omega (arith, entries-is))) indexed
 
   pub parts-few : D ≤ 64
@@ -235,9 +242,9 @@ module _ (g : Game) (D i : ℕ) (table : Table) (a : Accepted g D table) (l : i 
     abbrev by : Tree → ℕ → Choice → Strategy → Table
     by t d e f = tableOf t (λ j k b. cond (eqb j i) (pure d e k b) (f j k b))
 
-    reply-is : tableOf (x .scene .tree) (replied (x .scene)) ≡ replyTable T D U table i
+    reply-is : tableOf (x .scene .stage .tree) (replied (x .scene)) ≡ replyTable T D U table i
     unfolding replied replyTable reply
-    reply-is = ap (λ t. by t (x .scene .parts) (x .scene .choice) (x .scene .strategy)) (x .tree) ∙ ap (λ d. by T d (x .scene .choice) (x .scene .strategy)) (x .parts)
+    reply-is = ap (λ t. by t (x .scene .parts) (x .scene .stage .choice) (x .scene .strategy)) (x .tree) ∙ ap (λ d. by T d (x .scene .stage .choice) (x .scene .strategy)) (x .parts)
         ∙ ap (λ e. by T D e (x .scene .strategy)) (x .choice) ∙ ap (by T D c) (x .strategy)
 
     module _ (E h n b : ℕ) (p : E ≡ entriesOf g) (q : h ≡ headsOf g) (t : n ≡ nodesOf g) (o : b ≡ setsOf g) where

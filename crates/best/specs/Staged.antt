@@ -9,14 +9,15 @@ use Rattle.tables.specs.Games.{treeOf}
 use Rattle.tables.specs.Facts.{rootUnits}
 use Rattle.stored.specs.Stored.{headsOf}
 use Rattle.whole.specs.Places.{unitsAt, keptAt}
-use Rattle.reply.specs.Valued.{Scene, Noted}
+use Rattle.walks.specs.Stage.{Noted}
+use Rattle.reply.specs.Valued.{Scene}
 
 -- seat i's units against a table with D parts in each set stand there, and choices, each the best one
 pub record Staged (g : Game) (D i : ℕ) (table : Table) (w : List ℕ) : Type 0 where
   pub scene : Scene i (headsOf g) (unitsAt g) (keptAt g)
-  pub noted : Noted scene w
-  pub tree : scene .tree ≡ treeOf g
+  pub noted : Noted (scene .stage) w
+  pub tree : scene .stage .tree ≡ treeOf g
   pub parts : scene .parts ≡ D
   pub strategy : scene .strategy ≡ strategyOf (treeOf g) table
   pub root : scene .root ≡ rootUnits g D
-  pub choice : scene .choice ≡ best (replyTree D (strategyOf (treeOf g) table) i (rootUnits g D) (treeOf g))
+  pub choice : scene .stage .choice ≡ best (replyTree D (strategyOf (treeOf g) table) i (rootUnits g D) (treeOf g))

@@ -13,23 +13,23 @@ use lib.Seq.{sets}
 use Rattle.finite.proofs.Tests.{Tested, holds, fails, tested}
 use Rattle.game.specs.Sums.{sumℕ}
 use Rattle.game.specs.Tree.{Key, Tree, end, chance, decide, Trees, nil, cons, fan, Strategy, Every, EveryAll}
-use Rattle.game.specs.Reply.{pure, same}
+use Rattle.game.specs.Reply.{pure}
 use Rattle.game.specs.Sets.{Levels, LevelsAll}
 use Rattle.game.specs.Sets.{Decision, size, preorder, decisionOf, decisionsOf, isOf, decides, numbers, setMembers, before, entriesOf, firstEntry, setCount}
 use Rattle.game.specs.Sets as Sets
 use Rattle.game.specs.Table.{Table, listed, laidOut, tableOf}
 use Rattle.game.proofs.Tests.{T-of, same→eq, same-self, eqb-is}
 use Rattle.game.proofs.Sets.{preorder-length, decisions-of-nodes, Distinct, sets-distinct, unmet, clash, isOf-self}
-use Rattle.game.proofs.Entries.{entriesOf-append, entry-inside}
+use Rattle.game.proofs.Entries.{entriesOf-append}
 use Rattle.game.proofs.Tables.{laidOut-length}
 use Rattle.game.proofs.Counting.{In, in-right, each-in, sets-in}
 use Rattle.arena.specs.Words.{actorOf, actionsOf}
 use Rattle.arena.specs.Held.{Says}
 use Rattle.arena.specs.Index.{firstOf, laterIn}
 use Rattle.arena.proofs.Numbering.{none, node, held-node}
-use Rattle.reply.specs.Valued.{Scene, Known, Noted, Chosen}
-use Rattle.reply.proofs.Scenes.{known-of}
-use Rattle.reply.proofs.Choosing.{some}
+use Rattle.walks.specs.Stage.{Stage, Known, Noted}
+use Rattle.walks.proofs.Standing.{known-of, inside, same-fan}
+use Rattle.reply.specs.Valued.{Scene, Chosen}
 use Rattle.reply_table.specs.Laid.{Tabled, replied, LaidSet, Laid}
 
 -- ---- no set stands deeper than its walk
@@ -65,11 +65,11 @@ module _ (table : Table) (x e i D h b k : ℕ) (old : List ℕ) (out written : L
   laid-other o P Q R S m t j y a g l z v = (
     m,
     subst (λ a. written ≡ sets out e (listed a (replied S j y))) (c ∙ v)
-        (wrote-listed e n p q r out written (replied S j y) w (subst (λ a. (2 ≤ a) × (a ≤ 3)) (sym (c ∙ v)) (known-of S (λ j y n. (2 ≤ n) × (n ≤ 3)) (S .few) j y a g)) (P ∙ ap (λ s. getD table s 0) (sym (NatL.add-zero e)) ∙ at 0) (Q ∙ at 1) (R ∙ at 2)),
+        (wrote-listed e n p q r out written (replied S j y) w (subst (λ a. (2 ≤ a) × (a ≤ 3)) (sym (c ∙ v)) (known-of (S .stage) (λ j y n. (2 ≤ n) × (n ≤ 3)) (S .stage .few) j y a g)) (P ∙ ap (λ s. getD table s 0) (sym (NatL.add-zero e)) ∙ at 0) (Q ∙ at 1) (R ∙ at 2)),
   )
     where
       at : (s : ℕ) → getD table (e + s) 0 ≡ replied S j y s
-      at s = ap (λ u. getD table (u + s) 0) l ∙ sym (t .strategy j y s) ∙ ap (λ u. cond u (pure (S .parts) (S .choice) y s) (S .strategy j y s)) (sym (ne-eqb j i (λ u. o (z ∙ u))))
+      at s = ap (λ u. getD table (u + s) 0) l ∙ sym (t .strategy j y s) ∙ ap (λ u. cond u (pure (S .parts) (S .stage .choice) y s) (S .strategy j y s)) (sym (ne-eqb j i (λ u. o (z ∙ u))))
 
   -- the seat's own
   pub laid-own : (new : List ℕ) (choice : ℕ) → actorOf x ≡ i → Chosen i 32 h b k e n old new choice → p ≡ cond (eqb 0 choice) D 0 → q ≡ cond (eqb 1 choice) D 0 → r ≡ cond (eqb 2 choice) D 0
@@ -78,19 +78,19 @@ module _ (table : Table) (x e i D h b k : ℕ) (old : List ℕ) (out written : L
   laid-own new choice o C P Q R S m t j y a g l z v = (
     chosen .0,
     subst (λ a. written ≡ sets out e (listed a (replied S j y))) (c ∙ v)
-        (wrote-listed e n p q r out written (replied S j y) w (subst (λ a. (2 ≤ a) × (a ≤ 3)) (sym (c ∙ v)) (known-of S (λ j y n. (2 ≤ n) × (n ≤ 3)) (S .few) j y a g)) (P ∙ at 0) (Q ∙ at 1) (R ∙ at 2)),
+        (wrote-listed e n p q r out written (replied S j y) w (subst (λ a. (2 ≤ a) × (a ≤ 3)) (sym (c ∙ v)) (known-of (S .stage) (λ j y n. (2 ≤ n) × (n ≤ 3)) (S .stage .few) j y a g)) (P ∙ at 0) (Q ∙ at 1) (R ∙ at 2)),
   )
     where
       own : j ≡ i
       own = sym z ∙ o
 
-      chosen : Noted S new × (choice ≡ S .choice y)
-      chosen = C S m y (subst (λ j. Known S j y n) own (subst (Known S j y) (sym (c ∙ v)) g)) (l ∙ ap (λ j. firstEntry (S .tree) j y) own)
-          (known-of S (λ j y n. S .levels j y ≤ 32) (levels-most (S .tree) (S .levels) 32 32 (NatL.le-refl 32) (S .level)) i y n (subst (λ j. Known S j y n) own (subst (Known S j y) (sym (c ∙ v)) g)))
+      chosen : Noted (S .stage) new × (choice ≡ S .stage .choice y)
+      chosen = C S m y (subst (λ j. Known (S .stage) j y n) own (subst (Known (S .stage) j y) (sym (c ∙ v)) g)) (l ∙ ap (λ j. firstEntry (S .stage .tree) j y) own)
+          (known-of (S .stage) (λ j y n. S .stage .levels j y ≤ 32) (levels-most (S .stage .tree) (S .stage .levels) 32 32 (NatL.le-refl 32) (S .stage .level)) i y n (subst (λ j. Known (S .stage) j y n) own (subst (Known (S .stage) j y) (sym (c ∙ v)) g)))
 
       at : (s : ℕ) → cond (eqb s choice) D 0 ≡ replied S j y s
-      at s = ap (λ u. cond (eqb s u) D 0) (chosen .1) ∙ ap (λ u. cond (eqb s (S .choice y)) u 0) (sym (t .parts))
-          ∙ ap (λ u. cond u (pure (S .parts) (S .choice) y s) (S .strategy j y s)) (sym (eq-eqb j i own))
+      at s = ap (λ u. cond (eqb s u) D 0) (chosen .1) ∙ ap (λ u. cond (eqb s (S .stage .choice y)) u 0) (sym (t .parts))
+          ∙ ap (λ u. cond u (pure (S .parts) (S .stage .choice) y s) (S .strategy j y s)) (sym (eq-eqb j i own))
 
 -- ---- the first member of a set
 -- of nodes counted from a on, the first that is a decision of the set
@@ -123,7 +123,7 @@ first-number j y n a (t ∷ ts) m = at t m (tested (decides j y t)) (λ o. first
         both (holds q) = let p : i ≡ j = eqb-is i j q in let r : l ≡ y = same→eq l y (T-of (rw q at e)) in
             (0, omega arith, rw e (sym (NatL.add-zero a)), f, rw (p, r) refl, inl (rw (p, r) refl))
 
-module _ {i h b k : ℕ} (S : Scene i h b k) where
+module _ {i h k : ℕ} (S : Stage i h k) where
   -- the word of a set's first member: the seat that acts, and how many actions it has
   head-says : (w : List ℕ) → Noted S w → (j : ℕ) (y : Key) (n : ℕ) → Known S j y n → (e : ℕ) → e ≡ firstEntry (S .tree) j y → (x : ℕ) → x ≡ getD w (getD w (h + e) 0 % 2097152) 0 → (actorOf x ≡ j) × (actionsOf x ≡ n)
   unfolding Says
@@ -133,14 +133,12 @@ module _ {i h b k : ℕ} (S : Scene i h b k) where
           → (actorOf x ≡ j) × (actionsOf x ≡ n)
       at (b, l, o, f, d, c) =
           let few : b < size (S .tree) = subst (λ z. b < z) (preorder-length (S .tree)) l in
-          let place : getD w (h + e) 0 ≡ b = ap (λ z. getD w (h + z) 0) q ∙ m .words (h + firstEntry (S .tree) j y) (omega (arith, S .before, entry-inside (S .tree) (some S) (j, y, n) g))
+          let place : getD w (h + e) 0 ≡ b = ap (λ z. getD w (h + z) 0) q ∙ m .words (h + firstEntry (S .tree) j y) (omega (arith, S .before, inside S j y n g))
           ∙ known-of S (λ j y n. getD (S .words) (h + firstEntry (S .tree) j y) 0 ≡ firstOf (setMembers (S .tree) j y)) (S .indexed .heads) j y n g ∙ o ∙ NatL.zero-add b in
           let here : x ≡ getD (S .words) b 0 = r ∙ ap (λ z. getD w (z % 2097152) 0) place ∙ ap (λ z. getD w z 0) (NatL.mod-eq-of-lt (omega (arith, few, S .room))) ∙ m .words b (omega (arith, few, S .nodes, S .before)) in
           let says : Says (S .seats) (firstEntry (S .tree)) (laterIn (S .tree)) x b (decide j y f) = subst (λ z. Says (S .seats) (firstEntry (S .tree)) (laterIn (S .tree)) z b (decide j y f)) (sym here)
           (subst (Says (S .seats) (firstEntry (S .tree)) (laterIn (S .tree)) (getD (S .words) b 0) b) d (held-node (S .seats) (firstEntry (S .tree)) (laterIn (S .tree)) (S .words) (S .tree) (S .indexed .held) b few)) in
-          let A : fan f ≡ S .actions .0 j y = known-of S (λ j y n. n ≡ S .actions .0 j y) (S .actions .1) j y (fan f) (subst (In (j, y, fan f)) (sym (decisions-of-nodes (S .tree))) c) in
-          let B : n ≡ S .actions .0 j y = known-of S (λ j y n. n ≡ S .actions .0 j y) (S .actions .1) j y n g in
-          (says .1, says .2 ∙ A ∙ sym B)
+          (says .1, says .2 ∙ same-fan S j y (fan f) n (subst (In (j, y, fan f)) (sym (decisions-of-nodes (S .tree))) c) g .0)
 
 -- ---- set after set
 before-here : (done : List Decision) (x : Decision) (xs : List Decision) → Distinct (done ++ x ∷ xs) → before (x .0) (x .1) (done ++ x ∷ xs) ≡ done
@@ -162,25 +160,25 @@ sets-join l (v ∷ vs) ws i = let e : i + length (v ∷ vs) ≡ suc i + length v
 module _ (table : Table) (count i D h b k : ℕ) (old out : List ℕ) where
   -- n sets are written, up to entry e
   abbrev pub Laying : (w written : List ℕ) (n e : ℕ) → Type 0
-  Laying w written n e = (S : Scene i h b k) → Noted S old → Tabled S table D → count ≡ setCount (S .tree)
-      → Noted S w × (done : List Decision) × (rest : List Decision) × (Sets.sets (S .tree) ≡ done ++ rest) × (n ≡ length done) × (e ≡ entriesOf done) × (written ≡ sets out 0 (laidOut done (replied S)))
+  Laying w written n e = (S : Scene i h b k) → Noted (S .stage) old → Tabled S table D → count ≡ setCount (S .stage .tree)
+      → Noted (S .stage) w × (done : List Decision) × (rest : List Decision) × (Sets.sets (S .stage .tree) ≡ done ++ rest) × (n ≡ length done) × (e ≡ entriesOf done) × (written ≡ sets out 0 (laidOut done (replied S)))
 
   pub laying-start : Laying old out 0 0
   unfolding laidOut entriesOf sumℕ
-  laying-start S m t c = (m, [], Sets.sets (S .tree), refl, refl, refl, refl)
+  laying-start S m t c = (m, [], Sets.sets (S .stage .tree), refl, refl, refl, refl)
 
   pub laying-more : (w new written more : List ℕ) (n e x : ℕ) → n < count → Laying w written n e → x ≡ getD w (getD w (h + e) 0 % 2097152) 0 → LaidSet table x e i D h b k w new written more → Laying new more (n + 1) (e + actionsOf x)
   unfolding laidOut entriesOf sumℕ In
   laying-more w new written more n e x l p q r S m t c = at (p S m t c)
     where
-      at : Noted S w × (done : List Decision) × (rest : List Decision) × (Sets.sets (S .tree) ≡ done ++ rest) × (n ≡ length done) × (e ≡ entriesOf done) × (written ≡ sets out 0 (laidOut done (replied S)))
-          → Noted S new × (done : List Decision) × (rest : List Decision) × (Sets.sets (S .tree) ≡ done ++ rest) × (n + 1 ≡ length done) × (e + actionsOf x ≡ entriesOf done) × (more ≡ sets out 0 (laidOut done (replied S)))
+      at : Noted (S .stage) w × (done : List Decision) × (rest : List Decision) × (Sets.sets (S .stage .tree) ≡ done ++ rest) × (n ≡ length done) × (e ≡ entriesOf done) × (written ≡ sets out 0 (laidOut done (replied S)))
+          → Noted (S .stage) new × (done : List Decision) × (rest : List Decision) × (Sets.sets (S .stage .tree) ≡ done ++ rest) × (n + 1 ≡ length done) × (e + actionsOf x ≡ entriesOf done) × (more ≡ sets out 0 (laidOut done (replied S)))
       at (A, done, [], B, C, E, F) = absurd (omega (arith, l, c, ap length (B ∙ append-nil done), C))
       at (A, done, d ∷ rest, B, C, E, F) =
-          let known : Known S (d .0) (d .1) (d .2) = sets-in (S .tree) d (subst (In d) (sym B) (in-right d done (d ∷ rest) (inl refl))) in
-          let entry : e ≡ firstEntry (S .tree) (d .0) (d .1) = E ∙ ap entriesOf (sym (before-here done d rest (subst Distinct B (sets-distinct (S .tree))))) ∙ ap (λ l. entriesOf (before (d .0) (d .1) l)) (sym B) in
-          let says : (actorOf x ≡ d .0) × (actionsOf x ≡ d .2) = head-says S w A (d .0) (d .1) (d .2) known e entry x q in
-          let laid : Noted S new × (more ≡ sets written e (listed (d .2) (replied S (d .0) (d .1)))) = r S A t (d .0) (d .1) (d .2) known entry (says .0) (says .1) in (
+          let known : Known (S .stage) (d .0) (d .1) (d .2) = sets-in (S .stage .tree) d (subst (In d) (sym B) (in-right d done (d ∷ rest) (inl refl))) in
+          let entry : e ≡ firstEntry (S .stage .tree) (d .0) (d .1) = E ∙ ap entriesOf (sym (before-here done d rest (subst Distinct B (sets-distinct (S .stage .tree))))) ∙ ap (λ l. entriesOf (before (d .0) (d .1) l)) (sym B) in
+          let says : (actorOf x ≡ d .0) × (actionsOf x ≡ d .2) = head-says (S .stage) w A (d .0) (d .1) (d .2) known e entry x q in
+          let laid : Noted (S .stage) new × (more ≡ sets written e (listed (d .2) (replied S (d .0) (d .1)))) = r S A t (d .0) (d .1) (d .2) known entry (says .0) (says .1) in (
             laid .0,
             done ++ (d ∷ []),
             rest,
@@ -194,8 +192,8 @@ module _ (table : Table) (count i D h b k : ℕ) (old out : List ℕ) where
   pub laying-end : (w written : List ℕ) (n e : ℕ) → count ≤ n → Laying w written n e → Laid table count i D h b k old w out written
   laying-end w written n e l p S m t c = at (p S m t c)
     where
-      at : Noted S w × (done : List Decision) × (rest : List Decision) × (Sets.sets (S .tree) ≡ done ++ rest) × (n ≡ length done) × (e ≡ entriesOf done) × (written ≡ sets out 0 (laidOut done (replied S)))
-          → Noted S w × (written ≡ sets out 0 (tableOf (S .tree) (replied S)))
+      at : Noted (S .stage) w × (done : List Decision) × (rest : List Decision) × (Sets.sets (S .stage .tree) ≡ done ++ rest) × (n ≡ length done) × (e ≡ entriesOf done) × (written ≡ sets out 0 (laidOut done (replied S)))
+          → Noted (S .stage) w × (written ≡ sets out 0 (tableOf (S .stage .tree) (replied S)))
       at (A, done, [], B, C, E, F) = (A, F ∙ ap (λ z. sets out 0 (laidOut z (replied S))) (sym (B ∙ append-nil done)))
       at (A, done, d ∷ rest, B, C, E, F) = absurd (omega (arith, l, c, C, ap length B ∙ length-append done (d ∷ rest)))
 

@@ -20,7 +20,8 @@ use Rattle.arena.specs.Index.{Kept}
 use Rattle.arena.proofs.Building.{size-some, held-same, held-same-all, kept-none, kept-join, kept-set}
 use Rattle.units.specs.Readable.{Readable, ReadableAll}
 use Rattle.units.specs.Gain.{given, Stocked, StockedAll}
-use Rattle.units.proofs.Reading.{deep-some, chance-row, decide-row, first, rest, near}
+use Rattle.arena.proofs.Reading.{deep-some}
+use Rattle.units.proofs.Reading.{chance-row, decide-row, first, rest, near}
 use Rattle.units.proofs.Passing.{walk-down, walk-along, walk-here}
 use Rattle.stock.specs.Collected.{Storable, Alike, Collected, CollectedAll, Each, Dealt, Moved, Shared}
 

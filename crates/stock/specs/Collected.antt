@@ -8,7 +8,8 @@ use Rattle.game.specs.Sets.{size, sizes, firstEntry}
 use Rattle.game.specs.Table.{strategyOf}
 use Rattle.arena.specs.Words.{actorOf, actionsOf, setOf, nextOf}
 use Rattle.arena.specs.Index.{Kept}
-use Rattle.units.specs.Readable.{Entered, Readable, ReadableAll, Walkable}
+use Rattle.arena.specs.Legible.{Entered}
+use Rattle.units.specs.Readable.{Readable, ReadableAll, Walkable}
 use Rattle.units.specs.Gain.{given, Stocked, StockedAll}
 
 -- a walk whose units stand from place b on
@@ -52,7 +53,7 @@ pub record Moved (table : List ℕ) (D i a y u : ℕ) (T : Tree) (f : Trees) (g 
   pub set : setOf y ≡ firstEntry T seat key
   pub actions : actionsOf y ≡ fan f
   pub ends : nextOf y ≡ a + sizes f
-  pub entered : Entered T table seat key (fan f)
+  pub entered : Entered T (length table) seat key (fan f)
   pub gives : (x : ℕ) → g x ≡ given D (strategyOf T table) i u seat key x
 
 -- the same of another seat, whose set's entries stand between e and z

@@ -1,64 +1,22 @@
 -- Where the members of a seat's set stand, and that they are those of its reply tree. Assumes nothing.
 use mathlib.Core.Path.{_≡_, refl, sym, ap, ap₂, _∙_}
 use mathlib.Core.Bool.{Bool, true, false, cond}
-use mathlib.Core.List.{List, [], _∷_, _++_, map}
+use mathlib.Core.List.{List, _∷_, _++_, map}
 use Prim.Native.Nat.{ℕ, suc, _+_, _/_}
-use native.Mathlib.Nat as NatL
-use native.Mathlib.Omega.{arith}
 use lib.Dec.{eqb}
-use lib.ListN.{length}
 use Rattle.game.specs.Tree.{Key, Tree, end, chance, decide, Trees, nil, cons, fan, Strategy}
 use Rattle.game.specs.Reply.{Replies, none, more, node, share, replyTree, replyAll, replyKids, Node, nodes, nodesAll, same, keep, withKey}
-use Rattle.game.specs.Sets.{size, preorder, preorderAll, decides, numbers}
+use Rattle.game.specs.Sets.{size}
 use Rattle.game.proofs.Tests.{Tested, is, isn't, tested, T-of, same→eq, eqb-is}
-use Rattle.game.proofs.Sets.{preorder-length}
 use Rattle.game.proofs.Members.{withKey-append}
+use Rattle.walks.specs.Found as Walks
+use Rattle.walks.proofs.Finding as Finding
+use Rattle.walks.proofs.Finding.{map-append}
 use Rattle.units.specs.Gain.{Member, given, found, foundAll}
 use Rattle.units.specs.Gains.{PlacesFound, MembersFound}
 
-map-append : {A B : Type 0} (f : A → B) (xs ys : List A) → map f (xs ++ ys) ≡ map f xs ++ map f ys
-map-append f [] ys = refl
-map-append f (x ∷ xs) ys = ap (λ l. f x ∷ l) (map-append f xs ys)
-
--- ---- the places
-numbers-append : (j : ℕ) (k : Key) (ts us : List Tree) (a : ℕ) → numbers j k a (ts ++ us) ≡ numbers j k a ts ++ numbers j k (a + length ts) us
-unfolding numbers
-numbers-append j k [] us a = ap (λ n. numbers j k n us) (sym (NatL.add-zero a))
-numbers-append j k (t ∷ ts) us a = at (decides j k t) (numbers-append j k ts us (suc a) ∙ ap (λ n. numbers j k (suc a) ts ++ numbers j k n us) (omega arith))
-  where
-    at : (b : Bool) → numbers j k (suc a) (ts ++ us) ≡ numbers j k (suc a) ts ++ numbers j k (a + suc (length ts)) us
-        → cond b (a ∷ numbers j k (suc a) (ts ++ us)) (numbers j k (suc a) (ts ++ us))
-        ≡ cond b (a ∷ numbers j k (suc a) ts) (numbers j k (suc a) ts) ++ numbers j k (a + suc (length ts)) us
-    at true e = ap (λ l. a ∷ l) e
-    at false e = e
-
-abbrev place : Member → ℕ
-place x = x .0
-
-module _ (D : ℕ) (s : Strategy) (i : ℕ) (k : Key) where
-  mutual
-    unfolding found preorder numbers decides
-
-    places : (t : Tree) (a u : ℕ) → map place (found D s i k a u t) ≡ numbers i k a (preorder t)
-    places (end p) a u = refl
-    places (chance f) a u = places-all f (suc a) (λ x. u / fan f) 0
-    places (decide j l f) a u = at (cond (eqb j i) (same l k) false) (places-all f (suc a) (given D s i u j l) 0)
-      where
-        at : (b : Bool) → map place (foundAll D s i k (suc a) (given D s i u j l) 0 f) ≡ numbers i k (suc a) (preorderAll f)
-            → map place (cond b ((a, u, f) ∷ foundAll D s i k (suc a) (given D s i u j l) 0 f) (foundAll D s i k (suc a) (given D s i u j l) 0 f))
-            ≡ cond b (a ∷ numbers i k (suc a) (preorderAll f)) (numbers i k (suc a) (preorderAll f))
-        at true e = ap (λ l. a ∷ l) e
-        at false e = e
-
-    places-all : (f : Trees) (a : ℕ) (g : ℕ → ℕ) (x : ℕ) → map place (foundAll D s i k a g x f) ≡ numbers i k a (preorderAll f)
-    places-all nil a g x = refl
-    places-all (cons t f) a g x = map-append place (found D s i k a (g x) t) (foundAll D s i k (a + size t) g (suc x) f)
-        ∙ ap₂ _++_ (places t a (g x)) (places-all f (a + size t) g (suc x))
-        ∙ ap (λ n. numbers i k a (preorder t) ++ numbers i k (a + n) (preorderAll f)) (sym (preorder-length t))
-        ∙ sym (numbers-append i k (preorder t) (preorderAll f) a)
-
 pub places-found : PlacesFound
-places-found D i s k t a u = places D s i k t a u
+places-found D i s k t a u = Finding.places-found (λ u n. u / n) (given D s i) i k t a u
 
 -- ---- the reply trees of a row, the units by the child's number
 module _ (D : ℕ) (s : Strategy) (i : ℕ) where
@@ -95,7 +53,7 @@ module _ (D : ℕ) (s : Strategy) (i : ℕ) (k : Key) where
       at (isn't w) = rw w e
 
   mutual
-    unfolding found replyTree nodes withKey replyRow
+    unfolding Walks.found replyTree nodes withKey replyRow
 
     are-members : (t : Tree) (a u : ℕ) → withKey k (nodes (replyTree D s i u t)) ≡ map seen (found D s i k a u t)
     are-members (end p) a u = refl

@@ -1,7 +1,7 @@
 -- A gain is at most 124 for each unit, and it is the value of the reply tree and 64 for each unit. Assumes nothing.
 use mathlib.Core.Path.{_≡_, refl, sym, ap, ap₂, _∙_}
 use mathlib.Core.Bool.{Bool, true, false, cond}
-use mathlib.Core.List.{List, [], _∷_, _++_, map}
+use mathlib.Core.List.{List, [], _∷_, map}
 use Prim.Native.Nat.{ℕ, zero, suc, _+_, _*_, _/_, _^_, _≤_, _<_, zero-le}
 use native.Mathlib.Nat as NatL
 use native.Mathlib.Omega.{arith}
@@ -18,6 +18,8 @@ use Rattle.game.proofs.Tests.{eqb-is}
 use Rattle.game.proofs.Sets.{isOf-seat, isOf-key}
 use Rattle.game.proofs.Units.{Fits, FitsAll, fits-scale, fits-scale-all, splits-fit, of-fan, part-of}
 use Rattle.game.proofs.Bounds.{members-units}
+use Rattle.walks.specs.Found as Walks
+use Rattle.walks.proofs.Finding.{EachMember, each-append, each-cond}
 use Rattle.units.specs.Lifted.{lift}
 use Rattle.units.specs.Gain.{Member, given, gain, gainAll, gainPick, found, foundAll, setGain}
 use Rattle.units.specs.Gains.{GainBound, SetGainBound, GainValue}
@@ -63,21 +65,6 @@ module _ (D : ℕ) (D-pos : 0 < D) (p : ℕ → ℕ) where
 abbrev Parted : ℕ → Strategy → ℕ → Key → ℕ → Type 0
 Parted D s j k n = parts n (s j k) ≡ D
 
--- ---- a property of each member
-unfoldable pub EachMember : (Member → Type 0) → List Member → Type 0
-EachMember P [] = Unit {0}
-EachMember P (x ∷ xs) = P x × EachMember P xs
-
-each-append : (P : Member → Type 0) (xs ys : List Member) → EachMember P xs → EachMember P ys → EachMember P (xs ++ ys)
-unfolding EachMember
-each-append P [] ys h g = g
-each-append P (x ∷ xs) ys h g = (h .0, each-append P xs ys (h .1) g)
-
-each-cond : (P : Member → Type 0) (x : Member) (xs : List Member) (b : Bool) → (b ≡ true → P x) → EachMember P xs → EachMember P (cond b (x ∷ xs) xs)
-unfolding EachMember
-each-cond P x xs true h g = (h refl, g)
-each-cond P x xs false h g = g
-
 -- ---- at most 124 for each unit
 lift-most : (z : ℤ) → natAbs z ≤ 60 → lift z ≤ 124
 lift-most (pos a) h = omega arith
@@ -113,7 +100,7 @@ module _ (D : ℕ) (D-pos : 0 < D) (s : Strategy) (i : ℕ) (c : Choice) where
     Small x = gainPick D s i c (λ y. x .1) 0 (x .2) a ≤ x .1 * 124
 
     mutual
-      unfolding found Every Pays EachMember
+      unfolding Walks.found Every Pays EachMember
 
       found-small : (t : Tree) (b u : ℕ) → Every (Parted D s) t → Pays 60 i t → EachMember Small (found D s i k b u t)
       found-small (end p) b u v h = tt
@@ -231,7 +218,7 @@ module _ (D : ℕ) (D-pos : 0 < D) (s : Strategy) (i : ℕ) (c : Choice) where
     Valued x = (a : ℕ) → a < N k → pos (gainPick D s i c (λ y. x .1) 0 (x .2) a) ≡ pick c (replyKids D s i true (x .1) i k 0 (x .2)) a +ℤ pos (64 * x .1)
 
     mutual
-      unfolding found FitsRow Every Pays EachMember isOf
+      unfolding Walks.found FitsRow Every Pays EachMember isOf
 
       found-valued : (t : Tree) (b u : ℕ) → Fits (all D) u t → Every (Parted D s) t → Pays 60 i t → Every Taken t → Every Counted t
           → EachMember Valued (found D s i k b u t)

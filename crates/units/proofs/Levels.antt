@@ -5,7 +5,7 @@ use native.Mathlib.Nat as NatL
 use native.Mathlib.Omega.{arith}
 use Rattle.game.specs.Tree.{Key, Tree, end, chance, decide, Trees, nil, cons}
 use Rattle.game.specs.Sets.{Levels, LevelsAll}
-use Rattle.units.specs.Readable.{deep, deepAll}
+use Rattle.arena.specs.Legible.{deep, deepAll}
 
 module _ (v : ℕ → Key → ℕ) where
   mutual

@@ -4,16 +4,11 @@ use mathlib.Core.List.{List}
 use Prim.Native.Nat.{ℕ, _+_, _-_, _≤_, _<_}
 use native.Mathlib.Nat as NatL
 use native.Mathlib.Omega.{arith}
-use Rattle.game.specs.Tree.{Key, Tree, end, chance, decide, Trees, cons, Every}
+use Rattle.game.specs.Tree.{Key, Tree, chance, decide, Trees, cons, Every}
 use Rattle.game.specs.Sets.{size, firstEntry}
 use Rattle.arena.specs.Held.{Held, HeldAll}
-use Rattle.units.specs.Readable.{deep, deepAll, Readable, ReadableAll}
-
-pub deep-some : (t : Tree) → 1 ≤ deep t
-unfolding deep
-deep-some (end p) = omega arith
-deep-some (chance f) = omega arith
-deep-some (decide j k f) = omega arith
+use Rattle.arena.specs.Legible.{deep, deepAll}
+use Rattle.units.specs.Readable.{Readable, ReadableAll}
 
 module _ (n : ℕ) (T : Tree) (l : ℕ → ℕ → Key → ℕ) (w table : List ℕ) (D a d : ℕ) where
   -- the children of a chance node

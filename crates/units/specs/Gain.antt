@@ -1,20 +1,20 @@
 -- What a seat gains under a choice, with payoffs lifted by 64, and where the members of its sets stand. Definitions only; nothing is assumed.
 use mathlib.Core.Path.{_≡_}
 use mathlib.Core.Bool.{cond}
-use mathlib.Core.List.{List, [], _∷_, _++_}
-use mathlib.Core.Bool.{false}
+use mathlib.Core.List.{List}
 use Prim.Native.Nat.{ℕ, zero, suc, _+_, _*_, _/_}
 use lib.Dec.{eqb, ltb}
 use lib.ListN.{getD}
 use Rattle.game.specs.Sums.{sumℕ}
 use Rattle.game.specs.Tree.{Key, Tree, end, chance, decide, Trees, nil, cons, fan, Strategy}
-use Rattle.game.specs.Reply.{Choice, share, same}
+use Rattle.game.specs.Reply.{Choice, share}
 use Rattle.game.specs.Sets.{size}
+use Rattle.walks.specs.Found as Walks
 use Rattle.units.specs.Lifted.{lift}
 
 -- a member of a set: its place, its units, its children
 abbrev pub Member : Type 0
-Member = ℕ × ℕ × Trees
+Member = Walks.Member ℕ
 
 -- seat i replies to the others of s, with D parts in each set
 module _ (D : ℕ) (s : Strategy) (i : ℕ) where
@@ -42,22 +42,15 @@ module _ (D : ℕ) (s : Strategy) (i : ℕ) where
       gainPick g x (cons t f) (suc a) = gainPick g (suc x) f a
 
   -- the members of seat i's set k in a tree at place a with u units, in the order of their places
-  module _ (k : Key) where
-    unfoldable mutual
-      unfolding fan share same size
+  abbrev pub found : Key → ℕ → ℕ → Tree → List Member
+  found k a u t = Walks.found (λ u n. u / n) given i k a u t
 
-      pub found : ℕ → ℕ → Tree → List Member
-      found a u (end p) = []
-      found a u (chance f) = foundAll (suc a) (λ x. u / fan f) 0 f
-      found a u (decide j l f) = let r : List Member = foundAll (suc a) (given u j l) 0 f in cond (cond (eqb j i) (same l k) false) ((a, u, f) ∷ r) r
-
-      pub foundAll : ℕ → (ℕ → ℕ) → ℕ → Trees → List Member
-      foundAll a g x nil = []
-      foundAll a g x (cons t f) = found a (g x) t ++ foundAll (a + size t) g (suc x) f
+  abbrev pub foundAll : Key → ℕ → (ℕ → ℕ) → ℕ → Trees → List Member
+  foundAll k a g x f = Walks.foundAll (λ u n. u / n) given i k a g x f
 
   -- the gains behind an action of the set k, added over all its members
   unfoldable pub setGain : Choice → Tree → ℕ → Key → ℕ → ℕ
-  unfolding sumℕ gain found
+  unfolding sumℕ gain Walks.found
   setGain c t u k a = sumℕ (λ x. gainPick c (λ y. x .1) 0 (x .2) a) (found k 0 u t)
 
   -- the units of every node of a tree at place a, with u units, stand from place b on

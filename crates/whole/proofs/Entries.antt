@@ -16,7 +16,7 @@ use Rattle.game.specs.Table.{Table, addUp}
 use Rattle.game.proofs.Against.{every-both}
 use Rattle.game.proofs.Sets.{Stands, sets-stand, clash}
 use Rattle.game.proofs.Tables.{seats-at}
-use Rattle.units.specs.Readable.{Entered}
+use Rattle.arena.specs.Legible.{Entered}
 
 -- ---- where they stand
 module _ (t : Tree) (h : SameActions t) (f : Every (λ j k n. (2 ≤ n) × (n ≤ 3)) t) where
@@ -24,8 +24,8 @@ module _ (t : Tree) (h : SameActions t) (f : Every (λ j k n. (2 ≤ n) × (n �
   entries-inside = every-both (λ j k n. Stands j k n (sets t)) (λ j k n. (2 ≤ n) × (n ≤ 3)) (λ j k n. firstEntry t j k + n ≤ entries t)
       (λ j k n s (a, b). let l = seats-at j k n (sets t) s (n - 1) (omega arith) .1 in omega arith) t (sets-stand t h) f
 
-  pub all-entered : (table : Table) → length table ≡ entries t → Every (Entered t table) t
-  all-entered table e = every-both (λ j k n. (2 ≤ n) × (n ≤ 3)) (λ j k n. firstEntry t j k + n ≤ entries t) (Entered t table)
+  pub all-entered : (E : ℕ) → E ≡ entries t → Every (Entered t E) t
+  all-entered E e = every-both (λ j k n. (2 ≤ n) × (n ≤ 3)) (λ j k n. firstEntry t j k + n ≤ entries t) (Entered t E)
       (λ j k n (a, b) i. (a, b, omega arith)) t f entries-inside
 
 -- ---- how large they are

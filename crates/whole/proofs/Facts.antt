@@ -5,7 +5,7 @@ use Prim.Native.Nat.{ℕ, zero, suc, _+_, _*_, _-_, _^_, _≤_, _<_}
 use native.Mathlib.Nat as NatL
 use native.Mathlib.Omega.{arith}
 use lib.Dec.{eqb}
-use lib.ListN.{getD}
+use lib.ListN.{length, getD}
 use borrow.Author.Tests.{eq-eqb, ne-eqb, eqb-true, eqb-false, not-false}
 use Rattle.finite.proofs.Tests.{Tested, holds, fails, tested}
 use Rattle.game.specs.Tree.{Key, Every}
@@ -24,7 +24,7 @@ use Rattle.tables.proofs.Counts.{kuhn-least, kuhn-most}
 use Rattle.tables.proofs.Facts.{leduc-out, nodes-are, games-fit}
 use Rattle.units.proofs.Levels.{deep-levels, more-levels}
 use Rattle.stored.proofs.Games.{six-seats}
-use Rattle.whole.specs.Facts.{Known, Shaped, Games-shaped, Fits, Units-fit, Games-readable}
+use Rattle.whole.specs.Facts.{Known, Shaped, Games-shaped, Fits, Units-fit, Games-legible, Games-readable}
 use Rattle.whole.proofs.Entries.{entries-inside, all-entered, entries-few}
 
 -- what holds of each number from 2 to 6
@@ -162,13 +162,17 @@ units-fit g D a w = at (tested (eqb (g .number) 0))
     at (fails t) = leduc-fits g a (eqb-false (g .number) 0 t) D w
 
 -- ---- a stored tree and a valid table
-pub games-readable : Games-readable
-games-readable g D w table a s (e, v) =
+pub games-legible : Games-legible
+games-legible g w E a s e =
     let h = games-shaped g a in
     record {
       held = s .held;
       room = omega (arith, h .nodes);
-      entered = all-entered (treeOf g) (games-fit g (a .known) (a .seats) .actions) (h .actions) table e;
-      few = entries-few D (sets (treeOf g)) table v e;
+      entered = all-entered (treeOf g) (games-fit g (a .known) (a .seats) .actions) (h .actions) E e;
       within = deep-levels (h .levels .0) 32 (treeOf g) (h .levels .1);
     }
+
+pub games-readable : Games-readable
+games-readable g D w table a s (e, v) =
+    let x = games-legible g w (length table) a s e in
+    record { held = x .held; room = x .room; entered = x .entered; few = entries-few D (sets (treeOf g)) table v e; within = x .within }

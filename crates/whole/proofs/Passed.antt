@@ -8,7 +8,7 @@ use lib.Dec.{eqb, ltb}
 use lib.ListN.{length, take}
 use lib.Seq.{length-take-le}
 use borrow.Author.Tests.{ltb-false, eqb-true, eqb-false, not-false}
-use Rattle.refusals.specs.Refusals.{_refuses_, first}
+use Rattle.refusals.specs.Refusals.{Check, _refuses_, first}
 use Rattle.finite.specs.Finite.{or}
 use Rattle.finite.proofs.Tests.{Tested, holds, fails, tested, or-false-left, or-false-right}
 use Rattle.game.specs.Sets.{size, setActions, entries}
@@ -49,6 +49,20 @@ module _ (g : Game) (words : ℕ) (e : first (tree-checks g words) ≡ 0) where
   pub enough-nodes : 12 * nodesOf g ≤ words
   enough-nodes = rw (← nodes-are g (all-four .1)) enough-words
 
+  pub room-for : (n : ℕ) → n ≡ nodesOf g → 12 * n ≤ words
+  room-for n q = omega (arith, enough-nodes)
+
+  pub part-for : (n : ℕ) (work : List ℕ) → n ≡ nodesOf g → length work ≡ words → 12 * nodesOf g ≤ length (take (12 * n) work)
+  part-for n work q l = omega (arith, length-take-le (12 * n) work (omega (arith, enough-nodes)))
+
+-- what follows the tree's checks does not hide them
+pub tree-first : (g : Game) (words : ℕ) (ys : List Check) → first (tree-checks g words ++ ys) ≡ 0 → first (tree-checks g words) ≡ 0
+tree-first g words ys e = at (tested (eqb (first (tree-checks g words)) 0))
+  where
+    at : Tested (eqb (first (tree-checks g words)) 0) → first (tree-checks g words) ≡ 0
+    at (holds t) = eqb-true (first (tree-checks g words)) 0 t
+    at (fails t) = first-refused (tree-checks g words) ys (eqb-false (first (tree-checks g words)) 0 t) ∙ e
+
 module _ (g : Game) (D : ℕ) (table : Table) (e : first (parts-checks g D ++ table-checks g D table) ≡ 0) where
   three : (a b c : Bool) → first ((a refuses 6) ∷ (b refuses 7) ∷ (c refuses 8) ∷ []) ≡ 0 → (a ≡ false) × (b ≡ false) × (c ≡ false)
   three true b c e = absurd (omega arith)
@@ -74,11 +88,7 @@ module _ (g : Game) (D : ℕ) (table : Table) (e : first (parts-checks g D ++ ta
 -- ---- an accepted call that evaluates all seats
 module _ (g : Game) (words D : ℕ) (table : Table) (e : evaluation-refusal g words D table ≡ 0) where
   tree-accepted : first (tree-checks g words) ≡ 0
-  tree-accepted = at (tested (eqb (first (tree-checks g words)) 0))
-    where
-      at : Tested (eqb (first (tree-checks g words)) 0) → first (tree-checks g words) ≡ 0
-      at (holds t) = eqb-true (first (tree-checks g words)) 0 t
-      at (fails t) = first-refused (tree-checks g words) (parts-checks g D ++ table-checks g D table) (eqb-false (first (tree-checks g words)) 0 t) ∙ e
+  tree-accepted = tree-first g words (parts-checks g D ++ table-checks g D table) e
 
   pub accepted-game : Known g
   accepted-game = game-known g words tree-accepted
@@ -87,7 +97,7 @@ module _ (g : Game) (words D : ℕ) (table : Table) (e : evaluation-refusal g wo
   accepted-table = table-accepted g D table (sym (tree-passed g words (parts-checks g D ++ table-checks g D table) tree-accepted) ∙ e) accepted-game
 
   pub nodes-room : (n : ℕ) → n ≡ nodesOf g → 12 * n ≤ words
-  nodes-room n q = omega (arith, enough-nodes g words tree-accepted)
+  nodes-room n q = room-for g words tree-accepted n q
 
   pub part-room : (n : ℕ) (work : List ℕ) → n ≡ nodesOf g → length work ≡ words → 12 * nodesOf g ≤ length (take (12 * n) work)
-  part-room n work q l = omega (arith, length-take-le (12 * n) work (omega (arith, enough-nodes g words tree-accepted)))
+  part-room n work q l = part-for g words tree-accepted n work q l

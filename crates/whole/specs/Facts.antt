@@ -11,6 +11,7 @@ use Rattle.tables.specs.Games.{treeOf, mostParts, largestPayoff}
 use Rattle.tables.specs.Checks.{seats-out}
 use Rattle.tables.specs.Facts.{nodesOf, rootUnits}
 use Rattle.arena.specs.Index.{laterIn}
+use Rattle.arena.specs.Legible.{Legible}
 use Rattle.units.specs.Readable.{Readable}
 use Rattle.stored.specs.Stored.{Stored}
 
@@ -43,7 +44,11 @@ pub record Fits (g : Game) (D : ℕ) : Type 0 where
 abbrev pub Units-fit : Type 0
 Units-fit = (g : Game) (D : ℕ) → Known g → D ≤ mostParts g → Fits g D
 
--- a stored tree and a valid table can be walked
+-- a stored tree can be walked, with entries for each of its sets
+abbrev pub Games-legible : Type 0
+Games-legible = (g : Game) (w : List ℕ) (E : ℕ) → Known g → Stored g w → E ≡ entries (treeOf g) → Legible (g .seats) (treeOf g) (laterIn (treeOf g)) w E 0 32 (treeOf g)
+
+-- with a valid table too
 abbrev pub Games-readable : Type 0
 Games-readable = (g : Game) (D : ℕ) (w : List ℕ) (table : Table) → Known g → Stored g w → ValidTable (treeOf g) D table
     → Readable (g .seats) (treeOf g) (laterIn (treeOf g)) w table D 0 32 (treeOf g)

@@ -40,11 +40,11 @@ use Rattle.arena.proofs.words.next.Reads as next-reads
 use Rattle.arena.proofs.words.put.Reads as put-reads
 use Rattle.arena.proofs.words.set.Reads as set-reads
 use Rattle.arena.proofs.words.word.Reads as word-reads
-use Rattle.reply.proofs.pick.child.Reads as child-reads
 use Rattle.reply.proofs.pick.of_three.Reads as of-three-reads
 use Rattle.reply.proofs.pick.of_two.Reads as of-two-reads
 use Rattle.reply.proofs.values.ended.Reads as ended-reads
 use Rattle.std.proofs.num.wrapping_add_u64.Reads as wrapping-add-u64-reads
+use Rattle.walks.proofs.child.Reads as child-reads
 
 abbrev μ-below : Measures 1 below-kinds.ps ℕ
 μ-below κs a = 5 * a .1 .1 .1 .0 + 1

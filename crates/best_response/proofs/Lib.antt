@@ -1,0 +1,3 @@
+-- Lemmas on the calls' checks and answers.
+pub mod Checks
+pub mod Outcome

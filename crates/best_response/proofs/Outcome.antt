@@ -1,0 +1,28 @@
+-- What a call answers, refused or accepted. Assumes nothing.
+use mathlib.Core.Path.{_≡_, ap, ap₂, _∙_}
+use mathlib.Core.List.{List}
+use Prim.Native.Nat.{ℕ, zero, suc}
+use native.Mathlib.Omega.{arith}
+use lib.Ieee.{Float}
+use lib.ListN.{replicate}
+use Rattle.profiles.specs.Values.{nought}
+use Rattle.best_response.specs.Calls.{answer}
+use Rattle.best_response.specs.declared.ValuesAnswer.{ValuesAnswer}
+
+abbrev given : (refusal count : ℕ) → List Float → ValuesAnswer
+given refusal count values = record { refusal = refusal; count = count; values = values }
+
+module _ (r q count : ℕ) (values : List Float) (e : r ≡ q) where
+  pub not-valued : (r ≡ 0 → ⊥) → given r 0 (replicate 6 nought) ≡ answer q count values
+  not-valued f = at q e
+    where
+      at : (q : ℕ) → r ≡ q → given r 0 (replicate 6 nought) ≡ answer q count values
+      at zero w = absurd (f w)
+      at (suc q) w = ap (λ x. given x 0 (replicate 6 nought)) w
+
+  pub valued : (n : ℕ) (vs : List Float) → r ≡ 0 → n ≡ count → vs ≡ values → given r n vs ≡ answer q count values
+  valued n vs z c u = at q e
+    where
+      at : (q : ℕ) → r ≡ q → given r n vs ≡ answer q count values
+      at zero v = ap (λ x. given x n vs) z ∙ ap₂ (λ x y. given 0 x y) c u
+      at (suc q) v = absurd (omega arith)

@@ -1,0 +1,60 @@
+-- The checks, then the values from the tree that is stored in the words for it. Assumes nothing.
+use mathlib.Core.Path.{refl, sym, _∙_}
+use Prim.Native.Nat.{_*_}
+use native.Mathlib.Omega.{arith}
+use lib.ListN.{length}
+use lib.Seq.{length-take-le}
+use Rattle.tables.specs.Games.{gameOf}
+use Rattle.whole.proofs.Leaving.{all-left, rest-left}
+use Rattle.whole.proofs.Passed.{room-for, part-for}
+use Rattle.best_response.specs.Asked.{countOf, valuesOf}
+use Rattle.best_response.proofs.Checks.{tree-accepted, known, profile-accepted, seat-accepted}
+use Rattle.best_response.proofs.Outcome.{not-valued, valued}
+use borrow.Author.Needs.{needs}
+use Rattle.best_response.proofs.call.Statement.{statement}
+use Rattle.best_response.proofs.call.Tie as tie
+
+refusal-of-requires : tie.Need-refusal-of-requires
+refusal-of-requires c κs = search needs
+
+returns : tie.Need-returns
+returns c = (not-valued _ _ (countOf (c .before .before .before .before .args .asked) (gameOf (c .before .before .before .before .args .number) (c .before .before .before .before .args .seats))) (valuesOf (c .before .before .before .before .args .asked) (gameOf (c .before .before .before .before .args .number) (c .before .before .before .before .args .seats)) (c .before .before .before .before .args .profile .now)) (c .before .refusal-of .ensures) (c .if1 .taken), all-left _ (gameOf (c .before .before .before .before .args .number) (c .before .before .before .before .args .seats)) (c .before .before .before .before .args .work .now) (c .if1 .taken))
+
+nodes-requires : tie.Need-nodes-requires
+nodes-requires c κs = known (c .before .before .before .before .args .asked) (gameOf (c .before .before .before .before .args .number) (c .before .before .before .before .args .seats)) (length (c .before .before .before .before .args .work .now)) (c .before .before .before .before .args .profile .now) (sym (c .before .refusal-of .ensures) ∙ c .if1 .left) .seats
+
+mul-words : tie.Need-mul-words
+mul-words c = omega (arith, room-for (gameOf (c .before .before .before .before .before .args .number) (c .before .before .before .before .before .args .seats)) (length (c .before .before .before .before .before .args .work .now)) (tree-accepted (c .before .before .before .before .before .args .asked) (gameOf (c .before .before .before .before .before .args .number) (c .before .before .before .before .before .args .seats)) (length (c .before .before .before .before .before .args .work .now)) (c .before .before .before .before .before .args .profile .now) (sym (c .before .before .refusal-of .ensures) ∙ c .before .if1 .left)) _ (c .nodes .ensures))
+
+slice-relend-prefix-evaluate : tie.Need-slice-relend-prefix-evaluate
+slice-relend-prefix-evaluate c = room-for (gameOf (c .before .before .before .before .before .args .number) (c .before .before .before .before .before .args .seats)) (length (c .before .before .before .before .before .args .work .now)) (tree-accepted (c .before .before .before .before .before .args .asked) (gameOf (c .before .before .before .before .before .args .number) (c .before .before .before .before .before .args .seats)) (length (c .before .before .before .before .before .args .work .now)) (c .before .before .before .before .before .args .profile .now) (sym (c .before .before .refusal-of .ensures) ∙ c .before .if1 .left)) _ (c .nodes .ensures)
+
+slice-aggregate-evaluate : tie.Need-slice-aggregate-evaluate
+slice-aggregate-evaluate c = sym (length-take-le (12 * c .before .nodes .result) (c .before .before .before .before .before .before .args .work .now) (room-for (gameOf (c .before .before .before .before .before .before .args .number) (c .before .before .before .before .before .before .args .seats)) (length (c .before .before .before .before .before .before .args .work .now)) (tree-accepted (c .before .before .before .before .before .before .args .asked) (gameOf (c .before .before .before .before .before .before .args .number) (c .before .before .before .before .before .before .args .seats)) (length (c .before .before .before .before .before .before .args .work .now)) (c .before .before .before .before .before .before .args .profile .now) (sym (c .before .before .before .refusal-of .ensures) ∙ c .before .before .if1 .left)) _ (c .before .nodes .ensures)))
+
+evaluate-requires : tie.Need-evaluate-requires
+evaluate-requires c κs = (profile-accepted (c .before .before .before .before .before .before .args .asked) (gameOf (c .before .before .before .before .before .before .args .number) (c .before .before .before .before .before .before .args .seats)) (length (c .before .before .before .before .before .before .args .work .now)) (c .before .before .before .before .before .before .args .profile .now) (sym (c .before .before .before .refusal-of .ensures) ∙ c .before .before .if1 .left), part-for (gameOf (c .before .before .before .before .before .before .args .number) (c .before .before .before .before .before .before .args .seats)) (length (c .before .before .before .before .before .before .args .work .now)) (tree-accepted (c .before .before .before .before .before .before .args .asked) (gameOf (c .before .before .before .before .before .before .args .number) (c .before .before .before .before .before .before .args .seats)) (length (c .before .before .before .before .before .before .args .work .now)) (c .before .before .before .before .before .before .args .profile .now) (sym (c .before .before .before .refusal-of .ensures) ∙ c .before .before .if1 .left)) _ (c .before .before .before .before .before .before .args .work .now) (c .before .nodes .ensures) refl, seat-accepted (c .before .before .before .before .before .before .args .asked) (gameOf (c .before .before .before .before .before .before .args .number) (c .before .before .before .before .before .before .args .seats)) (length (c .before .before .before .before .before .before .args .work .now)) (c .before .before .before .before .before .before .args .profile .now) (sym (c .before .before .before .refusal-of .ensures) ∙ c .before .before .if1 .left))
+
+count-of-requires : tie.Need-count-of-requires
+count-of-requires c κs = search needs
+
+same-length : tie.Need-same-length
+same-length c = search needs
+
+returns-2 : tie.Need-returns-2
+returns-2 c = (valued _ _ (countOf (c .before .before .before .before .before .before .before .before .before .before .args .asked) (gameOf (c .before .before .before .before .before .before .before .before .before .before .args .number) (c .before .before .before .before .before .before .before .before .before .before .args .seats))) (valuesOf (c .before .before .before .before .before .before .before .before .before .before .args .asked) (gameOf (c .before .before .before .before .before .before .before .before .before .before .args .number) (c .before .before .before .before .before .before .before .before .before .before .args .seats)) (c .before .before .before .before .before .before .before .before .before .before .args .profile .now)) (c .before .before .before .before .before .before .before .refusal-of .ensures) _ _ (c .before .before .before .before .before .before .if1 .left) (c .count-of .ensures) (c .before .before .before .evaluate .ensures), rest-left _ _ (gameOf (c .before .before .before .before .before .before .before .before .before .before .args .number) (c .before .before .before .before .before .before .before .before .before .before .args .seats)) (c .before .before .before .before .before .before .before .before .before .before .args .work .now) (c .before .before .before .evaluate .last .1 .0) (c .before .before .before .before .before .before .if1 .left) (known (c .before .before .before .before .before .before .before .before .before .before .args .asked) (gameOf (c .before .before .before .before .before .before .before .before .before .before .args .number) (c .before .before .before .before .before .before .before .before .before .before .args .seats)) (length (c .before .before .before .before .before .before .before .before .before .before .args .work .now)) (c .before .before .before .before .before .before .before .before .before .before .args .profile .now) (sym (c .before .before .before .before .before .before .before .refusal-of .ensures) ∙ c .before .before .before .before .before .before .if1 .left) .seats) (c .before .before .before .before .before .nodes .ensures) (room-for (gameOf (c .before .before .before .before .before .before .before .before .before .before .args .number) (c .before .before .before .before .before .before .before .before .before .before .args .seats)) (length (c .before .before .before .before .before .before .before .before .before .before .args .work .now)) (tree-accepted (c .before .before .before .before .before .before .before .before .before .before .args .asked) (gameOf (c .before .before .before .before .before .before .before .before .before .before .args .number) (c .before .before .before .before .before .before .before .before .before .before .args .seats)) (length (c .before .before .before .before .before .before .before .before .before .before .args .work .now)) (c .before .before .before .before .before .before .before .before .before .before .args .profile .now) (sym (c .before .before .before .before .before .before .before .refusal-of .ensures) ∙ c .before .before .before .before .before .before .if1 .left)) _ (c .before .before .before .before .before .nodes .ensures)) (c .before .before .before .evaluate .kept .1 .0))
+
+pub call-spec : {M : Type 1} → statement M
+call-spec =
+    tie.close
+    (tie.spec
+    refusal-of-requires
+    returns
+    nodes-requires
+    mul-words
+    slice-relend-prefix-evaluate
+    slice-aggregate-evaluate
+    evaluate-requires
+    count-of-requires
+    same-length
+    returns-2)

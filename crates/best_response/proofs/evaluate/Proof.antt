@@ -1,0 +1,117 @@
+-- The tree, then what is asked of it. Assumes nothing.
+use mathlib.Core.Path.{sym, ap, _∙_, subst}
+use denote.Ref.{now}
+use native.Mathlib.Omega.{arith}
+use lib.IntN.{pos}
+use lib.Ieee.{binary64, ofInt, div}
+use Rattle.game_values.proofs.Seats.{few-seats}
+use Rattle.best_response.specs.Calls.{single}
+use Rattle.best_response.specs.Asked.{valuesOf, SeatOf}
+use borrow.Author.Needs.{needs}
+use Rattle.best_response.proofs.evaluate.Statement.{statement}
+use Rattle.best_response.proofs.evaluate.Tie as tie
+
+store-requires : tie.Need-store-requires
+store-requires c κs = record { known = c .before .before .before .pre .0 .game .known; seats = c .before .before .before .pre .0 .game .seats; small = c .before .before .before .pre .0 .game .small; words = c .before .before .before .pre .1 }
+
+enum-known-asked : tie.Need-enum-known-asked
+enum-known-asked c = search needs
+
+best-value-requires : tie.Need-best-value-requires
+best-value-requires c κs = (c .before .before .before .before .before .before .store .ensures, c .before .before .before .before .before .before .before .before .before .before .pre .0, subst (λ a. SeatOf a (c .before .before .before .before .before .before .before .before .before .before .args .g)) (c .before .before .asked .given .1) (c .before .before .before .before .before .before .before .before .before .before .pre .2), omega (arith, c .before .before .before .before .before .before .before .before .before .before .pre .1, c .before .before .before .before .before .before .store .kept .1 .0))
+
+alone-requires : tie.Need-alone-requires
+alone-requires c κs = search needs
+
+enum-told : tie.Need-enum-told
+enum-told c = search needs
+
+best-values-requires : tie.Need-best-values-requires
+best-values-requires c κs = (c .before .before .before .before .before .store .ensures, c .before .before .before .before .before .before .before .before .before .pre .0, omega (arith, c .before .before .before .before .before .before .before .before .before .pre .1, c .before .before .before .before .before .store .kept .1 .0))
+
+enum-told-2 : tie.Need-enum-told-2
+enum-told-2 c = search needs
+
+worths-requires : tie.Need-worths-requires
+worths-requires c κs = (c .before .before .before .before .before .store .ensures, c .before .before .before .before .before .before .before .before .before .pre .0)
+
+enum-told-3 : tie.Need-enum-told-3
+enum-told-3 c = search needs
+
+nash-conv-requires : tie.Need-nash-conv-requires
+nash-conv-requires c κs = (c .before .before .before .before .before .store .ensures, c .before .before .before .before .before .before .before .before .before .pre .0, omega (arith, c .before .before .before .before .before .before .before .before .before .pre .1, c .before .before .before .before .before .store .kept .1 .0))
+
+alone-requires-2 : tie.Need-alone-requires-2
+alone-requires-2 c κs = search needs
+
+enum-told-4 : tie.Need-enum-told-4
+enum-told-4 c = search needs
+
+nash-conv-requires-2 : tie.Need-nash-conv-requires-2
+nash-conv-requires-2 c κs = (c .before .before .before .before .before .store .ensures, c .before .before .before .before .before .before .before .before .before .pre .0, omega (arith, c .before .before .before .before .before .before .before .before .before .pre .1, c .before .before .before .before .before .store .kept .1 .0))
+
+shared-requires : tie.Need-shared-requires
+shared-requires c κs = few-seats (c .before .before .before .before .before .before .before .before .before .before .before .before .args .g) (c .before .before .before .before .before .before .before .before .before .before .before .before .pre .0 .game)
+
+alone-requires-3 : tie.Need-alone-requires-3
+alone-requires-3 c κs = search needs
+
+same-length : tie.Need-same-length
+same-length c = search needs
+
+returns : tie.Need-returns
+returns c = c .alone .ensures ∙ ap single (c .before .before .before .best-value .ensures .0) ∙ ap (λ a. valuesOf a (c .before .before .before .before .before .before .before .before .before .before .before .before .before .before .args .g) (now (c .before .before .before .before .before .before .before .before .before .before .before .before .before .before .args .profile))) (sym (c .before .before .before .before .before .before .asked .given .1))
+
+same-length-2 : tie.Need-same-length-2
+same-length-2 c = search needs
+
+returns-2 : tie.Need-returns-2
+returns-2 c = c .before .before .best-values .ensures ∙ ap (λ a. valuesOf a (c .before .before .before .before .before .before .before .before .before .before .before .before .args .g) (now (c .before .before .before .before .before .before .before .before .before .before .before .before .args .profile))) (sym (c .before .before .before .before .enum-told .given .1))
+
+same-length-3 : tie.Need-same-length-3
+same-length-3 c = search needs
+
+returns-3 : tie.Need-returns-3
+returns-3 c = c .worths .ensures ∙ ap (λ a. valuesOf a (c .before .before .before .before .before .before .before .before .before .before .args .g) (now (c .before .before .before .before .before .before .before .before .before .before .args .profile))) (sym (c .before .before .enum-told2 .given .1))
+
+same-length-4 : tie.Need-same-length-4
+same-length-4 c = search needs
+
+returns-4 : tie.Need-returns-4
+returns-4 c = c .alone2 .ensures ∙ ap single (c .before .before .before .nash-conv .ensures) ∙ ap (λ a. valuesOf a (c .before .before .before .before .before .before .before .before .before .before .before .before .before .args .g) (now (c .before .before .before .before .before .before .before .before .before .before .before .before .before .args .profile))) (sym (c .before .before .before .before .before .enum-told3 .given .1))
+
+same-length-5 : tie.Need-same-length-5
+same-length-5 c = search needs
+
+returns-5 : tie.Need-returns-5
+returns-5 c = c .alone3 .ensures ∙ ap single (c .before .shared .ensures ∙ ap (λ x. div binary64 x (ofInt binary64 (pos (c .before .before .before .before .before .before .before .before .before .before .before .before .before .before .args .g .seats)))) (c .before .before .before .before .nash-conv2 .ensures)) ∙ ap (λ a. valuesOf a (c .before .before .before .before .before .before .before .before .before .before .before .before .before .before .args .g) (now (c .before .before .before .before .before .before .before .before .before .before .before .before .before .before .args .profile))) (sym (c .before .before .before .before .before .before .enum-told4 .given .1))
+
+pub evaluate-spec : {M : Type 1} → statement M
+evaluate-spec =
+    tie.close
+    (tie.spec
+    store-requires
+    enum-known-asked
+    best-value-requires
+    alone-requires
+    enum-told
+    best-values-requires
+    enum-told-2
+    worths-requires
+    enum-told-3
+    nash-conv-requires
+    alone-requires-2
+    enum-told-4
+    nash-conv-requires-2
+    shared-requires
+    alone-requires-3
+    same-length
+    returns
+    same-length-2
+    returns-2
+    same-length-3
+    returns-3
+    same-length-4
+    returns-4
+    same-length-5
+    returns-5)

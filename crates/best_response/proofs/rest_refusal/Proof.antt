@@ -1,0 +1,77 @@
+use mathlib.Core.Path.{sym, ap, _∙_}
+use Rattle.refusals.specs.Refusals.{first}
+use Rattle.best_response.specs.Calls.{entry-checks}
+use Rattle.best_response.specs.Asked.{restOf}
+use Rattle.best_response.proofs.Checks.{seat-refused, seat-passed}
+use borrow.Author.Needs.{needs}
+use Rattle.best_response.proofs.rest_refusal.Statement.{statement}
+use Rattle.best_response.proofs.rest_refusal.Tie as tie
+
+enum-known-asked : tie.Need-enum-known-asked
+enum-known-asked c = search needs
+
+returns : tie.Need-returns
+returns c = seat-refused (c .before .before .before .before .before .args .g) (c .before .before .before .asked .given .0 .0) (entry-checks (c .before .before .before .before .before .args .g) (c .before .before .before .before .before .args .entries)) (c .if1 .taken) ∙ ap (λ a. first (restOf a (c .before .before .before .before .before .args .g) (c .before .before .before .before .before .args .entries))) (sym (c .before .before .before .asked .given .1))
+
+entries-refusal-requires : tie.Need-entries-refusal-requires
+entries-refusal-requires c κs = c .before .before .before .before .before .pre
+
+enum-told : tie.Need-enum-told
+enum-told c = search needs
+
+entries-refusal-requires-2 : tie.Need-entries-refusal-requires-2
+entries-refusal-requires-2 c κs = c .before .before .pre
+
+enum-told-2 : tie.Need-enum-told-2
+enum-told-2 c = search needs
+
+entries-refusal-requires-3 : tie.Need-entries-refusal-requires-3
+entries-refusal-requires-3 c κs = c .before .before .pre
+
+enum-told-3 : tie.Need-enum-told-3
+enum-told-3 c = search needs
+
+entries-refusal-requires-4 : tie.Need-entries-refusal-requires-4
+entries-refusal-requires-4 c κs = c .before .before .pre
+
+enum-told-4 : tie.Need-enum-told-4
+enum-told-4 c = search needs
+
+entries-refusal-requires-5 : tie.Need-entries-refusal-requires-5
+entries-refusal-requires-5 c κs = c .before .before .pre
+
+returns-2 : tie.Need-returns-2
+returns-2 c = c .entries-refusal .ensures ∙ seat-passed (c .before .before .before .before .before .before .args .g) (c .before .before .before .before .asked .given .0 .0) (entry-checks (c .before .before .before .before .before .before .args .g) (c .before .before .before .before .before .before .args .entries)) (c .before .if1 .left) ∙ ap (λ a. first (restOf a (c .before .before .before .before .before .before .args .g) (c .before .before .before .before .before .before .args .entries))) (sym (c .before .before .before .before .asked .given .1))
+
+returns-3 : tie.Need-returns-3
+returns-3 c = (c .entries-refusal2 .ensures ∙ ap (λ a. first (restOf a (c .before .before .before .args .g) (c .before .before .before .args .entries))) (sym (c .before .enum-told .given .1)))
+
+returns-4 : tie.Need-returns-4
+returns-4 c = (c .entries-refusal3 .ensures ∙ ap (λ a. first (restOf a (c .before .before .before .args .g) (c .before .before .before .args .entries))) (sym (c .before .enum-told2 .given .1)))
+
+returns-5 : tie.Need-returns-5
+returns-5 c = (c .entries-refusal4 .ensures ∙ ap (λ a. first (restOf a (c .before .before .before .args .g) (c .before .before .before .args .entries))) (sym (c .before .enum-told3 .given .1)))
+
+returns-6 : tie.Need-returns-6
+returns-6 c = (c .entries-refusal5 .ensures ∙ ap (λ a. first (restOf a (c .before .before .before .args .g) (c .before .before .before .args .entries))) (sym (c .before .enum-told4 .given .1)))
+
+pub rest-refusal-spec : {M : Type 1} → statement M
+rest-refusal-spec =
+    tie.close
+    (tie.spec
+    enum-known-asked
+    returns
+    entries-refusal-requires
+    enum-told
+    entries-refusal-requires-2
+    enum-told-2
+    entries-refusal-requires-3
+    enum-told-3
+    entries-refusal-requires-4
+    enum-told-4
+    entries-refusal-requires-5
+    returns-2
+    returns-3
+    returns-4
+    returns-5
+    returns-6)

@@ -1,0 +1,2 @@
+-- Lemmas on sums for six seats.
+pub mod Summing

@@ -1,0 +1,3 @@
+-- Lemmas on floats and their patterns.
+pub mod Patterns
+pub mod Parts

@@ -1,0 +1,1 @@
+-- Numbers in f64 over a tree in work memory.

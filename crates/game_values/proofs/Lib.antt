@@ -1,0 +1,3 @@
+-- Lemmas on the f64 values by game number.
+pub mod Staging
+pub mod Seats

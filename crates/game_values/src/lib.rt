@@ -1,0 +1,79 @@
+// The f64 values of a profile by the game's number, where the game's tree is stored. Behind the tree's index stand the reaches of a seat's nodes, and behind
+// these its choices.
+use arena::index::clear;
+use reach::collect;
+use response::values::value;
+use tables::Game;
+use units::DEPTH;
+use whole::heads_of;
+ghost use mathlib.Core.Path.{_≡_};
+ghost use Prim.Native.Nat.{_*_, _≤_, _<_};
+ghost use lib.ListN.{length};
+ghost use Rattle.tables.specs.Facts.{nodesOf};
+ghost use Rattle.stored.specs.Stored.{Stored};
+ghost use Rattle.game_values.specs.Values.{bestOf, bestsOf, worthsOf, nashConvOf};
+ghost use Rattle.game_values.specs.Accepted.{Accepted};
+
+// The best response value of a seat to a profile that is not refused.
+pub fn best_value(g: Game, w: &mut [u64], seat: usize, profile: &[f64]) -> f64
+    requires { ⌜ Stored g (now w) × Accepted g (now profile) × (seat < g .seats) × (12 * nodesOf g ≤ length (now w)) ⌝ }
+    ensures { λ r. ⌜ (r ≡ bestOf g (now (profile .entry)) seat) × Stored g (now (w .exit)) ⌝ }
+{
+    let entries = g.entries();
+    let heads = heads_of(g);
+    let reach = heads + entries;
+    let kept = reach + g.nodes();
+    collect(w, profile, 0, 1.0, seat, reach, DEPTH);
+    clear(w, kept, kept + entries);
+    value(w, profile, 0, seat, DEPTH, heads, reach, kept)
+}
+
+// The same of each seat; 0.0 past them.
+pub fn best_values(g: Game, w: &mut [u64], profile: &[f64]) -> [f64; 6]
+    requires { ⌜ Stored g (now w) × Accepted g (now profile) × (12 * nodesOf g ≤ length (now w)) ⌝ }
+    ensures { λ r. ⌜ r ≡ bestsOf g (now (profile .entry)) ⌝ }
+{
+    let seats = g.seats;
+    let mut out = [0.0; 6];
+    let mut seat = 0;
+    while seat < seats {
+        let best = best_value(g, w, seat, profile);
+        out[seat] = best;
+        seat += 1;
+    }
+    out
+}
+
+// What the profile is worth to each seat; 0.0 past them.
+pub fn worths(g: Game, w: &[u64], profile: &[f64]) -> [f64; 6]
+    requires { ⌜ Stored g (now w) × Accepted g (now profile) ⌝ }
+    ensures { λ r. ⌜ r ≡ worthsOf g (now (profile .entry)) ⌝ }
+{
+    let six = expected::worths(w, profile, 0, DEPTH);
+    let of = six.of;
+    let seats = g.seats;
+    let mut out = [0.0; 6];
+    let mut seat = 0;
+    while seat < seats {
+        out[seat] = of[seat];
+        seat += 1;
+    }
+    out
+}
+
+// NashConv: the sum of best value − worth by seat, from 0.0.
+pub fn nash_conv(g: Game, w: &mut [u64], profile: &[f64]) -> f64
+    requires { ⌜ Stored g (now w) × Accepted g (now profile) × (12 * nodesOf g ≤ length (now w)) ⌝ }
+    ensures { λ r. ⌜ r ≡ nashConvOf g (now (profile .entry)) ⌝ }
+{
+    let worths = worths(g, w, profile);
+    let seats = g.seats;
+    let mut sum = 0.0;
+    let mut seat = 0;
+    while seat < seats {
+        let best = best_value(g, w, seat, profile);
+        sum = sum + (best - worths[seat]);
+        seat += 1;
+    }
+    sum
+}

@@ -1,0 +1,3 @@
+-- Lemmas on f64 values.
+pub mod Deciding
+pub mod Signs

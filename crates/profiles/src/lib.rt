@@ -1,0 +1,1 @@
+// Profiles in f64: definitions and what holds of them.

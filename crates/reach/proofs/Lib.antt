@@ -1,0 +1,3 @@
+-- Lemmas on the reaches that a walk stores.
+pub mod Members
+pub mod Storing

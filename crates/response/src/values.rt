@@ -1,0 +1,245 @@
+// Value and choice call each other: the value of an own node asks its set's choice, and a choice asks the values below all members of its set, which lie deeper.
+// A choice is kept in work memory once it is found. From place heads on stands the first member of each set, from place reach on the reach of the seat's own
+// nodes, and from place kept on, by a set's first entry, its choice + 1, or 0.
+use crate::pick::of_three;
+use crate::pick::of_two;
+use arena::walk::behind;
+use arena::walk::fan;
+use arena::words::CHANCE;
+use arena::words::END;
+use arena::words::actions;
+use arena::words::actor;
+use arena::words::kind;
+use arena::words::later;
+use arena::words::next;
+use arena::words::put;
+use arena::words::set;
+use arena::words::word;
+use floats::float_at;
+use floats::payoff_of;
+use floats::weighed;
+use floats::weight;
+use walks::child;
+ghost use Prim.Native.Nat.{_+_};
+ghost use Rattle.response.specs.Valued.{Walkable, Valued, Gained, Dealt, Split, ValuedOwn, Totalled, Chosen};
+
+// The value of the tree at place a for a seat.
+pub fn value(
+    w: &mut [u64],
+    profile: &[f64],
+    a: usize,
+    seat: usize,
+    depth: usize,
+    heads: usize,
+    reach: usize,
+    kept: usize,
+) -> f64
+    requires { ⌜ Walkable a seat depth heads reach kept ⌝ }
+    ensures { λ r. ⌜ Valued (now (profile .entry)) seat depth heads reach kept a (now (w .entry)) (now (w .exit)) r ⌝ }
+{
+    if depth == 0 {
+        return 0.0;
+    }
+    let x = word(w, a);
+    let sort = kind(x);
+    if sort == END {
+        return 0.0;
+    }
+    if sort == CHANCE {
+        return dealt(
+            w,
+            profile,
+            a + 1,
+            next(x),
+            seat,
+            depth - 1,
+            heads,
+            reach,
+            kept,
+        );
+    }
+    if actor(x) == seat {
+        return own(w, profile, a, x, seat, depth - 1, heads, reach, kept);
+    }
+    split(w, profile, a + 1, x, seat, depth - 1, heads, reach, kept)
+}
+
+// What the child at place a gives: the seat's payoff on the edge to it, 0.0 unless it is an end, and its value.
+fn gain(
+    w: &mut [u64],
+    profile: &[f64],
+    a: usize,
+    seat: usize,
+    depth: usize,
+    heads: usize,
+    reach: usize,
+    kept: usize,
+) -> f64
+    requires { ⌜ Walkable a seat depth heads reach kept ⌝ }
+    ensures { λ r. ⌜ Gained (now (profile .entry)) seat depth heads reach kept a (now (w .entry)) (now (w .exit)) r ⌝ }
+{
+    let x = word(w, a);
+    if kind(x) == END {
+        return payoff_of(x, seat) + 0.0;
+    }
+    0.0 + value(w, profile, a, seat, depth, heads, reach, kept)
+}
+
+// The value of a chance node, whose children stand between places a and end.
+fn dealt(
+    w: &mut [u64],
+    profile: &[f64],
+    a: usize,
+    end: usize,
+    seat: usize,
+    depth: usize,
+    heads: usize,
+    reach: usize,
+    kept: usize,
+) -> f64
+    requires { ⌜ Walkable a seat depth heads reach kept ⌝ }
+    ensures { λ r. ⌜ Dealt (now (profile .entry)) seat depth heads reach kept a end (now (w .entry)) (now (w .exit)) r ⌝ }
+{
+    let each = weight(fan(w, a, end));
+    let mut sum = 0.0;
+    let mut at = a;
+    while at < end {
+        let g = gain(w, profile, at, seat, depth, heads, reach, kept);
+        sum = sum + each * g;
+        let next = behind(w, at);
+        if next <= at {
+            return sum;
+        }
+        at = next;
+    }
+    sum
+}
+
+// The value of another seat's decision with word x, whose children stand from place a on.
+fn split(
+    w: &mut [u64],
+    profile: &[f64],
+    a: usize,
+    x: u64,
+    seat: usize,
+    depth: usize,
+    heads: usize,
+    reach: usize,
+    kept: usize,
+) -> f64
+    requires { ⌜ Walkable a seat depth heads reach kept ⌝ }
+    ensures { λ r. ⌜ Split (now (profile .entry)) seat depth heads reach kept a x (now (w .entry)) (now (w .exit)) r ⌝ }
+{
+    let first = set(x);
+    let count = actions(x);
+    let end = first + count;
+    if count < 2 {
+        return 0.0;
+    }
+    if profile.len() < end {
+        return 0.0;
+    }
+    let zero = gain(w, profile, a, seat, depth, heads, reach, kept);
+    let front = weighed(&profile[first..end], 0, 0.0, zero);
+    let second = behind(w, a);
+    let one = gain(w, profile, second, seat, depth, heads, reach, kept);
+    let both = weighed(&profile[first..end], 1, front, one);
+    if count == 2 {
+        return both;
+    }
+    let third = behind(w, second);
+    let two = gain(w, profile, third, seat, depth, heads, reach, kept);
+    weighed(&profile[first..end], 2, both, two)
+}
+
+// The value of an own node at place a with word x: what its child gives, at the set's choice.
+fn own(
+    w: &mut [u64],
+    profile: &[f64],
+    a: usize,
+    x: u64,
+    seat: usize,
+    depth: usize,
+    heads: usize,
+    reach: usize,
+    kept: usize,
+) -> f64
+    requires { ⌜ Walkable (a + 1) seat depth heads reach kept ⌝ }
+    ensures { λ r. ⌜ ValuedOwn (now (profile .entry)) seat depth heads reach kept a x (now (w .entry)) (now (w .exit)) r ⌝ }
+{
+    let choice = choose(
+        w,
+        profile,
+        set(x),
+        actions(x),
+        seat,
+        depth,
+        heads,
+        reach,
+        kept,
+    );
+    let at = child(w, a, choice);
+    gain(w, profile, at, seat, depth, heads, reach, kept)
+}
+
+// The choice of the set whose first entry is given, with so many actions, by the sums over its members.
+fn choose(
+    w: &mut [u64],
+    profile: &[f64],
+    first: usize,
+    count: usize,
+    seat: usize,
+    depth: usize,
+    heads: usize,
+    reach: usize,
+    kept: usize,
+) -> usize
+    requires { ⌜ Walkable first seat depth heads reach kept ⌝ }
+    ensures { λ r. ⌜ Chosen (now (profile .entry)) seat depth heads reach kept first count (now (w .entry)) (now (w .exit)) r ⌝ }
+{
+    let known = word(w, kept + first);
+    if known != 0 {
+        return known as usize - 1;
+    }
+    let zero = total(w, profile, first, 0, seat, depth, heads, reach, kept);
+    let one = total(w, profile, first, 1, seat, depth, heads, reach, kept);
+    if count != 3 {
+        let choice = of_two(zero, one);
+        put(w, kept + first, choice as u64 + 1);
+        return choice;
+    }
+    let two = total(w, profile, first, 2, seat, depth, heads, reach, kept);
+    let choice = of_three(zero, one, two);
+    put(w, kept + first, choice as u64 + 1);
+    choice
+}
+
+// The sum over the set's members, in their order, of reach × what the child behind an action gives.
+fn total(
+    w: &mut [u64],
+    profile: &[f64],
+    first: usize,
+    action: usize,
+    seat: usize,
+    depth: usize,
+    heads: usize,
+    reach: usize,
+    kept: usize,
+) -> f64
+    requires { ⌜ Walkable first seat depth heads reach kept ⌝ }
+    ensures { λ r. ⌜ Totalled (now (profile .entry)) seat depth heads reach kept first action (now (w .entry)) (now (w .exit)) r ⌝ }
+{
+    let mut sum = 0.0;
+    let mut at = (word(w, heads + first) % 2097152) as usize;
+    while 0 < at {
+        let place = child(w, at, action);
+        let g = gain(w, profile, place, seat, depth, heads, reach, kept);
+        sum = sum + float_at(w, reach + at) * g;
+        let next = later(word(w, at));
+        if next <= at {
+            return sum;
+        }
+        at = next;
+    }
+    sum
+}
