@@ -224,6 +224,34 @@ typedef struct {
 chukkanalli_nash_conv_answer chukkanalli_nash_conv_units(
     uint64_t game, uint64_t seats, uint64_t *work, size_t work_len, uint64_t d, const uint8_t *table, size_t table_len);
 
+/* Values in f64. A profile lists an entry for each action, set after set in set order, any bits; products, sums and quotients are rounded in the order
+ * that document 01 says. What these calls answer: count values, 0.0 past them. */
+typedef struct {
+    uint64_t refusal;
+    uint64_t count;
+    double values[CHUKKANALLI_TREE_SEATS];
+} chukkanalli_values;
+
+/* The best response value of a seat, alone in place 0. Refuses with 1, 2, 3, 4, 5, 7. */
+chukkanalli_values chukkanalli_best_response_value(
+    uint64_t game, uint64_t seats, uint64_t *work, size_t work_len, uint64_t seat, const double *profile, size_t profile_len);
+
+/* The best response value of each seat. Refuses with 1, 2, 3, 4, 7. */
+chukkanalli_values chukkanalli_best_response_values(
+    uint64_t game, uint64_t seats, uint64_t *work, size_t work_len, const double *profile, size_t profile_len);
+
+/* What a profile is worth to each seat. Refuses with 1, 2, 3, 4, 7. */
+chukkanalli_values chukkanalli_profile_values(
+    uint64_t game, uint64_t seats, uint64_t *work, size_t work_len, const double *profile, size_t profile_len);
+
+/* NashConv, alone in place 0: the sum of best response value - worth by seat. Refuses with 1, 2, 3, 4, 7. */
+chukkanalli_values chukkanalli_nash_conv(
+    uint64_t game, uint64_t seats, uint64_t *work, size_t work_len, const double *profile, size_t profile_len);
+
+/* Exploitability, alone in place 0: NashConv divided by the seats. Refuses with 1, 2, 3, 4, 7. */
+chukkanalli_values chukkanalli_exploitability(
+    uint64_t game, uint64_t seats, uint64_t *work, size_t work_len, const double *profile, size_t profile_len);
+
 #ifdef __cplusplus
 }
 #endif
