@@ -94,7 +94,7 @@ chukkanalli f64 GAME SEATS PROFILE
 
 Prints the best response value of each seat, what the profile is worth to each seat, NashConv (the
 sum of best response value - worth) and exploitability (NashConv divided by the seats): in chips
-per hand, in f64, each with the fewest digits that give its bits back.
+per hand, in f64, each with the fewest digits that read back as the same number.
 
 A profile has a number for each action of each set: 0.25, 1, 1e-3, inf, -inf or NaN. No number is
 refused, nor need a set add up to 1. A table with D 1 is a profile too, so that `template` with D 1

@@ -51,7 +51,7 @@ fn evaluate(evaluator: &mut Evaluator, profile: &[f64], console: &mut Console) -
     Ok(Evaluation { best, worths, nash_conv, exploitability })
 }
 
-/// A value a line; the fewest digits that give its bits back.
+/// A value a line, with the fewest digits that read back as the same number.
 fn text(name: &str, game: Game, evaluation: &Evaluation) -> String {
     let mut rows = Vec::new();
     let mut add = |what: String, value: f64| rows.push([what, format!("{value:?}")]);
