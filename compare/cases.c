@@ -159,6 +159,34 @@ static void units_cases(void) {
     units_case("l", 3, "303030210303302121303003", -9, -9, 9, 0, NULL);
 }
 
+/* ---- The values in f64 of the profile of Kuhn 2 that is 1/2 everywhere, near the exact ones */
+
+static int f64_near(chukkanalli_values answer, uint64_t count, double zero, double one) {
+    const double exact[CHUKKANALLI_TREE_SEATS] = {zero, one, 0.0, 0.0, 0.0, 0.0};
+    int holds = answer.refusal == 0 && answer.count == count;
+    for (int place = 0; place < CHUKKANALLI_TREE_SEATS; place++) {
+        double apart = answer.values[place] - exact[place];
+        holds = holds && (place < (int)count ? apart < 1e-12 && apart > -1e-12 : answer.values[place] == 0.0);
+    }
+    return holds;
+}
+
+static void f64_cases(void) {
+    static uint64_t work[12 * 58 + 1];
+    const uint64_t words = 12 * 58, kuhn = CHUKKANALLI_KUHN_POKER;
+    double profile[24];
+    for (int entry = 0; entry < 24; entry++) {
+        profile[entry] = 0.5;
+    }
+    work[words] = 9;
+    expect("a best response value", f64_near(chukkanalli_best_response_value(kuhn, 2, work, words + 1, 1, profile, 24), 1, 5.0 / 12, 0));
+    expect("best response values", f64_near(chukkanalli_best_response_values(kuhn, 2, work, words + 1, profile, 24), 2, 1.0 / 2, 5.0 / 12));
+    expect("profile values", f64_near(chukkanalli_profile_values(kuhn, 2, work, words + 1, profile, 24), 2, 1.0 / 8, -1.0 / 8));
+    expect("NashConv", f64_near(chukkanalli_nash_conv(kuhn, 2, work, words + 1, profile, 24), 1, 11.0 / 12, 0));
+    expect("exploitability", f64_near(chukkanalli_exploitability(kuhn, 2, work, words + 1, profile, 24), 1, 11.0 / 24, 0));
+    expect("what f64 calls leave", work[words] == 9);
+}
+
 /* ---- refusals: the position comes back to the byte, whatever its public card, and the output stays */
 
 static void refusals(void) {
@@ -248,15 +276,54 @@ static void units_refusals(void) {
     expect("an output", chukkanalli_best_reply(CHUKKANALLI_KUHN_POKER, 2, work, 12 * 58, 0, 1, table, 24, out, 23).refusal == CHUKKANALLI_OUTPUT);
 }
 
+static int f64_is_refused(chukkanalli_values answer, uint64_t number) {
+    int holds = answer.refusal == number && answer.count == 0;
+    for (int place = 0; place < CHUKKANALLI_TREE_SEATS; place++) {
+        holds = holds && answer.values[place] == 0.0;
+    }
+    return holds;
+}
+
+/* Each call in f64 is refused with this number, and leaves the work memory. */
+static void f64_refused(uint64_t number, uint64_t game, uint64_t seats, size_t words, const double *profile, size_t length) {
+    static uint64_t work[12 * 58];
+    memset(work, 9, sizeof work);
+    expect("a best response value refused",
+        f64_is_refused(chukkanalli_best_response_value(game, seats, work, words, 0, profile, length), number));
+    expect("best response values refused",
+        f64_is_refused(chukkanalli_best_response_values(game, seats, work, words, profile, length), number));
+    expect("profile values refused", f64_is_refused(chukkanalli_profile_values(game, seats, work, words, profile, length), number));
+    expect("NashConv in f64 refused", f64_is_refused(chukkanalli_nash_conv(game, seats, work, words, profile, length), number));
+    expect("exploitability refused", f64_is_refused(chukkanalli_exploitability(game, seats, work, words, profile, length), number));
+    for (size_t byte = 0; byte < sizeof work; byte++) {
+        expect("what refused f64 calls leave", ((const uint8_t *)work)[byte] == 9);
+    }
+}
+
+static void f64_refusals(void) {
+    static uint64_t work[12 * 58];
+    const double profile[24] = {0.5};
+    f64_refused(CHUKKANALLI_GAME, 2, 11, 0, NULL, 0);
+    f64_refused(CHUKKANALLI_SEATS, CHUKKANALLI_KUHN_POKER, 11, 0, NULL, 0);
+    f64_refused(CHUKKANALLI_SEATS, CHUKKANALLI_LEDUC_POKER, 3, 0, NULL, 0);
+    f64_refused(CHUKKANALLI_TREE, CHUKKANALLI_KUHN_POKER, 7, 0, NULL, 0);
+    f64_refused(CHUKKANALLI_MEMORY, CHUKKANALLI_KUHN_POKER, 2, 12 * 58 - 1, profile, 23);
+    f64_refused(CHUKKANALLI_TABLE, CHUKKANALLI_KUHN_POKER, 2, 12 * 58, profile, 23);
+    expect("a seat in f64",
+        f64_is_refused(chukkanalli_best_response_value(CHUKKANALLI_KUHN_POKER, 2, work, 12 * 58, 2, profile, 23), CHUKKANALLI_SEAT));
+}
+
 int main(void) {
     kuhn_cases();
     leduc_cases();
     listing();
     units_cases();
+    f64_cases();
     refusals();
     kuhn_calls();
     leduc_calls();
     units_refusals();
+    f64_refusals();
     puts("cases a to l, Kuhn 2's keys and each call from C: as document 01 has them");
     return 0;
 }

@@ -1,6 +1,6 @@
 /*
  * Kuhn poker for 2 to 10 seats and Leduc hold'em for 2: the rules calls, the saved-position checks, the listing and the
- * evaluations in whole units of libchukkanalli.a, for x86-64 Linux.
+ * evaluations in whole units and in f64 of libchukkanalli.a, for x86-64 Linux.
  *
  * Every call is defined on every input, and answers a refusal number: 0 if it was accepted, else the first number of the list below that
  * applies. A refused call leaves all lent memory as it was. Every answer of a call on a position holds a position: the new one of an

@@ -13,10 +13,11 @@ pub enum Verb {
     Ladder,
     Reply,
     Template,
+    F64,
 }
 
 impl Verb {
-    pub const ALL: [Verb; 4] = [Verb::Evaluate, Verb::Ladder, Verb::Reply, Verb::Template];
+    pub const ALL: [Verb; 5] = [Verb::Evaluate, Verb::Ladder, Verb::Reply, Verb::Template, Verb::F64];
 
     pub fn name(self) -> &'static str {
         match self {
@@ -24,6 +25,7 @@ impl Verb {
             Verb::Ladder => "ladder",
             Verb::Reply => "reply",
             Verb::Template => "template",
+            Verb::F64 => "f64",
         }
     }
 
@@ -33,6 +35,7 @@ impl Verb {
             Verb::Evaluate | Verb::Ladder => &["GAME", "SEATS", "D", "TABLE"],
             Verb::Reply => &["GAME", "SEATS", "D", "TABLE", "SEAT"],
             Verb::Template => &["GAME", "SEATS", "D"],
+            Verb::F64 => &["GAME", "SEATS", "PROFILE"],
         }
     }
 
@@ -53,11 +56,17 @@ pub struct Number {
     pub value: u64,
 }
 
+/// GAME SEATS.
+#[derive(Clone, Debug, PartialEq, Eq)]
+pub struct Asked {
+    pub game: String,
+    pub seats: Number,
+}
+
 /// GAME SEATS D.
 #[derive(Clone, Debug, PartialEq, Eq)]
 pub struct Setting {
-    pub game: String,
-    pub seats: Number,
+    pub asked: Asked,
     pub d: Number,
 }
 
@@ -83,6 +92,10 @@ pub enum Request {
     },
     Template {
         setting: Setting,
+    },
+    F64 {
+        asked: Asked,
+        profile: PathBuf,
     },
 }
 
@@ -180,13 +193,16 @@ fn request(verb: Verb, sorted: Sorted) -> Result<Request, Misuse> {
         return Err(Misuse::of(verb, format!("{} is one argument too many", quoted(&surplus))));
     }
     let number = |place: usize| number_of(verb, names[place], &sorted.places[place]);
-    let setting = Setting { game: sorted.places[0].to_string_lossy().into_owned(), seats: number(1)?, d: number(2)? };
+    let asked = Asked { game: sorted.places[0].to_string_lossy().into_owned(), seats: number(1)? };
+    let setting = |asked| number(2).map(|d| Setting { asked, d });
+    let file = |place: usize| PathBuf::from(&sorted.places[place]);
     let tables = || sorted.places[3..].iter().map(PathBuf::from).collect();
     Ok(match verb {
-        Verb::Evaluate => Request::Evaluate { setting, tables: tables(), jobs: sorted.jobs },
-        Verb::Ladder => Request::Ladder { setting, tables: tables(), jobs: sorted.jobs },
-        Verb::Reply => Request::Reply { setting, table: PathBuf::from(&sorted.places[3]), seat: number(4)? },
-        Verb::Template => Request::Template { setting },
+        Verb::Evaluate => Request::Evaluate { setting: setting(asked)?, tables: tables(), jobs: sorted.jobs },
+        Verb::Ladder => Request::Ladder { setting: setting(asked)?, tables: tables(), jobs: sorted.jobs },
+        Verb::Reply => Request::Reply { setting: setting(asked)?, table: file(3), seat: number(4)? },
+        Verb::Template => Request::Template { setting: setting(asked)? },
+        Verb::F64 => Request::F64 { asked, profile: file(2) },
     })
 }
 
@@ -223,9 +239,12 @@ mod tests {
         Number { word: word.to_string(), value }
     }
 
+    fn asked(seats: &str) -> Asked {
+        Asked { game: "kuhn".to_string(), seats: number(seats, seats.parse().unwrap()) }
+    }
+
     fn setting(seats: &str, d: &str) -> Setting {
-        let value = |word: &str| number(word, word.parse().unwrap());
-        Setting { game: "kuhn".to_string(), seats: value(seats), d: value(d) }
+        Setting { asked: asked(seats), d: number(d, d.parse().unwrap()) }
     }
 
     #[test]
@@ -239,6 +258,8 @@ mod tests {
         let ladder = Request::Ladder { setting: setting("2", "1"), tables, jobs: Some(3) };
         assert_eq!(parsed("ladder --jobs=3 kuhn 2 1 a -5 -"), Ok(ladder.clone()));
         assert_eq!(parsed("ladder kuhn 2 1 --jobs 3 a -- -5 -"), Ok(ladder));
+        let f64 = Request::F64 { asked: asked("2"), profile: PathBuf::from("p") };
+        assert_eq!(parsed("f64 kuhn 2 p"), Ok(f64));
     }
 
     #[test]
@@ -262,12 +283,14 @@ mod tests {
 
     #[test]
     fn bad_use_has_a_sentence() {
-        assert_eq!(sentence(""), "a command is missing: evaluate, ladder, reply, template");
-        assert_eq!(sentence("play"), "'play' is no command: evaluate, ladder, reply, template");
+        assert_eq!(sentence(""), "a command is missing: evaluate, ladder, reply, template, f64");
+        assert_eq!(sentence("play"), "'play' is no command: evaluate, ladder, reply, template, f64");
         assert_eq!(sentence("evaluate"), "GAME is missing");
         assert_eq!(sentence("evaluate kuhn 2 1"), "TABLE is missing");
         assert_eq!(sentence("reply kuhn 2 1 t"), "SEAT is missing");
+        assert_eq!(sentence("f64 kuhn 2"), "PROFILE is missing");
         assert_eq!(sentence("template kuhn 2 1 t"), "'t' is one argument too many");
+        assert_eq!(sentence("f64 kuhn 2 p p"), "'p' is one argument too many");
         assert_eq!(sentence("evaluate kuhn two 1 t"), "SEATS is 'two', and a whole number is needed");
         assert_eq!(sentence("evaluate kuhn 2 -1 t"), "D is '-1', and a whole number is needed");
         assert_eq!(sentence("reply kuhn 2 1 t x"), "SEAT is 'x', and a whole number is needed");
@@ -277,5 +300,6 @@ mod tests {
         let unknown = "is no option of it; -- before a file's name makes it one";
         assert_eq!(sentence("evaluate kuhn 2 1 -t"), format!("'-t' {unknown}"));
         assert_eq!(sentence("template kuhn 2 1 --jobs 2"), format!("'--jobs' {unknown}"));
+        assert_eq!(sentence("f64 kuhn 2 p --jobs 2"), format!("'--jobs' {unknown}"));
     }
 }

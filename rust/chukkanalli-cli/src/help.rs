@@ -16,28 +16,31 @@ pub fn text(verb: Option<Verb>) -> &'static str {
         Some(Verb::Ladder) => LADDER,
         Some(Verb::Reply) => REPLY,
         Some(Verb::Template) => TEMPLATE,
+        Some(Verb::F64) => F64,
     }
 }
 
 const ALL: &str = "\
-Evaluates strategy tables for Kuhn and Leduc poker, exactly, by proved calls.
+Evaluates strategy tables for Kuhn and Leduc poker, exactly or in f64, by proved calls.
 
   chukkanalli evaluate GAME SEATS D TABLE...   what tables are worth, best values, NashConv
   chukkanalli ladder GAME SEATS D TABLE...     tables in order of NashConv
   chukkanalli reply GAME SEATS D TABLE SEAT    the perfect reply of a seat to a table, in words
   chukkanalli template GAME SEATS D            a table to fill in, with each set in words
+  chukkanalli f64 GAME SEATS PROFILE           the same values of a profile, in floating point
   chukkanalli COMMAND --help                   more about a command
 
-GAME   kuhn or leduc
-SEATS  2 to 6 for kuhn, 2 for leduc
-D      the parts per set: 1 to 64, for kuhn with 5 or 6 seats 1 to 16
-TABLE  a text file: set after set, the part of each action as a whole number; in each set they
-       add up to D. A # begins a comment, which goes on to the end of the line.
-SEAT   a seat, from 0
+GAME     kuhn or leduc
+SEATS    2 to 6 for kuhn, 2 for leduc
+D        the parts per set: 1 to 64, for kuhn with 5 or 6 seats 1 to 16
+TABLE    a text file: set after set, the part of each action as a whole number; in each set they
+         add up to D. A # begins a comment, which goes on to the end of the line.
+SEAT     a seat, from 0
+PROFILE  a text file as a table is, with a decimal number, inf, -inf or NaN for each action
 
 What cannot be evaluated is refused on stderr, with the file and the line, and with the number
 of the refusal where document 01, the paper behind the calls, has one.
-Status: 0; 1 where a table was refused or cannot be read; 2 for bad use.
+Status: 0; 1 where a table or profile was refused or cannot be read; 2 for bad use.
 ";
 
 const EVALUATE: &str = "\
@@ -84,6 +87,20 @@ names of the actions, the seat, its card, the public card (leduc) and what was p
 has D on its first action, so the table is valid as it is.
 
   chukkanalli template kuhn 2 4 >mine.txt
+";
+
+const F64: &str = "\
+chukkanalli f64 GAME SEATS PROFILE
+
+Prints the best response value of each seat, what the profile is worth to each seat, NashConv (the
+sum of best response value - worth) and exploitability (NashConv divided by the seats): in chips
+per hand, in f64, each with the fewest digits that read back as the same number.
+
+A profile has a number for each action of each set: 0.25, 1, 1e-3, inf, -inf or NaN. No number is
+refused, nor need a set add up to 1. A table with D 1 is a profile too, so that `template` with D 1
+prints one to fill in.
+
+  chukkanalli f64 kuhn 2 samples/uniform-profile.txt
 ";
 
 #[cfg(test)]

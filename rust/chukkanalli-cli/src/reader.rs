@@ -1,4 +1,5 @@
-//! Tables as text: whole numbers from 0 to 255 with blanks or line ends between them, and comments from # to the end of a line.
+//! Tables and profiles as text: numbers with blanks or line ends between them, and comments from # to the end of a line. Those of a table are
+//! whole numbers from 0 to 255, those of a profile decimal ones.
 
 use std::fmt;
 use std::fs::File;
@@ -11,22 +12,31 @@ const MOST_BYTES: usize = 16 << 20;
 /// The characters of a word that a sentence quotes at most.
 const MOST_QUOTED: usize = 24;
 
+/// A number of a file: a part in a table, an f64 in a profile.
+pub trait Entry: Sized {
+    /// What a file of them is.
+    const FILE: &'static str;
+
+    /// The number that a word is, or a sentence that says why it is none.
+    fn of_word(word: &str) -> Result<Self, String>;
+}
+
 /// The numbers of a file, in order, each with its line.
-#[derive(Clone, Debug, Default, PartialEq, Eq)]
-pub struct Table {
-    pub parts: Vec<u8>,
+#[derive(Clone, Debug, PartialEq, Eq)]
+pub struct Entries<T> {
+    pub numbers: Vec<T>,
     lines: Vec<usize>,
     last_line: usize,
 }
 
-impl Table {
+impl<T> Entries<T> {
     /// The line of an entry, from 1; the file's last where there is no such entry.
     pub fn line_of(&self, entry: usize) -> usize {
         self.lines.get(entry).copied().unwrap_or(self.last_line)
     }
 }
 
-/// What is wrong with a table, and in which line, if it is in one.
+/// What is wrong with a file, and in which line, if it is in one.
 #[derive(Clone, Debug, PartialEq, Eq)]
 pub struct Fault {
     pub line: Option<usize>,
@@ -62,16 +72,16 @@ impl fmt::Display for At<'_> {
     }
 }
 
-/// Reads a table from a file.
-pub fn read_file(path: &Path) -> Result<Table, Fault> {
+/// Reads a file.
+pub fn read_file<T: Entry>(path: &Path) -> Result<Entries<T>, Fault> {
     if path.is_dir() {
-        return Err(Fault::of_file("this is a folder, not a table"));
+        return Err(Fault::of_file(format!("this is a folder, not a {}", T::FILE)));
     }
     let mut bytes = Vec::new();
     let file = File::open(path).map_err(unreadable)?;
     file.take(MOST_BYTES as u64 + 1).read_to_end(&mut bytes).map_err(unreadable)?;
     if bytes.len() > MOST_BYTES {
-        return Err(Fault::of_file(format!("this is no table: it has more than {MOST_BYTES} bytes")));
+        return Err(Fault::of_file(format!("this is no {}: it has more than {MOST_BYTES} bytes", T::FILE)));
     }
     read(&bytes)
 }
@@ -84,21 +94,21 @@ fn unreadable(error: std::io::Error) -> Fault {
     }
 }
 
-/// Reads a table. A byte order mark at the front is skipped; a line ends with LF, CRLF or CR.
-pub fn read(bytes: &[u8]) -> Result<Table, Fault> {
+/// Reads a file's bytes. A byte order mark at the front is skipped; a line ends with LF, CRLF or CR.
+pub fn read<T: Entry>(bytes: &[u8]) -> Result<Entries<T>, Fault> {
     let bytes = bytes.strip_prefix(b"\xEF\xBB\xBF").unwrap_or(bytes);
     let text = as_text(bytes)?;
-    let mut table = Table::default();
+    let mut entries = Entries { numbers: Vec::new(), lines: Vec::new(), last_line: 0 };
     for (line, content) in lines(text).enumerate() {
-        table.last_line = line + 1;
-        let numbers = content.split('#').next().unwrap_or_default();
-        for word in numbers.split_whitespace() {
-            let part = part_of(word).map_err(|sentence| Fault::in_line(line + 1, sentence))?;
-            table.parts.push(part);
-            table.lines.push(line + 1);
+        entries.last_line = line + 1;
+        let words = content.split('#').next().unwrap_or_default();
+        for word in words.split_whitespace() {
+            let number = T::of_word(word).map_err(|sentence| Fault::in_line(line + 1, sentence))?;
+            entries.numbers.push(number);
+            entries.lines.push(line + 1);
         }
     }
-    Ok(table)
+    Ok(entries)
 }
 
 /// The lines of a text, without a last one that is empty.
@@ -141,19 +151,32 @@ fn line_at(before: &[u8]) -> usize {
     lines(text).count() + usize::from(ended)
 }
 
-/// The part that a word is, or a sentence that says why it is none.
-fn part_of(word: &str) -> Result<u8, String> {
-    let digits = |text: &str| !text.is_empty() && text.bytes().all(|byte| byte.is_ascii_digit());
-    if digits(word) {
-        let significant = word.trim_start_matches('0');
-        let part = if significant.is_empty() { Ok(0) } else { significant.parse() };
-        return part.map_err(|_| format!("{} is above 255, and a part is a whole number from 0 to 255", quoted(word)));
+impl Entry for u8 {
+    const FILE: &'static str = "table";
+
+    fn of_word(word: &str) -> Result<u8, String> {
+        let digits = |text: &str| !text.is_empty() && text.bytes().all(|byte| byte.is_ascii_digit());
+        let range = "and a part is a whole number from 0 to 255";
+        if digits(word) {
+            let significant = word.trim_start_matches('0');
+            let part = if significant.is_empty() { Ok(0) } else { significant.parse() };
+            return part.map_err(|_| format!("{} is above 255, {range}", quoted(word)));
+        }
+        let fault = match word.strip_prefix('-') {
+            Some(rest) if digits(rest) => "is negative",
+            _ => "is not a whole number",
+        };
+        Err(format!("{} {fault}, {range}", quoted(word)))
     }
-    let fault = match word.strip_prefix('-') {
-        Some(rest) if digits(rest) => "is negative",
-        _ => "is not a whole number",
-    };
-    Err(format!("{} {fault}, and a part is a whole number from 0 to 255", quoted(word)))
+}
+
+impl Entry for f64 {
+    const FILE: &'static str = "profile";
+
+    fn of_word(word: &str) -> Result<f64, String> {
+        let needed = "and a decimal number, inf, -inf or NaN is needed";
+        word.parse().map_err(|_| format!("{} is not a number, {needed}", quoted(word)))
+    }
 }
 
 /// A word in a sentence: cut where it is long, with what does not print written out.
@@ -188,11 +211,15 @@ mod tests {
     use super::*;
 
     fn parts(text: &str) -> Vec<u8> {
-        read(text.as_bytes()).unwrap().parts
+        read(text.as_bytes()).unwrap().numbers
     }
 
     fn fault(bytes: &[u8]) -> (usize, String) {
-        let fault = read(bytes).unwrap_err();
+        fault_of::<u8>(bytes)
+    }
+
+    fn fault_of<T: Entry + std::fmt::Debug>(bytes: &[u8]) -> (usize, String) {
+        let fault = read::<T>(bytes).unwrap_err();
         (fault.line.unwrap(), fault.sentence)
     }
 
@@ -206,19 +233,20 @@ mod tests {
 
     #[test]
     fn each_number_has_its_line() {
-        let table = read(b"# a table\n1 0\n\n3\n").unwrap();
+        let table = read::<u8>(b"# a table\n1 0\n\n3\n").unwrap();
         assert_eq!([0, 1, 2, 3, 99].map(|entry| table.line_of(entry)), [2, 2, 4, 4, 4]);
-        assert_eq!(read(b"").unwrap().line_of(0), 0);
-        assert_eq!(read(b"\n\n# end").unwrap().line_of(0), 3);
+        assert_eq!(read::<u8>(b"").unwrap().line_of(0), 0);
+        assert_eq!(read::<f64>(b"\n\n# end").unwrap().line_of(0), 3);
     }
 
     #[test]
     fn line_ends_and_a_byte_order_mark_change_nothing() {
-        let plain = read(b"# always PASS\n1 0 # set 0\n\n1 0\n").unwrap();
+        let plain = read::<u8>(b"# always PASS\n1 0 # set 0\n\n1 0\n").unwrap();
         assert_eq!(read(b"# always PASS\r\n1 0 # set 0\r\n\r\n1 0\r\n").unwrap(), plain);
         assert_eq!(read(b"# always PASS\r1 0 # set 0\r\r1 0\r").unwrap(), plain);
         assert_eq!(read(b"\xEF\xBB\xBF# always PASS\n1 0 # set 0\n\n1 0").unwrap(), plain);
-        assert_eq!(read(b"\xEF\xBB\xBF").unwrap(), Table::default());
+        assert_eq!(read::<u8>(b"\xEF\xBB\xBF"), read(b""));
+        assert_eq!(read::<f64>(b"\xEF\xBB\xBF0.5 # a set\r\n\r\n.5\r"), read(b"0.5\n\n0.50"));
     }
 
     #[test]
@@ -236,6 +264,21 @@ mod tests {
     }
 
     #[test]
+    fn a_profile_has_decimal_numbers_of_any_size() {
+        let text = "0.5 .5 5. 1 -0 +2.5e-3 1E2 1e999 -1e999 1e-999 inf -inf Infinity # 7";
+        let numbers = [0.5, 0.5, 5.0, 1.0, -0.0, 0.0025, 100.0, f64::INFINITY, f64::NEG_INFINITY, 0.0];
+        let infinite = [f64::INFINITY, f64::NEG_INFINITY, f64::INFINITY];
+        let bits = |numbers: &[f64]| numbers.iter().map(|number| number.to_bits()).collect::<Vec<_>>();
+        let read_numbers = read::<f64>(text.as_bytes()).unwrap().numbers;
+        assert_eq!(bits(&read_numbers), bits(&[&numbers[..], &infinite].concat()));
+        assert!(read::<f64>(b"NaN nan -NaN").unwrap().numbers.iter().all(|number| number.is_nan()));
+        let needed = "is not a number, and a decimal number, inf, -inf or NaN is needed";
+        for word in ["x", "1,5", "0x1", "1/2", "1_0", "--1", "e5", ".", "-", "1e", "infinite", "1f64", "½", "１"] {
+            assert_eq!(fault_of::<f64>(format!("1\n{word}").as_bytes()), (2, format!("{} {needed}", quoted(word))));
+        }
+    }
+
+    #[test]
     fn what_is_not_text_is_named_with_its_line() {
         assert_eq!(fault(b"1 0\n\xFF\xFE"), (2, "this is not text: the byte 255 is not UTF-8".to_string()));
         assert_eq!(fault(b"\xFF\xFE1\x000\x00"), (1, "this is not text: the byte 255 is not UTF-8".to_string()));
@@ -246,12 +289,14 @@ mod tests {
 
     #[test]
     fn files_that_are_none_are_named() {
-        let missing = read_file(Path::new("there/is/no/such/file")).unwrap_err();
+        let missing = read_file::<u8>(Path::new("there/is/no/such/file")).unwrap_err();
         assert_eq!(missing.at("name").to_string(), "name: there is no such file");
-        let folder = read_file(Path::new("/")).unwrap_err();
+        let folder = read_file::<u8>(Path::new("/")).unwrap_err();
         assert_eq!(folder.sentence, "this is a folder, not a table");
-        let endless = read_file(Path::new("/dev/zero")).unwrap_err();
+        let endless = read_file::<u8>(Path::new("/dev/zero")).unwrap_err();
         assert_eq!(endless.sentence, "this is no table: it has more than 16777216 bytes");
+        let folder = read_file::<f64>(Path::new("/")).unwrap_err();
+        assert_eq!(folder.sentence, "this is a folder, not a profile");
         assert_eq!(Fault::in_line(3, "odd").at("name").to_string(), "name:3: odd");
     }
 

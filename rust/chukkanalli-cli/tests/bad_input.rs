@@ -15,7 +15,7 @@ const LENGTH: &str = "refused with 7: the table's length is not exactly the entr
 const SUM: &str = "refused with 8: in some set the parts do not add up to D";
 const ABOVE_64_BITS: &str = "18446744073709551616";
 
-/// A command line that asks the same of each command.
+/// A command line that asks the same of each command with a D.
 fn lines(game: &str, seats: &str, d: &str) -> [(&'static str, String); 4] {
     [
         ("evaluate", format!("evaluate {game} {seats} {d} samples/always-pass.txt")),
@@ -31,11 +31,17 @@ fn misused(verb: &str, sentence: &str) -> Run {
     Run { status: 2, out: String::new(), err }
 }
 
-/// All commands call this bad use.
-fn all_misused(game: &str, seats: &str, d: &str, sentence: &str) {
+/// All commands with a D call this bad use.
+fn parts_misused(game: &str, seats: &str, d: &str, sentence: &str) {
     for (verb, line) in lines(game, seats, d) {
         assert_eq!(run_line(&line), misused(verb, sentence), "{line}");
     }
+}
+
+/// All commands call this game or seat count bad use.
+fn all_misused(game: &str, seats: &str, d: &str, sentence: &str) {
+    parts_misused(game, seats, d, sentence);
+    assert_eq!(run(["f64", game, seats, "nowhere.txt"]), misused("f64", sentence));
 }
 
 /// A refused table: nothing on stdout, the sentence with the file on stderr.
@@ -85,11 +91,11 @@ fn seat_counts_are_refused_with_2_and_3() {
 #[test]
 fn parts_per_set_are_refused_with_6() {
     for d in ["0", "65", "256", "257", "4294967297", "18446744073709551615", ABOVE_64_BITS, "18446744073709551617"] {
-        all_misused("kuhn", "2", d, &format!("D is '{d}': {PARTS}"));
-        all_misused("leduc", "2", d, &format!("D is '{d}': {PARTS}"));
+        parts_misused("kuhn", "2", d, &format!("D is '{d}': {PARTS}"));
+        parts_misused("leduc", "2", d, &format!("D is '{d}': {PARTS}"));
     }
-    all_misused("kuhn", "5", "17", &format!("D is '17': {PARTS}"));
-    all_misused("kuhn", "6", "64", &format!("D is '64': {PARTS}"));
+    parts_misused("kuhn", "5", "17", &format!("D is '17': {PARTS}"));
+    parts_misused("kuhn", "6", "64", &format!("D is '64': {PARTS}"));
 }
 
 #[test]
@@ -108,7 +114,7 @@ fn seats_are_refused_with_5() {
 fn what_is_no_number_is_bad_use() {
     for word in ["two", "-1", "+2", "2.0", "2^64", "0x2"] {
         all_misused("kuhn", word, "1", &format!("SEATS is '{word}', and a whole number is needed"));
-        all_misused("kuhn", "2", word, &format!("D is '{word}', and a whole number is needed"));
+        parts_misused("kuhn", "2", word, &format!("D is '{word}', and a whole number is needed"));
     }
     let seat = run_line("reply kuhn 2 1 samples/always-pass.txt -1");
     assert_eq!(seat, misused("reply", "SEAT is '-1', and a whole number is needed"));
@@ -116,7 +122,7 @@ fn what_is_no_number_is_bad_use() {
 
 #[test]
 fn command_lines_that_say_too_little_or_too_much_are_bad_use() {
-    let names = "evaluate, ladder, reply, template";
+    let names = "evaluate, ladder, reply, template, f64";
     let all = |sentence: String| Run {
         status: 2,
         out: String::new(),
@@ -127,6 +133,8 @@ fn command_lines_that_say_too_little_or_too_much_are_bad_use() {
     assert_eq!(run([""]), all(format!("'' is no command: {names}")));
     assert_eq!(run_line("evaluate kuhn 2 1"), misused("evaluate", "TABLE is missing"));
     assert_eq!(run_line("reply kuhn 2 1 samples/always-pass.txt"), misused("reply", "SEAT is missing"));
+    assert_eq!(run_line("f64 kuhn 2"), misused("f64", "PROFILE is missing"));
+    assert_eq!(run_line("f64 kuhn 2 1 p"), misused("f64", "'p' is one argument too many"));
     let surplus = run_line("reply kuhn 2 1 samples/always-pass.txt 0 1");
     assert_eq!(surplus, misused("reply", "'1' is one argument too many"));
     let option = run_line("evaluate kuhn 2 1 --fast");
@@ -176,6 +184,33 @@ fn files_that_hold_something_else_are_told_with_the_line() {
     all_refused(&table("bytes.txt", b"1 0\n\xff\xfe"), ":2: this is not text: the byte 255 is not UTF-8");
     all_refused(&table("nul.txt", b"1 0\0"), ":1: this is not text: it has the control character 0");
     all_refused(&table("escape.txt", b"# \x1b[31m\n"), ":1: this is not text: it has the control character 27");
+}
+
+#[test]
+fn profiles_are_refused_with_7_or_told_with_the_line() {
+    let given = |name: &str, bytes: &[u8], behind: &str| {
+        let file = table(name, bytes);
+        assert_eq!(run(["f64", "kuhn", "2", &file]), refused(&format!("{file}{behind}")));
+    };
+    let has = |count: usize| format!("{LENGTH}: {count} numbers, and Kuhn with 2 seats has 24 entries");
+    given("no-profile.txt", b"", &format!(": {}", has(0)));
+    given("short-profile.txt", "NaN\n".repeat(23).as_bytes(), &format!(":23: {}", has(23)));
+    given("long-profile.txt", "0.5 inf\n".repeat(13).as_bytes(), &format!(":13: {}", has(26)));
+    let needed = "is not a number, and a decimal number, inf, -inf or NaN is needed";
+    given("word-profile.txt", b"0.5 0.5\n0.5 half", &format!(":2: 'half' {needed}"));
+    given("comma-profile.txt", b"# a\r\n0,5 0,5", &format!(":2: '0,5' {needed}"));
+    given("fraction-profile.txt", b"1/3 2/3", &format!(":1: '1/3' {needed}"));
+    given("bytes-profile.txt", b"0.5\n\xff\xfe", ":2: this is not text: the byte 255 is not UTF-8");
+    given("nul-profile.txt", b"0.5\0", ":1: this is not text: it has the control character 0");
+}
+
+#[test]
+fn profiles_that_are_no_file_are_told() {
+    assert_eq!(run_line("f64 kuhn 2 nowhere.txt"), refused("nowhere.txt: there is no such file"));
+    assert_eq!(run_line("f64 kuhn 2 samples"), refused("samples: this is a folder, not a profile"));
+    let endless = "/dev/zero: this is no profile: it has more than 16777216 bytes";
+    assert_eq!(run_line("f64 leduc 2 /dev/zero"), refused(endless));
+    assert_eq!(run(["f64", "kuhn", "2", ""]), refused("'': there is no such file"));
 }
 
 #[test]

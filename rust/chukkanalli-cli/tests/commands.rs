@@ -170,6 +170,74 @@ fn a_template_is_a_table_of_its_game() {
 }
 
 #[test]
+fn f64_prints_the_five_values_with_all_their_digits() {
+    let text = "\
+samples/uniform-profile.txt: Kuhn with 2 seats, chips per hand in f64
+
+seat 0 best response value  0.5
+seat 1 best response value  0.4166666666666666
+seat 0 worth                0.12500000000000003
+seat 1 worth                -0.12500000000000003
+NashConv                    0.9166666666666666
+exploitability              0.4583333333333333
+";
+    assert_eq!(run_line("f64 kuhn 2 samples/uniform-profile.txt"), prints(text));
+}
+
+#[test]
+fn f64_takes_numbers_of_any_kind() {
+    let infinite = table("infinite.txt", "inf 0\n".to_string() + &"1e0 -0.0 # PASS\n".repeat(11));
+    let text = format!(
+        "\
+{infinite}: Kuhn with 2 seats, chips per hand in f64
+
+seat 0 best response value  1.0
+seat 1 best response value  inf
+seat 0 worth                -inf
+seat 1 worth                inf
+NashConv                    NaN
+exploitability              NaN
+"
+    );
+    assert_eq!(run(["f64", "kuhn", "2", &infinite]), prints(&text));
+    let tiny = table("tiny.txt", "1e-300 nan\n".repeat(12));
+    let out = run(["f64", "kuhn", "2", &tiny]).out;
+    assert!(out.lines().skip(2).all(|line| line.ends_with(" NaN")), "{out}");
+    let small = table("small.txt", "1e-30 0\n".repeat(12));
+    let out = run(["f64", "kuhn", "2", &small]).out;
+    assert!(out.contains("\nseat 0 best response value  1e-30\n"), "{out}");
+}
+
+#[test]
+fn f64_takes_a_table_with_d_1_in_every_game() {
+    for (game, seats) in [("kuhn", 3), ("kuhn", 4), ("kuhn", 5), ("kuhn", 6), ("leduc", 2)] {
+        let file = table(&format!("f64-{game}-{seats}.txt"), run_line(&format!("template {game} {seats} 1")).out);
+        let values = run(["f64", game, &seats.to_string(), &file]);
+        assert_eq!((values.status, values.err.as_str()), (0, ""));
+        assert_eq!(values.out.lines().count(), 2 + 2 * seats + 2);
+        let exact = run(["evaluate", game, &seats.to_string(), "1", &file]).out;
+        let last = |text: &str| text.lines().find(|line| line.starts_with("NashConv")).map(number_at_the_end).unwrap();
+        assert!((last(&values.out) - last(&exact)).abs() < 1e-8, "{}{exact}", values.out);
+    }
+}
+
+fn number_at_the_end(line: &str) -> f64 {
+    line.rsplit(' ').next().unwrap().parse().unwrap()
+}
+
+#[test]
+fn byte_order_marks_and_line_ends_change_nothing_in_a_profile() {
+    let plain = "# half\n".to_string() + &"0.5 0.5 # a set\n".repeat(12);
+    let values = |file: &str| run(["f64", "kuhn", "2", file]).out.lines().skip(1).collect::<Vec<_>>().join("\n");
+    let expected = values("samples/uniform-profile.txt");
+    assert!(expected.contains("NashConv"));
+    assert_eq!(values(&table("half.txt", &plain)), expected);
+    assert_eq!(values(&table("half-crlf.txt", plain.replace('\n', "\r\n"))), expected);
+    assert_eq!(values(&table("half-bom.txt", format!("\u{feff}{plain}"))), expected);
+    assert_eq!(values(&table("half-one-line.txt", "0.5 ".repeat(24).trim_end())), expected);
+}
+
+#[test]
 fn byte_order_marks_and_line_ends_change_nothing() {
     let plain = "# all PASS\n".to_string() + &"1 0 # a set\n".repeat(12);
     let figures =
@@ -226,6 +294,9 @@ fn help_is_there_for_each_and_for_all() {
         assert_eq!((help.status, help.err.as_str()), (0, ""));
         assert!(help.out.starts_with(&format!("chukkanalli {command} GAME SEATS D")));
     }
+    let help = run_line("f64 --help");
+    assert_eq!((help.status, help.err.as_str()), (0, ""));
+    assert!(help.out.starts_with("chukkanalli f64 GAME SEATS PROFILE\n"));
 }
 
 #[test]

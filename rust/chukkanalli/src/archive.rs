@@ -57,6 +57,15 @@ pub struct Summed {
     pub units: u64,
 }
 
+/// What a call in f64 answers.
+#[repr(C)]
+#[derive(Clone, Copy, Debug)]
+pub struct Valued {
+    pub refusal: u64,
+    pub count: u64,
+    pub values: [f64; 6],
+}
+
 extern "C" {
     pub fn chukkanalli_kuhn_validate(seats: u64) -> u64;
     pub fn chukkanalli_kuhn_initial_state(seats: u64) -> Moved<KuhnPosition>;
@@ -140,6 +149,48 @@ extern "C" {
         table: *const u8,
         table_len: usize,
     ) -> Summed;
+
+    pub fn chukkanalli_best_response_value(
+        game: u64,
+        seats: u64,
+        work: *mut u64,
+        work_len: usize,
+        seat: u64,
+        profile: *const f64,
+        profile_len: usize,
+    ) -> Valued;
+    pub fn chukkanalli_best_response_values(
+        game: u64,
+        seats: u64,
+        work: *mut u64,
+        work_len: usize,
+        profile: *const f64,
+        profile_len: usize,
+    ) -> Valued;
+    pub fn chukkanalli_profile_values(
+        game: u64,
+        seats: u64,
+        work: *mut u64,
+        work_len: usize,
+        profile: *const f64,
+        profile_len: usize,
+    ) -> Valued;
+    pub fn chukkanalli_nash_conv(
+        game: u64,
+        seats: u64,
+        work: *mut u64,
+        work_len: usize,
+        profile: *const f64,
+        profile_len: usize,
+    ) -> Valued;
+    pub fn chukkanalli_exploitability(
+        game: u64,
+        seats: u64,
+        work: *mut u64,
+        work_len: usize,
+        profile: *const f64,
+        profile_len: usize,
+    ) -> Valued;
 }
 
 /// Ok for 0, else the refusal of the number.

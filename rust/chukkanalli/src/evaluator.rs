@@ -10,15 +10,16 @@ use crate::{
 /// The words of work memory for each node of a tree.
 const WORDS: usize = 12;
 
-/// Evaluates tables of one game. It holds the work memory, allocated to size once and used by every call; a thread takes one of its own.
+/// Evaluates tables and profiles of one game. It holds the work memory, allocated to size once and used by every call; a thread takes one of its own.
 ///
 /// A table lists the parts of each action, one byte each, set after set in the order of [`Evaluator::sets`]; in each set they add up to D,
-/// which is 1 to 64, for Kuhn with 5 and 6 seats 1 to 16. Of U units, one chip per hand is worth U.
+/// which is 1 to 64, for Kuhn with 5 and 6 seats 1 to 16. Of U units, one chip per hand is worth U. A profile has an f64 for each of the
+/// same entries, of any bits.
 #[derive(Debug)]
 pub struct Evaluator {
     game: Game,
     counts: Counts,
-    work: Vec<u64>,
+    pub(crate) work: Vec<u64>,
 }
 
 /// The most that any table is worth to a seat which differs from the given one in that seat's sets only, and the reply that is worth it.

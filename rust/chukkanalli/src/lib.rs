@@ -1,5 +1,5 @@
 //! Kuhn and Leduc poker by proved calls: the rules, the saved-position checks, the listing of information sets, and the evaluation of
-//! strategy tables in whole units.
+//! strategy tables in whole units and of profiles in f64.
 //!
 //! The calls are those of libchukkanalli.a, each proved equal to a definition of the game on every input; this crate is safe Rust around
 //! them, and is tested, not proved. Every function is defined on every input. What a call cannot take it refuses, with document 01's
@@ -20,6 +20,9 @@
 //! let conv = evaluator.nash_conv_units(1, &always_pass)?;
 //! assert_eq!((conv.nash_conv, conv.units), (12, 6));
 //! assert_eq!(evaluator.worths(2, &always_pass), Err(Refusal::Sum));
+//!
+//! let always_pass = [1.0, 0.0].repeat(evaluator.counts().sets);
+//! assert_eq!(evaluator.nash_conv(&always_pass)?, 2.0);
 //! # Ok::<(), Refusal>(())
 //! ```
 
@@ -34,6 +37,8 @@ mod refusal;
 mod archive;
 #[cfg(feature = "archive")]
 mod evaluator;
+#[cfg(feature = "archive")]
+mod floats;
 
 #[cfg(feature = "archive")]
 pub use evaluator::{BestReply, Evaluator, NashConv};
@@ -41,5 +46,5 @@ pub use game::{Counts, Game};
 pub use info_set::{InfoSet, RECORD};
 pub use kuhn::{KuhnPoker, KuhnPosition};
 pub use leduc::{LeducPoker, LeducPosition};
-pub use per_seat::{Payoffs, PerSeat, Worths};
+pub use per_seat::{Payoffs, PerSeat, Values, Worths};
 pub use refusal::Refusal;

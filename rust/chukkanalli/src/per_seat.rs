@@ -1,37 +1,40 @@
-//! A whole number for each seat.
+//! A number for each seat.
 
 use std::fmt;
 use std::ops::Deref;
 
-/// A whole number for each seat, as a slice as long as there are seats; at most N.
+/// A number for each seat, as a slice as long as there are seats; at most N.
 #[derive(Clone, Copy, PartialEq, Eq, Hash)]
-pub struct PerSeat<const N: usize> {
+pub struct PerSeat<T, const N: usize> {
     seats: usize,
-    numbers: [i64; N],
+    numbers: [T; N],
 }
 
 /// What a table is worth to each seat, in units.
-pub type Worths = PerSeat<6>;
+pub type Worths = PerSeat<i64, 6>;
 
 /// What each seat gains by a hand, in chips.
-pub type Payoffs = PerSeat<10>;
+pub type Payoffs = PerSeat<i64, 10>;
 
-impl<const N: usize> PerSeat<N> {
+/// What a profile is worth to each seat, or the best response value of each, in chips per hand.
+pub type Values = PerSeat<f64, 6>;
+
+impl<T, const N: usize> PerSeat<T, N> {
     #[cfg(feature = "archive")]
-    pub(crate) fn new(count: u64, numbers: [i64; N]) -> Self {
+    pub(crate) fn new(count: u64, numbers: [T; N]) -> Self {
         PerSeat { seats: count as usize, numbers }
     }
 }
 
-impl<const N: usize> Deref for PerSeat<N> {
-    type Target = [i64];
+impl<T, const N: usize> Deref for PerSeat<T, N> {
+    type Target = [T];
 
-    fn deref(&self) -> &[i64] {
+    fn deref(&self) -> &[T] {
         &self.numbers[..self.seats]
     }
 }
 
-impl<const N: usize> fmt::Debug for PerSeat<N> {
+impl<T: fmt::Debug, const N: usize> fmt::Debug for PerSeat<T, N> {
     fn fmt(&self, f: &mut fmt::Formatter<'_>) -> fmt::Result {
         f.debug_list().entries(self.iter()).finish()
     }

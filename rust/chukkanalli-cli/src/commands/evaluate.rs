@@ -21,7 +21,7 @@ struct Evaluation {
 type Outcome = Result<Evaluation, Fault>;
 
 pub fn run(setting: &Setting, tables: &[PathBuf], jobs: Option<u64>, console: &mut Console) -> Result<u8, Stop> {
-    let first = game::evaluator(Verb::Evaluate, setting, None)?;
+    let first = game::evaluator_of_parts(Verb::Evaluate, setting, None)?;
     let (game, d) = (first.game(), setting.d.value);
     let calls = 2 + game.seats() as usize;
     console.expect_calls(calls * tables.len());

@@ -1,11 +1,11 @@
-//! GAME SEATS D: every refusal of them comes from the proved calls.
+//! GAME SEATS and D: every refusal of them comes from the proved calls.
 
 use std::thread;
 
 use chukkanalli::{Evaluator, Game, Refusal};
 
 use super::Stop;
-use crate::args::{Misuse, Number, Setting, Verb};
+use crate::args::{Asked, Misuse, Number, Setting, Verb};
 use crate::reader::quoted;
 
 /// The threads at most, whatever is asked for: each takes memory of its own.
@@ -20,26 +20,32 @@ fn number_of(name: &str) -> u64 {
     }
 }
 
-/// The evaluator of a setting, once D and for a reply the seat are fit for its game.
-pub fn evaluator(verb: Verb, setting: &Setting, seat: Option<&Number>) -> Result<Evaluator, Stop> {
-    let refused = |name: &str, word: &str, refusal: Refusal| {
-        let sentence = format!("{name} is {}: {refusal}", quoted(word));
-        Stop::Misuse(Misuse::of(verb, sentence))
-    };
-    let seats = &setting.seats;
-    let game = Game::by_number(number_of(&setting.game), seats.value).map_err(|refusal| match refusal {
-        Refusal::Game => refused("GAME", &setting.game, refusal),
-        _ => refused("SEATS", &seats.word, refusal),
+/// What is said of a word of the command line that is refused.
+fn refused(verb: Verb, name: &str, word: &str, refusal: Refusal) -> Stop {
+    Stop::Misuse(Misuse::of(verb, format!("{name} is {}: {refusal}", quoted(word))))
+}
+
+/// The evaluator of a game.
+pub fn evaluator(verb: Verb, asked: &Asked) -> Result<Evaluator, Stop> {
+    let seats = &asked.seats;
+    let game = Game::by_number(number_of(&asked.game), seats.value).map_err(|refusal| match refusal {
+        Refusal::Game => refused(verb, "GAME", &asked.game, refusal),
+        _ => refused(verb, "SEATS", &seats.word, refusal),
     })?;
-    let mut evaluator = Evaluator::new(game).map_err(|refusal| match refusal {
+    Evaluator::new(game).map_err(|refusal| match refusal {
         Refusal::Memory => Stop::NoMemory(refusal),
-        _ => refused("SEATS", &seats.word, refusal),
-    })?;
+        _ => refused(verb, "SEATS", &seats.word, refusal),
+    })
+}
+
+/// The evaluator of a setting, once D and for a reply the seat are fit for its game.
+pub fn evaluator_of_parts(verb: Verb, setting: &Setting, seat: Option<&Number>) -> Result<Evaluator, Stop> {
+    let mut evaluator = evaluator(verb, &setting.asked)?;
     // No game has a table without entries, so the table is refused where nothing before it is.
     let tried = evaluator.best_reply_into(seat.map_or(0, |seat| seat.value), setting.d.value, &[], &mut []);
     match (tried, seat) {
-        (Err(refusal @ Refusal::Seat), Some(seat)) => Err(refused("SEAT", &seat.word, refusal)),
-        (Err(refusal @ Refusal::Parts), _) => Err(refused("D", &setting.d.word, refusal)),
+        (Err(refusal @ Refusal::Seat), Some(seat)) => Err(refused(verb, "SEAT", &seat.word, refusal)),
+        (Err(refusal @ Refusal::Parts), _) => Err(refused(verb, "D", &setting.d.word, refusal)),
         _ => Ok(evaluator),
     }
 }

@@ -17,7 +17,7 @@ use crate::words::game_words;
 type Outcome = Result<NashConv, Fault>;
 
 pub fn run(setting: &Setting, tables: &[PathBuf], jobs: Option<u64>, console: &mut Console) -> Result<u8, Stop> {
-    let first = game::evaluator(Verb::Ladder, setting, None)?;
+    let first = game::evaluator_of_parts(Verb::Ladder, setting, None)?;
     let (game, d) = (first.game(), setting.d.value);
     console.expect_calls(tables.len());
     let work = |evaluator: &mut Evaluator, place: usize, teller: &Teller<Outcome>| {

@@ -1,6 +1,7 @@
 //! The commands, one a file.
 
 mod evaluate;
+mod floats;
 mod game;
 mod ladder;
 mod reply;
@@ -76,5 +77,6 @@ fn carry_out(args: &[OsString], console: &mut Console) -> Result<u8, Stop> {
         Request::Ladder { setting, tables, jobs } => ladder::run(&setting, &tables, jobs, console),
         Request::Reply { setting, table, seat } => reply::run(&setting, &table, &seat, console),
         Request::Template { setting } => template::run(&setting, console),
+        Request::F64 { asked, profile } => floats::run(&asked, &profile, console),
     }
 }

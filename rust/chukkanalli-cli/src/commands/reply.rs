@@ -19,7 +19,7 @@ struct Answer {
 }
 
 pub fn run(setting: &Setting, path: &Path, seat: &Number, console: &mut Console) -> Result<u8, Stop> {
-    let mut evaluator = game::evaluator(Verb::Reply, setting, Some(seat))?;
+    let mut evaluator = game::evaluator_of_parts(Verb::Reply, setting, Some(seat))?;
     let (name, d) = (file_name(path), setting.d.value);
     console.expect_calls(3);
     let answer =

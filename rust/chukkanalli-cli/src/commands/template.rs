@@ -8,7 +8,7 @@ use crate::console::Console;
 use crate::words::{action_words, game_words, set_words};
 
 pub fn run(setting: &Setting, console: &mut Console) -> Result<u8, Stop> {
-    let evaluator = game::evaluator(Verb::Template, setting, None)?;
+    let evaluator = game::evaluator_of_parts(Verb::Template, setting, None)?;
     console.print(&text(&evaluator, setting))?;
     Ok(DONE)
 }

@@ -134,7 +134,8 @@ struct Line {
 impl Line {
     fn draw(random: &mut Random, games: &[Listed], folder: &Path) -> Self {
         let mut line = Line {
-            verb: random.pick(&["evaluate", "evaluate", "ladder", "ladder", "reply", "reply", "template"]),
+            verb: random
+                .pick(&["evaluate", "evaluate", "ladder", "ladder", "reply", "reply", "template", "f64", "f64"]),
             game: if random.one_in(20) { "chess" } else { random.pick(&["kuhn", "leduc"]) },
             seats: mostly_fit(random, &SEATS),
             d: mostly_fit(random, &PARTS),
@@ -153,7 +154,7 @@ impl Line {
         line
     }
 
-    /// A table of the line's game, most of the time, valid or spoiled.
+    /// A table or profile of the line's game, most of the time, valid or spoiled.
     fn table(&self, random: &mut Random, games: &[Listed]) -> Vec<u8> {
         let own = model::game_of(games, self.game, value(self.seats)).ok();
         let listed = match own {
@@ -161,7 +162,10 @@ impl Line {
             _ => &games[random.below(3)],
         };
         let d = u64::try_from(value(self.d)).unwrap_or(1).min(200);
-        let mut bytes = texts::valid(random, listed, d);
+        let mut bytes = match self.verb {
+            "f64" if !random.one_in(8) => texts::valid_profile(random, listed),
+            _ => texts::valid(random, listed, d),
+        };
         if random.one_in(3) {
             texts::spoil(random, &mut bytes);
         }
@@ -169,7 +173,10 @@ impl Line {
     }
 
     fn args(&self, random: &mut Random, folder: &Path, spoiled: bool) -> Vec<OsString> {
-        let mut args: Vec<OsString> = [self.verb, self.game, self.seats, self.d].map(OsString::from).to_vec();
+        let mut args: Vec<OsString> = [self.verb, self.game, self.seats].map(OsString::from).to_vec();
+        if self.verb != "f64" {
+            args.push(OsString::from(self.d));
+        }
         if self.verb != "template" {
             args.extend((0..self.tables.len()).map(|k| path_of(folder, k).into_os_string()));
         }
@@ -194,7 +201,7 @@ impl Line {
         if self.verb == "reply" && value(self.seat) >= u128::from(listed.game.seats()) {
             return Err(5);
         }
-        if !(1..=u128::from(listed.most_parts())).contains(&value(self.d)) {
+        if self.verb != "f64" && !(1..=u128::from(listed.most_parts())).contains(&value(self.d)) {
             return Err(6);
         }
         Ok(listed)
@@ -208,12 +215,23 @@ impl Line {
                 assert!(ran.err.contains(&format!("refused with {number}: ")), "{number} of {args:?}: {ran:?}");
             }
             Ok(_) if self.verb == "template" => assert_eq!(ran.status, 0, "{args:?}: {ran:?}"),
+            Ok(listed) if self.verb == "f64" => self.hold_profile(listed, args, ran),
             Ok(listed) => self.hold_tables(listed, args, ran),
         }
     }
 
+    fn hold_profile(&self, listed: &Listed, args: &[OsString], ran: &Ran) {
+        let read = model::read(&self.tables[0], model::bits);
+        let fits = read.as_ref().is_ok_and(|(numbers, _)| numbers.len() == listed.entries());
+        assert_eq!(ran.status, u8::from(!fits), "{args:?}: {ran:?}");
+        assert_eq!(ran.err.contains("refused with 7: "), !fits && read.is_ok(), "{args:?}: {ran:?}");
+        if fits {
+            hold_values(listed.game.seats() as usize, args, &ran.out);
+        }
+    }
+
     fn hold_tables(&self, listed: &Listed, args: &[OsString], ran: &Ran) {
-        let outcome = |bytes: &Vec<u8>| match model::read(bytes) {
+        let outcome = |bytes: &Vec<u8>| match model::read(bytes, model::part) {
             Ok((parts, _)) => Some(listed.table_refusal(value(self.d) as u64, &parts)),
             Err(_) => None,
         };
@@ -233,6 +251,20 @@ impl Line {
             let jobs = [OsString::from("--jobs=3")];
             assert_eq!(&run(&[args, &jobs].concat()), ran, "threads change the outcome of {args:?}");
         }
+    }
+}
+
+/// Holds what is printed of a profile to itself: NashConv adds best response value − worth by seat, and exploitability divides it by the seats.
+fn hold_values(seats: usize, args: &[OsString], out: &str) {
+    let value = |line: &str| line.rsplit(' ').next().and_then(|word| word.parse().ok());
+    let values: Option<Vec<f64>> = out.lines().skip(2).map(value).collect();
+    let values = values.unwrap_or_else(|| panic!("no numbers of {args:?}: {out}"));
+    assert_eq!(values.len(), 2 * seats + 2, "{args:?}: {out}");
+    let gains = (0..seats).map(|seat| values[seat] - values[seats + seat]);
+    let nash_conv = gains.fold(0.0, |sum, gain| sum + gain);
+    for (printed, expected) in values[2 * seats..].iter().zip([nash_conv, nash_conv / seats as f64]) {
+        let both_nan = printed.is_nan() && expected.is_nan();
+        assert!(both_nan || printed.to_bits() == expected.to_bits(), "{expected:?} of {args:?}: {out}");
     }
 }
 

@@ -67,30 +67,49 @@ pub fn game_of<'a>(games: &'a [Listed], name: &str, seats: u128) -> Result<&'a L
     games.iter().find(|listed| listed.name() == name && u128::from(listed.game.seats()) == seats).ok_or(3)
 }
 
-/// The parts of a text with the line of each, or the line of its first fault.
-pub fn read(bytes: &[u8]) -> Result<(Vec<u8>, Vec<usize>), usize> {
+/// The numbers of a text with the line of each, or the line of its first fault.
+pub type Read<T> = Result<(Vec<T>, Vec<usize>), usize>;
+
+/// Reads a text whose words are numbers of some kind.
+pub fn read<T>(bytes: &[u8], number: impl Fn(&str) -> Option<T>) -> Read<T> {
     let bytes = if bytes.starts_with(b"\xEF\xBB\xBF") { &bytes[3..] } else { bytes };
     let lossy = String::from_utf8_lossy(bytes);
     if let Some(line) = first_odd(bytes, &lossy) {
         return Err(line);
     }
-    let (mut parts, mut lines) = (Vec::new(), Vec::new());
+    let (mut numbers, mut lines) = (Vec::new(), Vec::new());
     let joined = lossy.replace("\r\n", "\n").replace('\r', "\n");
     for (line, text) in (1..).zip(joined.split('\n')) {
-        let numbers = &text[..text.find('#').unwrap_or(text.len())];
-        for word in numbers.split(char::is_whitespace).filter(|word| !word.is_empty()) {
-            let mut value = Some(0u32);
-            for c in word.chars() {
-                value = value.zip(c.to_digit(10)).map(|(value, digit)| (10 * value + digit).min(1000));
-            }
-            match value {
-                Some(value @ 0..=255) => parts.push(value as u8),
-                _ => return Err(line),
-            }
+        let words = &text[..text.find('#').unwrap_or(text.len())];
+        for word in words.split(char::is_whitespace).filter(|word| !word.is_empty()) {
+            numbers.push(number(word).ok_or(line)?);
             lines.push(line);
         }
     }
-    Ok((parts, lines))
+    Ok((numbers, lines))
+}
+
+/// The part that a word is.
+pub fn part(word: &str) -> Option<u8> {
+    let mut value = 0;
+    for c in word.chars() {
+        value = (10 * value + c.to_digit(10)?).min(1000);
+    }
+    u8::try_from(value).ok()
+}
+
+/// The bits of the f64 that a word is: a sign or none, then a name in letters of either case, or digits with at most one point among them and at
+/// most one exponent behind.
+pub fn bits(word: &str) -> Option<u64> {
+    let digits = |text: &str| text.bytes().all(|byte| byte.is_ascii_digit());
+    let unsigned = |text: &str| text.strip_prefix(['+', '-']).unwrap_or(text).to_string();
+    let lower = unsigned(word).to_ascii_lowercase();
+    let (mantissa, exponent) = lower.split_once('e').map_or((&lower[..], "0".to_string()), |(m, e)| (m, unsigned(e)));
+    let (whole, fraction) = mantissa.split_once('.').unwrap_or((mantissa, ""));
+    let has_digits = !(whole.is_empty() && fraction.is_empty() || exponent.is_empty());
+    let decimal = has_digits && digits(whole) && digits(fraction) && digits(&exponent);
+    let known = decimal || ["inf", "infinity", "nan"].contains(&&lower[..]);
+    known.then(|| word.parse::<f64>().expect("a number in Rust's form").to_bits())
 }
 
 /// The line of the first byte that is not UTF-8, if there is one, else of the first control character.

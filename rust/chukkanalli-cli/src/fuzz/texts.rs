@@ -1,12 +1,14 @@
 //! Random texts for the reader.
 
-use chukkanalli_cli::reader;
+use std::fmt::Debug;
 
-use crate::model::{self, Listed};
+use chukkanalli_cli::reader::{self, Entry};
+
+use crate::model::{self, Listed, Read};
 use crate::random::Random;
 
-/// What tables are made of, and what they are spoiled with.
-const PIECES: [&[u8]; 40] = [
+/// What tables and profiles are made of, and what they are spoiled with.
+const PIECES: [&[u8]; 60] = [
     b"0",
     b"1",
     b"2",
@@ -47,6 +49,26 @@ const PIECES: [&[u8]; 40] = [
     b"\xD9\xA1",
     b"\x0B",
     b"\xC3",
+    b"0.5",
+    b".5",
+    b"5.",
+    b".",
+    b"1e-3",
+    b"1E+2",
+    b"1e",
+    b"e5",
+    b"1e999",
+    b"-1e-999",
+    b"inf",
+    b"-INF",
+    b"Infinity",
+    b"infinit",
+    b"NaN",
+    b"-nan",
+    b"0.1.2",
+    b"1_0",
+    b"0.5f64",
+    b"2.2250738585072011e-308",
 ];
 
 /// A text of pieces and random bytes.
@@ -82,6 +104,21 @@ pub fn valid(random: &mut Random, listed: &Listed, d: u64) -> Vec<u8> {
     text.into_bytes()
 }
 
+/// A profile of a game, of any numbers.
+pub fn valid_profile(random: &mut Random, listed: &Listed) -> Vec<u8> {
+    let mut text = String::new();
+    let end = random.pick(&["\n", "\r\n", "\r", "  ", " # set\n"]);
+    let of_any_bits = random.one_in(4);
+    for &count in &listed.actions {
+        for _ in 0..count {
+            let number = if of_any_bits { f64::from_bits(random.draw()) } else { random.below(13) as f64 / 12.0 };
+            text += &if random.one_in(2) { format!("{number:?} ") } else { format!("{number} ") };
+        }
+        text += end;
+    }
+    text.into_bytes()
+}
+
 /// A few bytes changed, taken out, put in or moved.
 pub fn spoil(random: &mut Random, bytes: &mut Vec<u8>) {
     for _ in 0..1 + random.below(3) {
@@ -106,34 +143,42 @@ pub fn spoil(random: &mut Random, bytes: &mut Vec<u8>) {
 }
 
 pub fn try_one(random: &mut Random, games: &[Listed]) {
-    let mut bytes = if random.one_in(3) {
-        let (listed, d) = (&games[random.below(2)], 1 + random.draw() % 64);
-        valid(random, listed, d)
-    } else {
-        soup(random)
+    let listed = &games[random.below(2)];
+    let mut bytes = match random.below(6) {
+        0 | 1 => {
+            let d = 1 + random.draw() % 64;
+            valid(random, listed, d)
+        }
+        2 => valid_profile(random, listed),
+        _ => soup(random),
     };
     if random.one_in(2) {
         spoil(random, &mut bytes);
     }
-    let expected = model::read(&bytes);
-    let got = read(&bytes);
-    assert_eq!(got, expected, "the reader on {:?}", String::from_utf8_lossy(&bytes));
-    let marked = [&b"\xEF\xBB\xBF"[..], &bytes].concat();
+    hold(&bytes, |bytes| read(bytes, |part: u8| part), model::part);
+    hold(&bytes, |bytes| read(bytes, f64::to_bits), model::bits);
+}
+
+/// Holds a reader to the model, on a text and on its like with a mark or other line ends.
+fn hold<T: Debug + PartialEq>(bytes: &[u8], read: impl Fn(&[u8]) -> Read<T>, number: impl Fn(&str) -> Option<T>) {
+    let got = read(bytes);
+    assert_eq!(got, model::read(bytes, number), "the reader on {:?}", String::from_utf8_lossy(bytes));
+    let marked = [&b"\xEF\xBB\xBF"[..], bytes].concat();
     if !bytes.starts_with(b"\xEF\xBB\xBF") {
-        assert_eq!(read(&marked), got, "a mark before {:?}", String::from_utf8_lossy(&bytes));
+        assert_eq!(read(&marked), got, "a mark before {:?}", String::from_utf8_lossy(bytes));
     }
     if !bytes.contains(&b'\r') {
         let ends: Vec<u8> = bytes.iter().flat_map(|&b| if b == b'\n' { vec![b'\r', b'\n'] } else { vec![b] }).collect();
-        assert_eq!(read(&ends), got, "other line ends in {:?}", String::from_utf8_lossy(&bytes));
+        assert_eq!(read(&ends), got, "other line ends in {:?}", String::from_utf8_lossy(bytes));
     }
 }
 
 /// The reader's answer in the model's form.
-fn read(bytes: &[u8]) -> Result<(Vec<u8>, Vec<usize>), usize> {
-    match reader::read(bytes) {
-        Ok(table) => {
-            let lines = (0..table.parts.len()).map(|entry| table.line_of(entry)).collect();
-            Ok((table.parts, lines))
+fn read<E: Entry + Copy, T>(bytes: &[u8], form: impl Fn(E) -> T) -> Read<T> {
+    match reader::read::<E>(bytes) {
+        Ok(entries) => {
+            let lines = (0..entries.numbers.len()).map(|entry| entries.line_of(entry)).collect();
+            Ok((entries.numbers.into_iter().map(form).collect(), lines))
         }
         Err(fault) => Err(fault.line.expect("a fault of a text is in a line")),
     }
