@@ -125,11 +125,11 @@ module _ {j : ℕ} (l : j < 2) where
   other-seat = omega arith
 
 -- of the second round, after one raise and after two
-pub raised-few : {n x : ℕ} → n ≤ 168 → x ≤ 5 → (n ≤ 4656) × (2 * n + 84 ≤ 420) × (x ≤ 13) × (x + 4 ≤ 9) × (x + 4 ≤ 13)
-raised-few h g = (omega arith, omega arith, omega arith, omega arith, omega arith)
+pub raised-few : {n x : ℕ} → n ≤ 168 → x ≤ 5 → (n ≤ 4656) × (2 * n + 84 ≤ 420) × (x ≤ 13)
+raised-few h g = (omega arith, omega arith, omega arith)
 
-pub reraised-few : {n x : ℕ} → n ≤ 420 → x ≤ 9 → (n ≤ 4656) × (x ≤ 13) × (x + 4 ≤ 13)
-reraised-few h g = (omega arith, omega arith, omega arith)
+pub reraised-few : {n x : ℕ} → n ≤ 420 → x ≤ 9 → (n ≤ 4656) × (x ≤ 13)
+reraised-few h g = (omega arith, omega arith)
 
 -- of the first
 pub once-few : {n : ℕ} → n ≤ 1848 → (2 * n + 462 ≤ 9702) × (2 * n + 924 ≤ 4620) × (n + 36 ≤ 4656)
