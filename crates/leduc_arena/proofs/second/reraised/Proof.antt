@@ -1,5 +1,4 @@
 -- FOLD and CALL after two raises of the second round. Assumes nothing.
-use Prim.Native.Nat.{_-_}
 use native.Mathlib.Nat as NatL
 use native.Mathlib.Bridge.{le-by-compare, IsLe}
 use native.Mathlib.Omega.{arith}
