@@ -1,16 +1,17 @@
--- The builder's tree and the rules' agree: node by node the same seat, code and payoffs, which is computed over the whole tree. Assumes nothing.
+-- The builder's tree and the rules' agree, node by node: the same seat, code and payoffs, and a code tells its set. That is computed over the whole tree. Assumes nothing.
 use mathlib.Core.Path.{_≡_, refl, sym, ap, ap₂, _∙_, subst}
-use mathlib.Core.Bool.{Bool, true, false}
-use Prim.Native.Nat.{ℕ, zero, suc, _+_, _≤_, _<_}
+use mathlib.Core.Bool.{Bool, true, false, cond}
+use Prim.Native.Nat.{ℕ, zero, suc, _+_, _/_, _%_, _≤_, _<_}
 use native.Mathlib.Omega.{arith}
-use lib.Dec.{eqb}
+use lib.Dec.{eqb, ltb, leb}
 use lib.IntN.{ℤ, pos, negsuc}
-use mathlib.Core.List.{List}
-use lib.ListN.{length}
+use mathlib.Core.List.{List, [], _∷_, _++_}
+use lib.ListN.{length, getD}
 use borrow.Author.Tests.{eqb-true}
 use Rattle.finite.specs.Finite.{and, or, some, those, has}
 use Rattle.finite.proofs.Tests.{true≢false, and-left, and-right}
-use Rattle.game.specs.Tree.{Tree, end, chance, decide, Trees, nil, cons, fan}
+use Rattle.game.specs.Tree.{Key, Tree, end, chance, decide, Trees, nil, cons, fan, Every, EveryAll}
+use Rattle.game.specs.Reply.{same}
 use Rattle.game.specs.Sets.{size, sizes}
 use Rattle.arena.specs.Held.{Says, Held, HeldAll}
 use Rattle.arena.specs.Index.{unlinked}
@@ -22,7 +23,7 @@ use Rattle.leduc_rules.specs.Rules.{public-due, due, key, matched, bet, seated,
 use Rattle.leduc_rules.specs.Stakes.{ante, raise₁, raise₂}
 use Rattle.leduc_tree.specs.Tree.{next, each, below, leducTree}
 use Rattle.leduc_tree.proofs.Facts.{counts}
-use Rattle.leduc_arena.specs.Codes.{numberFrom, codeFrom, codeOf}
+use Rattle.leduc_arena.specs.Codes.{numberFrom, codeFrom, codeOf, codes}
 use Rattle.leduc_arena.specs.Layout.{plain, byteFor, endTree, reraisedTree, raisedTree, calledTree, roundTree, only, rowTo, showdownFor, secondTree, publicTree, firstTree, dealTree, dealsTree}
 
 -- ---- two payoffs are the same
@@ -39,9 +40,34 @@ equal-true (pos a) (negsuc b) e = true≢false false e refl
 equal-true (negsuc a) (pos b) e = true≢false false e refl
 equal-true (negsuc a) (negsuc b) e = ap negsuc (eqb-true a b e)
 
+-- ---- a code read back
+-- the history of a number, of at most so many actions: its last is 1 at an odd number, 2 at an even one
+unfoldable historyOf : ℕ → ℕ → List ℕ
+historyOf zero n = []
+historyOf (suc k) zero = []
+historyOf (suc k) (suc n) = historyOf k (n / 2) ++ ((1 + n % 2) ∷ [])
+
+-- the key of a code
+unfoldable pub keyOf : ℕ → Key
+unfolding historyOf closes
+keyOf x =
+    let h₁ : List ℕ = historyOf 4 (x / 462) in
+    let h₂ : List ℕ = historyOf 4 (x / 42 % 11) in
+    let p : ℕ = x / 6 % 7 in
+    length (cond (closes h₁) h₂ h₁) % 2 ∷ x % 6 ∷ cond (eqb p 6) 255 p ∷ length h₁ ∷ h₁ ++ (length h₂ ∷ h₂)
+
+-- code x is small and tells key k, the key tells seat j, and there is an action
+unfoldable pub told : (x j : ℕ) → Key → ℕ → Bool
+unfolding keyOf
+told x j k n = and (ltb x codes) (and (same (keyOf x) k) (and (eqb j (getD k 0 0)) (leb 1 n)))
+
+-- a decision's code does
+abbrev pub Told : ℕ → Key → ℕ → Type 0
+Told j k n = told (codeOf j k) j k n ≡ true
+
 -- ---- two trees agree
 unfoldable mutual
-  unfolding equal
+  unfolding equal told fan
 
   agrees : Tree → Tree → Bool
   agrees (end p) (end q) = and (equal (p 0) (q 0)) (equal (p 1) (q 1))
@@ -52,7 +78,7 @@ unfoldable mutual
   agrees (chance f) (decide i l g) = false
   agrees (decide j k f) (end q) = false
   agrees (decide j k f) (chance g) = false
-  agrees (decide j k f) (decide i l g) = and (eqb j i) (and (eqb (codeOf j k) (plain i l)) (agreesAll f g))
+  agrees (decide j k f) (decide i l g) = and (eqb j i) (and (eqb (codeOf j k) (plain i l)) (and (told (plain i l) j k (fan f)) (agreesAll f g)))
 
   agreesAll : Trees → Trees → Bool
   agreesAll nil nil = true
@@ -61,23 +87,25 @@ unfoldable mutual
   agreesAll (cons t f) (cons u g) = and (agrees t u) (agreesAll f g)
 
 all-agree : agrees (leducTree ante raise₁ raise₂) dealsTree ≡ true
-unfolding agrees equal codeOf codeFrom numberFrom leducTree below next each and or some those has ends-with folded closes behind raises may options in-play turn ended left remaining public-due due key matched bet seated after-round contribution folds pairs beats wins payoff byteFor endTree reraisedTree raisedTree calledTree roundTree only rowTo join showdownFor secondTree publicTree firstTree dealTree dealsTree
+unfolding agrees equal told same keyOf historyOf fan codeOf codeFrom numberFrom leducTree below next each and or some those has ends-with folded closes behind raises may options in-play turn ended left remaining public-due due key matched bet seated after-round contribution folds pairs beats wins payoff byteFor endTree reraisedTree raisedTree calledTree roundTree only rowTo join showdownFor secondTree publicTree firstTree dealTree dealsTree
 all-agree = refl
 
 -- ---- what holds the one holds the other
--- t has as many nodes as u, and stands where u does
+-- t has as many nodes as u, stands where u does, and its codes tell its sets
 record Alike (t u : Tree) : Type 0 where
   nodes : size t ≡ size u
+  tells : Every Told t
   stands : (w : List ℕ) (a : ℕ) → Held 2 plain unlinked w a u → Held 2 codeOf unlinked w a t
 
 record AllAlike (f g : Trees) : Type 0 where
   nodes : sizes f ≡ sizes g
+  tell : EveryAll Told f
   count : fan f ≡ fan g
   stand : (w : List ℕ) (a : ℕ) → HeldAll 2 plain unlinked w a g → HeldAll 2 codeOf unlinked w a f
 
 end-alike : (p q : ℕ → ℤ) → p 0 ≡ q 0 → p 1 ≡ q 1 → Alike (end p) (end q)
-unfolding Held Says size
-end-alike p q e f = record { nodes = refl; stands = λ w a h. (h .0, λ i l. h .1 i l ∙ at i l) }
+unfolding Held Says size Every
+end-alike p q e f = record { nodes = refl; tells = tt; stands = λ w a h. (h .0, λ i l. h .1 i l ∙ at i l) }
   where
     at : (i : ℕ) → i < 2 → q i ≡ p i
     at zero l = sym e
@@ -85,27 +113,29 @@ end-alike p q e f = record { nodes = refl; stands = λ w a h. (h .0, λ i l. h .
     at (suc (suc i)) l = absurd (omega arith)
 
 chance-alike : (f g : Trees) → AllAlike f g → Alike (chance f) (chance g)
-unfolding Held Says size
-chance-alike f g h = record { nodes = ap suc (h .nodes); stands = λ w a s. ((s .0 .0, s .0 .1 ∙ ap (λ z. a + suc z) (sym (h .nodes))), h .stand w (suc a) (s .1)) }
+unfolding Held Says size Every
+chance-alike f g h = record { nodes = ap suc (h .nodes); tells = h .tell; stands = λ w a s. ((s .0 .0, s .0 .1 ∙ ap (λ z. a + suc z) (sym (h .nodes))), h .stand w (suc a) (s .1)) }
 
-decide-alike : (j i : ℕ) (k l : _) (f g : Trees) → j ≡ i → codeOf j k ≡ plain i l → AllAlike f g → Alike (decide j k f) (decide i l g)
-unfolding Held Says size
-decide-alike j i k l f g e c h = record {
+decide-alike : (j i : ℕ) (k l : Key) (f g : Trees) → j ≡ i → codeOf j k ≡ plain i l → told (plain i l) j k (fan f) ≡ true → AllAlike f g → Alike (decide j k f) (decide i l g)
+unfolding Held Says size Every
+decide-alike j i k l f g e c t h = record {
   nodes = ap suc (h .nodes);
+  tells = (ap (λ x. told x j k (fan f)) c ∙ t, h .tell);
   stands = λ w a s. let says = s .0 in ((says .0, says .1 ∙ sym e, says .2 ∙ sym (h .count), says .3 ∙ sym c, says .4 ∙ ap (λ z. a + suc z) (sym (h .nodes)), says .5), h .stand w (suc a) (s .1));
 }
 
 more-alike : (t u : Tree) (f g : Trees) → Alike t u → AllAlike f g → AllAlike (cons t f) (cons u g)
-unfolding Held size fan
+unfolding Held size fan Every
 more-alike t u f g s h = record {
   nodes = ap₂ _+_ (s .nodes) (h .nodes);
+  tell = (s .tells, h .tell);
   count = ap suc (h .count);
   stand = λ w a v. (s .stands w a (v .0), h .stand w (a + size t) (subst (λ z. HeldAll 2 plain unlinked w (a + z) g) (sym (s .nodes)) (v .1)));
 }
 
 none-alike : AllAlike nil nil
-unfolding Held size fan
-none-alike = record { nodes = refl; count = refl; stand = λ w a v. tt }
+unfolding Held size fan Every
+none-alike = record { nodes = refl; tell = tt; count = refl; stand = λ w a v. tt }
 
 mutual
   unfolding agrees
@@ -119,7 +149,7 @@ mutual
   agrees-alike (chance f) (decide i l g) e = true≢false false e refl
   agrees-alike (decide j k f) (end q) e = true≢false false e refl
   agrees-alike (decide j k f) (chance g) e = true≢false false e refl
-  agrees-alike (decide j k f) (decide i l g) e = decide-alike j i k l f g (eqb-true _ _ (and-left _ _ e)) (eqb-true _ _ (and-left _ _ (and-right _ _ e))) (all-alike f g (and-right _ _ (and-right _ _ e)))
+  agrees-alike (decide j k f) (decide i l g) e = decide-alike j i k l f g (eqb-true _ _ (and-left _ _ e)) (eqb-true _ _ (and-left _ _ (and-right _ _ e))) (and-left _ _ (and-right _ _ (and-right _ _ e))) (all-alike f g (and-right _ _ (and-right _ _ (and-right _ _ e))))
 
   all-alike : (f g : Trees) → agreesAll f g ≡ true → AllAlike f g
   all-alike nil nil e = none-alike
@@ -129,6 +159,10 @@ mutual
 
 trees-alike : Alike (leducTree ante raise₁ raise₂) dealsTree
 trees-alike = agrees-alike _ _ all-agree
+
+-- ---- the codes tell the sets of the rules' tree
+pub leduc-told : Every Told (leducTree ante raise₁ raise₂)
+leduc-told = trees-alike .tells
 
 -- ---- the builder's tree has 9457 nodes, and where it stands the rules' tree does
 deals-size : size dealsTree ≡ 9457

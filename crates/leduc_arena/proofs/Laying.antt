@@ -10,13 +10,13 @@ use lib.IntN.{pos, _-ℤ_}
 use lib.ListN.{length, set}
 use mir.Syntax.{w64}
 use mir.Val.{Fits}
-use Rattle.game.specs.Tree.{Key, Tree, end, chance, decide, Trees, nil, cons, fan}
+use Rattle.game.specs.Tree.{Key, Tree, chance, decide, Trees, nil, cons, fan}
 use Rattle.game.specs.Sets.{size, sizes}
 use Rattle.arena.specs.Words.{byteOf, chanceWord, decisionWord}
 use Rattle.arena.specs.Held.{Says}
 use Rattle.arena.specs.Built.{Built, Row, Room}
 use Rattle.arena.proofs.Packing.{kind-of, actor-of, actions-of, set-of, next-of, later-of, chance-kind, chance-next}
-use Rattle.arena.proofs.Building.{join, sizes-join, snoc, row-none, row-one, row-more, row-join, built-chance, built-decide, built-end}
+use Rattle.arena.proofs.Building.{sizes-join, snoc, row-none, row-one, row-more, row-join, built-chance, built-decide, built-end}
 use Rattle.leduc_arena.specs.Layout.{plain, byteFor, endTree, only, rowTo, Chosen}
 
 -- ---- an end
@@ -125,11 +125,11 @@ module _ {j : ℕ} (l : j < 2) where
   other-seat = omega arith
 
 -- of the second round, after one raise and after two
-pub raised-few : {n x : ℕ} → n ≤ 168 → x ≤ 5 → (n ≤ 4656) × (2 * n + 84 ≤ 420) × (x ≤ 13) × (x + 4 ≤ 9) × (x + 4 ≤ 13)
-raised-few h g = (omega arith, omega arith, omega arith, omega arith, omega arith)
+pub raised-few : {n x : ℕ} → n ≤ 168 → x ≤ 5 → (n ≤ 4656) × (2 * n + 84 ≤ 420) × (x ≤ 13)
+raised-few h g = (omega arith, omega arith, omega arith)
 
-pub reraised-few : {n x : ℕ} → n ≤ 420 → x ≤ 9 → (n ≤ 4656) × (x ≤ 13) × (x + 4 ≤ 13)
-reraised-few h g = (omega arith, omega arith, omega arith)
+pub reraised-few : {n x : ℕ} → n ≤ 420 → x ≤ 9 → (n ≤ 4656) × (x ≤ 13)
+reraised-few h g = (omega arith, omega arith)
 
 -- of the first
 pub once-few : {n : ℕ} → n ≤ 1848 → (2 * n + 462 ≤ 9702) × (2 * n + 924 ≤ 4620) × (n + 36 ≤ 4656)

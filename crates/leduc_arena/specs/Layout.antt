@@ -1,6 +1,6 @@
 -- Leduc's tree as the builder writes it: a decision's key is its code, and an end's payoffs are its bytes. Definitions only; nothing is assumed.
-use mathlib.Core.Bool.{Bool, true, false, not, cond}
 use mathlib.Core.Path.{_≡_}
+use mathlib.Core.Bool.{Bool, true, false, not, cond}
 use mathlib.Core.List.{List, [], _∷_}
 use Prim.Native.Nat.{ℕ, zero, suc, _+_, _*_, _-_, _/_, _<_}
 use lib.Dec.{eqb, ltb}

@@ -76,6 +76,6 @@ module _ (g : Game) (w : List ℕ) (h : Fit g w) where
 -- ---- Leduc's, step by step
 pub leduc-index : (u v x y : List ℕ) (r : ℕ) → 113484 ≤ length u → Built 2 codeOf 0 u v (leducTree ante raise₁ raise₂) r → Cleared 9457 21805 v x → Indexes 9457 10164 x y → Indexed 2 19621 y (leducTree ante raise₁ raise₂)
 leduc-index u v x y r l b c i = let s : size (leducTree ante raise₁ raise₂) ≡ 9457 = Leduc-facts.counts ante raise₁ raise₂ .0 in
-    i 2 codeOf (leducTree ante raise₁ raise₂) s (leduc-coded ante raise₁ raise₂ x
+    i 2 codeOf (leducTree ante raise₁ raise₂) s (leduc-coded x
     (held-same 2 codeOf unlinked v x 0 (leducTree ante raise₁ raise₂) (b .held) (λ j p q. c .kept .words j (inl (omega (arith, s)))))
     (λ j p. c .zero (9457 + j) (omega arith) (omega arith)) (omega (arith, c .kept .long, b .kept .long)))

@@ -1,7 +1,6 @@
 -- The hand of two cards, if they differ. Assumes nothing.
 use mathlib.Core.Path.{_≡_, refl}
 use mathlib.Core.Bool.{true, not}
-use Prim.Native.Nat.{_-_}
 use lib.Dec.{eqb}
 use borrow.Author.Tests.{eq-eqb, ne-eqb}
 use borrow.Author.Needs.{needs}

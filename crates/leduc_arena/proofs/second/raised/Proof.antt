@@ -1,7 +1,7 @@
 -- FOLD, CALL and RAISE after one raise of the second round. Assumes nothing.
-use Prim.Native.Nat.{_-_}
 use native.Mathlib.Nat as NatL
 use native.Mathlib.Bridge.{le-by-compare, IsLe}
+use native.Mathlib.Omega.{arith}
 use borrow.Author.Needs.{needs}
 use Rattle.leduc_arena.specs.Layout.{raisedTree}
 use Rattle.leduc_arena.proofs.Laying.{place-fits, room-one, room-two, room-three, three-fit, lays-three, fold-few, other-seat, raised-few}
@@ -23,7 +23,7 @@ end-requires c κs = (fold-few (c .before .before .pre .0 .3), raised-few (c .be
 
 end-requires-2 : tie.Need-end-requires-2
 unfolding raisedTree
-end-requires-2 c κs = (c .before .before .before .before .before .before .pre .0 .2, raised-few (c .before .before .before .before .before .before .pre .0 .4) (c .before .before .before .before .before .before .pre .0 .5) .4, room-two _ _ _ _ _ (c .before .before .before .end .ensures) (c .before .before .before .before .before .before .pre .1))
+end-requires-2 c κs = (c .before .before .before .before .before .before .pre .0 .2, omega arith, room-two _ _ _ _ _ (c .before .before .before .end .ensures) (c .before .before .before .before .before .before .pre .1))
 
 sub-reraised : tie.Need-sub-reraised
 sub-reraised c = search needs
@@ -36,7 +36,7 @@ add-reraised c = search needs
 
 reraised-requires : tie.Need-reraised-requires
 unfolding raisedTree
-reraised-requires c κs = ((c .before .before .before .before .before .before .before .before .before .before .pre .0 .0, c .before .before .before .before .before .before .before .before .before .before .pre .0 .1, c .before .before .before .before .before .before .before .before .before .before .pre .0 .2, other-seat (c .before .before .before .before .before .before .before .before .before .before .pre .0 .3), raised-few (c .before .before .before .before .before .before .before .before .before .before .pre .0 .4) (c .before .before .before .before .before .before .before .before .before .before .pre .0 .5) .1, raised-few (c .before .before .before .before .before .before .before .before .before .before .pre .0 .4) (c .before .before .before .before .before .before .before .before .before .before .pre .0 .5) .3), room-three _ _ _ _ _ (c .before .before .before .before .before .before .before .end .ensures) (c .before .before .before .end2 .ensures) _ (c .before .before .before .before .before .before .before .before .before .before .pre .1))
+reraised-requires c κs = ((c .before .before .before .before .before .before .before .before .before .before .pre .0 .0, c .before .before .before .before .before .before .before .before .before .before .pre .0 .1, c .before .before .before .before .before .before .before .before .before .before .pre .0 .2, other-seat (c .before .before .before .before .before .before .before .before .before .before .pre .0 .3), raised-few (c .before .before .before .before .before .before .before .before .before .before .pre .0 .4) (c .before .before .before .before .before .before .before .before .before .before .pre .0 .5) .1, omega arith), room-three _ _ _ _ _ (c .before .before .before .before .before .before .before .end .ensures) (c .before .before .before .end2 .ensures) _ (c .before .before .before .before .before .before .before .before .before .before .pre .1))
 
 choose-requires : tie.Need-choose-requires
 unfolding raisedTree IsLe

@@ -1,7 +1,7 @@
 -- FOLD and CALL after two raises of the second round. Assumes nothing.
-use Prim.Native.Nat.{_-_}
 use native.Mathlib.Nat as NatL
 use native.Mathlib.Bridge.{le-by-compare, IsLe}
+use native.Mathlib.Omega.{arith}
 use borrow.Author.Needs.{needs}
 use Rattle.leduc_arena.specs.Layout.{reraisedTree}
 use Rattle.leduc_arena.proofs.Laying.{place-fits, room-one, room-two, two-fit, lays-two, fold-few, reraised-few}
@@ -23,7 +23,7 @@ add-end-2 c = search needs
 
 end-requires-2 : tie.Need-end-requires-2
 unfolding reraisedTree
-end-requires-2 c κs = (c .before .before .before .before .before .before .pre .0 .2, reraised-few (c .before .before .before .before .before .before .pre .0 .4) (c .before .before .before .before .before .before .pre .0 .5) .2, room-two _ _ _ _ _ (c .before .before .before .end .ensures) (c .before .before .before .before .before .before .pre .1))
+end-requires-2 c κs = (c .before .before .before .before .before .before .pre .0 .2, omega arith, room-two _ _ _ _ _ (c .before .before .before .end .ensures) (c .before .before .before .before .before .before .pre .1))
 
 choose-requires : tie.Need-choose-requires
 unfolding reraisedTree IsLe

@@ -1,5 +1,4 @@
 -- The second round. Assumes nothing.
-use Prim.Native.Nat.{_-_}
 use native.Mathlib.Bridge.{le-by-compare, IsLe}
 use borrow.Author.Needs.{needs}
 use Rattle.leduc_arena.specs.Layout.{roundTree}
