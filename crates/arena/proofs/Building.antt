@@ -7,7 +7,7 @@ use native.Mathlib.Nat as NatL
 use native.Mathlib.Omega.{arith}
 use lib.ListN.{length, getD, set, length-set}
 use lib.Seq.{getD-set-same, getD-set-other}
-use Rattle.game.specs.Tree.{Key, Tree, end, chance, decide, Trees, nil, cons}
+use Rattle.game.specs.Tree.{Key, Tree, end, chance, decide, Trees, nil, cons, fan}
 use Rattle.game.specs.Sets.{size, sizes}
 use Rattle.arena.specs.Held.{Says, Held, HeldAll}
 use Rattle.arena.specs.Index.{unlinked, Kept}
@@ -40,6 +40,12 @@ unfolding size
 size-some (end p) = omega arith
 size-some (chance f) = omega arith
 size-some (decide j k f) = omega arith
+
+-- a row has no more trees than nodes
+pub fan-few : (f : Trees) → fan f ≤ sizes f
+unfolding fan size
+fan-few nil = NatL.le-refl 0
+fan-few (cons t f) = omega (arith, size-some t, fan-few f)
 
 -- ---- what is held stays so where other words change
 module _ (n : ℕ) (s : ℕ → Key → ℕ) (l : ℕ → ℕ → Key → ℕ) (v w : List ℕ) where

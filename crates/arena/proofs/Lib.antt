@@ -8,3 +8,4 @@ pub mod Walking
 pub mod Linking
 pub mod Members
 pub mod Reading
+pub mod Staying

@@ -15,7 +15,7 @@ use Rattle.game.specs.Reply.{same}
 use Rattle.game.specs.Tree.{Key, Tree, end, chance, decide, fan, Every}
 use Rattle.game.specs.Sets.{size, preorder, Decision, decisions, decisionOf, decisionsOf, isOf, decides, numbers, entries, firstEntry, setMembers}
 use Rattle.game.proofs.Sets.{preorder-length, clash, isOf-seat, isOf-key, isOf-self}
-use Rattle.game.proofs.Counting.{In, in-left, in-right}
+use Rattle.game.proofs.Counting.{In, in-left, in-right, every-in, in-every}
 use Rattle.game.proofs.Entries.{entry-inside, entry-apart}
 use Rattle.arena.specs.Words.{DECISION, kindOf, actorOf, actionsOf, setOf, nextOf, laterOf}
 use Rattle.arena.specs.Held.{Says, SaysAll}
@@ -23,7 +23,7 @@ use Rattle.arena.specs.Index.{firstOf, laterIn, unlinked, Codes, Coded, 
 use Rattle.arena.proofs.Packing.{kind-of, actor-of, actions-of, set-of, next-of, later-of}
 use Rattle.arena.proofs.Steps.{linked-kind, linked-known, pushed}
 use Rattle.arena.proofs.Nodes.{says→held}
-use Rattle.arena.proofs.Numbering.{every-in, in-every, none, node, passed-split, passedBy, held-node}
+use Rattle.arena.proofs.Numbering.{none, node, passed-split, passedBy, held-node}
 
 -- what the words say one by one they say all
 says-from : (n : ℕ) (s : ℕ → Key → ℕ) (l : ℕ → ℕ → Key → ℕ) (w : List ℕ) (a : ℕ) (ts : List Tree) → ((i : ℕ) → i < length ts → Says n s l (getD w (a + i) 0) (a + i) (getD ts i none)) → SaysAll n s l w a ts

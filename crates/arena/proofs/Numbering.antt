@@ -16,25 +16,12 @@ use Rattle.game.specs.Sums.{sumℕ}
 use Rattle.game.specs.Tree.{Key, Tree, end, chance, decide, fan, Every}
 use Rattle.game.specs.Sets.{size, preorder, Decision, decisions, decisionOf, decisionsOf, isOf, met, firsts, entriesOf, entries, firstEntry}
 use Rattle.game.proofs.Sets.{preorder-length, decisionsOf-append, decisions-of-nodes, Each, every→each, each→every, clash, isOf-seat, isOf-key, isOf-self}
-use Rattle.game.proofs.Counting.{In, in-left, in-right, in-met, each-in}
+use Rattle.game.proofs.Counting.{In, in-left, in-right, in-met, each-in, every-in, in-every}
 use Rattle.game.proofs.Entries.{entriesOf-append, met-append, met-alike, firsts-again, firsts-new, entry-new}
 use Rattle.arena.specs.Words.{DECISION, kindOf, actionsOf, setOf}
 use Rattle.arena.specs.Held.{Says, Held}
 use Rattle.arena.specs.Index.{unlinked, Kept, Codes, Coded, Numbered, isNew, Met}
 use Rattle.arena.proofs.Nodes.{says-at, held→says}
-
--- ---- all decisions of a tree, one by one
--- a property of each decision of a list, and of each that stands in it
-in→each : (P : ℕ → Key → ℕ → Type 0) (xs : List Decision) → ((x : Decision) → In x xs → P (x .0) (x .1) (x .2)) → Each P xs
-unfolding Each In
-in→each P [] h = tt
-in→each P (x ∷ xs) h = (h x (inl refl), in→each P xs (λ y m. h y (inr m)))
-
-pub every-in : (P : ℕ → Key → ℕ → Type 0) (t : Tree) → Every P t → (x : Decision) → In x (decisions t) → P (x .0) (x .1) (x .2)
-every-in P t h x m = each-in P (decisions t) (every→each P t h) x m
-
-pub in-every : (P : ℕ → Key → ℕ → Type 0) (t : Tree) → ((x : Decision) → In x (decisions t) → P (x .0) (x .1) (x .2)) → Every P t
-in-every P t h = each→every P t (in→each P (decisions t) h)
 
 -- a node that is none
 abbrev pub none : Tree

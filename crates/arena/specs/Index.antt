@@ -31,6 +31,10 @@ pub record Kept (lo hi : ℕ) (old new : List ℕ) : Type 0 where
   pub words : (i : ℕ) → (i < lo) ⊎ (hi ≤ i) → getD new i 0 ≡ getD old i 0
   pub long : length new ≡ length old
 
+-- the words of v below place b are those of w
+abbrev pub Alike : (b : ℕ) (v w : List ℕ) → Type 0
+Alike b v w = (p : ℕ) → p < b → getD w p 0 ≡ getD v p 0
+
 -- places lo to hi are 0
 pub record Cleared (lo hi : ℕ) (old new : List ℕ) : Type 0 where
   pub zero : (i : ℕ) → lo ≤ i → i < hi → getD new i 0 ≡ 0

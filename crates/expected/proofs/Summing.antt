@@ -4,8 +4,7 @@ use mathlib.Core.Bool.{false}
 use mathlib.Core.List.{List, [], _∷_}
 use Prim.Native.Nat.{ℕ, zero, suc, _+_, _-_, _≤_, _<_}
 use native.Mathlib.Omega.{arith}
-use lib.ListN.{length, getD, take, drop}
-use lib.Seq.{getD-take, getD-drop}
+use lib.ListN.{length, getD}
 use lib.Ieee.{Float, nan, binary64, ofInt}
 use Rattle.game.specs.Tree.{Key, Tree, end, chance, decide, Trees, nil, cons, fan, Every}
 use Rattle.game.specs.Sets.{size, sizes, firstEntry}
@@ -14,7 +13,7 @@ use Rattle.arena.specs.Words.{END, CHANCE, kindOf, actionsOf, setOf, nextOf, pa
 use Rattle.arena.specs.Held.{Says, Held}
 use Rattle.arena.specs.Walk.{Behind, Fan}
 use Rattle.arena.specs.Legible.{LegibleAll}
-use Rattle.arena.proofs.Building.{size-some}
+use Rattle.arena.proofs.Building.{size-some, fan-few}
 use Rattle.arena.proofs.Reading.{deep-some, chance-row, decide-row, first, rest, near}
 use Rattle.expected.specs.Expected.{Holds, Walkable, total, Expected, Gained, Dealt, Moved}
 
@@ -27,10 +26,6 @@ six f a b c d e g p q r s t u (suc (suc (suc zero))) h = s
 six f a b c d e g p q r s t u (suc (suc (suc (suc zero)))) h = t
 six f a b c d e g p q r s t u (suc (suc (suc (suc (suc zero))))) h = u
 six f a b c d e g p q r s t u (suc (suc (suc (suc (suc (suc i)))))) h = absurd (omega arith)
-
--- ---- an entry of the set's own part of the profile
-pub part-entry : (profile : List Float) (e z c : ℕ) → e + c < z → getD (take (z - e) (drop e profile)) c nan ≡ getD profile (e + c) nan
-part-entry profile e z c h = getD-take (z - e) (drop e profile) c nan (omega arith) ∙ getD-drop e profile c nan
 
 -- ---- a node by its word
 module _ (profile : List Float) (w : List ℕ) (a d : ℕ) (r : List Float) where
@@ -69,12 +64,6 @@ module _ (profile : List Float) (w : List ℕ) (a d : ℕ) (r : List Float) wher
     gains-other v z o q n T (decide j y f) l m h i k = q i (omega arith) ∙ ap (plus nought) (o n T (decide j y f) l m h i k)
 
 -- ---- a row, tree by tree
--- no row is longer than its trees are large
-pub fan-sizes : (f : Trees) → fan f ≤ sizes f
-unfolding fan size
-fan-sizes nil = omega arith
-fan-sizes (cons t f) = omega (arith, size-some t, fan-sizes f)
-
 module _ (profile : List Float) (w : List ℕ) (a d : ℕ) where
   -- of row f with the weights p, seat i's sum over the x trees before place c is v, and the others are to come
   pub record Going (n : ℕ) (T : Tree) (l : ℕ → ℕ → Key → ℕ) (f : Trees) (p : ℕ → Float) (i c x : ℕ) (v : Float) : Type 0 where
@@ -179,7 +168,7 @@ module _ (profile : List Float) (w : List ℕ) (a d : ℕ) where
     -- each child has the node's one weight
     module _ (c q b : ℕ) (y : Float) (v g u : List Float) (F : Fan w a z b) (W : b < 4294967296 → y ≡ weight b) (D : Dealing c v) (o : c < z) (N : Gained profile w c d g) (B : Behind w c q) where
       weighed : (n : ℕ) (T : Tree) (f : Trees) (l : ℕ → ℕ → Key → ℕ) → LegibleAll n T l w (length profile) a d f → z ≡ a + sizes f → y ≡ weight (fan f)
-      weighed n T f l h e = let E : b ≡ fan f = F n (firstEntry T) l f (h .held) e (omega (arith, h .room)) in W (omega (arith, fan-sizes f, h .room)) ∙ ap weight E
+      weighed n T f l h e = let E : b ≡ fan f = F n (firstEntry T) l f (h .held) e (omega (arith, h .room)) in W (omega (arith, fan-few f, h .room)) ∙ ap weight E
 
       pub deal-more : Holds (λ i. plus (getD v i nan) (times y (getD g i nan))) u → Dealing q u
       deal-more s n T f l m h e i k =

@@ -1,3 +1,2 @@
 -- Lemmas on floats and their patterns.
 pub mod Patterns
-pub mod Parts

@@ -7,10 +7,10 @@ use Prim.Native.Nat.{ℕ, suc, _≤_, zero-le}
 use native.Mathlib.Nat as NatL
 use native.Mathlib.Omega.{arith}
 use lib.ListN.{length}
-use Rattle.game.specs.Tree.{Key, Tree}
+use Rattle.game.specs.Tree.{Key, Tree, Every}
 use Rattle.game.specs.Sets.{Decision, decisions, isOf, met, firsts, sets, SameActions}
 use Rattle.game.proofs.Tests.{Tested, is, isn't, tested}
-use Rattle.game.proofs.Sets.{Property, Each, every→each, clash, isOf-seat, isOf-key, isOf-self, met-here, met-later, Distinct, sets-distinct, Stands, sets-stand}
+use Rattle.game.proofs.Sets.{Property, Each, every→each, each→every, clash, isOf-seat, isOf-key, isOf-self, met-here, met-later, Distinct, sets-distinct, Stands, sets-stand}
 
 -- ---- membership
 -- x stands in the list
@@ -101,6 +101,19 @@ unfolding Each In
 each-in P [] h x m = absurd m
 each-in P (y ∷ xs) h x (inl e) = rw e at (h .0)
 each-in P (y ∷ xs) h x (inr m) = each-in P xs (h .1) x m
+
+-- ---- all decisions of a tree, one by one
+-- a property of each decision of a list, and of each that stands in it
+in→each : (P : ℕ → Key → ℕ → Type 0) (xs : List Decision) → ((x : Decision) → In x xs → P (x .0) (x .1) (x .2)) → Each P xs
+unfolding Each In
+in→each P [] h = tt
+in→each P (x ∷ xs) h = (h x (inl refl), in→each P xs (λ y m. h y (inr m)))
+
+pub every-in : (P : ℕ → Key → ℕ → Type 0) (t : Tree) → Every P t → (x : Decision) → In x (decisions t) → P (x .0) (x .1) (x .2)
+every-in P t h x m = each-in P (decisions t) (every→each P t h) x m
+
+pub in-every : (P : ℕ → Key → ℕ → Type 0) (t : Tree) → ((x : Decision) → In x (decisions t) → P (x .0) (x .1) (x .2)) → Every P t
+in-every P t h = each→every P t (in→each P (decisions t) h)
 
 pub in-met : (x : Decision) (xs : List Decision) → In x xs → met (x .0) (x .1) xs ≡ true
 unfolding In

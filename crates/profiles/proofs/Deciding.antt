@@ -12,8 +12,7 @@ use Rattle.game.specs.Tree.{Key, Tree, end, chance, decide, Trees, nil, cons, f
 use Rattle.game.specs.Reply.{Choice, same}
 use Rattle.game.specs.Sets.{Decision, decisions, decisionsAll, height, heightAll, Heights, HeightsAll}
 use Rattle.game.proofs.Tests.{Tested, is, isn't, tested, T-of, same→eq, same-self, eqb-is, eqb-self}
-use Rattle.game.proofs.Sets.{Each, every→each, each→every}
-use Rattle.game.proofs.Counting.{In, in-append, each-in}
+use Rattle.game.proofs.Counting.{In, in-append, every-in, in-every}
 use Rattle.profiles.specs.Values.{Profile, nought, one, plus, times, weight, edge, value, added, picked, Lead, lead, Member, passed, found, foundAll, summed, actions, setSum, decided, best}
 use Rattle.profiles.specs.Facts.{BestDecides}
 
@@ -203,18 +202,10 @@ module _ (s : Profile) (i : ℕ) (A d : ℕ → Key → ℕ) where
     decides k n m =
         let w : Some (found s i k one T) = met k n T one m in
         let e : EachAlike k (found s i k one T) = each-alike k T one h q in
-        let l : d i k ≤ height T = each-in (λ j k n. d j k ≤ height T) (decisions T) (every→each (λ j k n. d j k ≤ height T) T (lower (height T) T h (NatL.le-refl (height T)))) (i, k, n) m in
-        let a : n ≡ A i k = each-in (λ j k n. n ≡ A j k) (decisions T) (every→each (λ j k n. n ≡ A j k) T q) (i, k, n) m in
+        let l : d i k ≤ height T = every-in (λ j k n. d j k ≤ height T) T (lower (height T) T h (NatL.le-refl (height T))) (i, k, n) m in
+        let a : n ≡ A i k = every-in (λ j k n. n ≡ A j k) T q (i, k, n) m in
         by-sums T h q (height T) k (short k (found s i k one T) e w) l ∙ ap (λ x. lead (setSum s i T (decided s i T (height T)) k) x .0) (count k (found s i k one T) e w ∙ sym a)
 
--- ---- all decisions of a tree, one by one
-in→each : (P : ℕ → Key → ℕ → Type 0) (xs : List Decision) → ((x : Decision) → In x xs → P (x .0) (x .1) (x .2)) → Each P xs
-unfolding Each In
-in→each P [] h = tt
-in→each P (x ∷ xs) h = (h x (inl refl), in→each P xs (λ y m. h y (inr m)))
-
 pub best-decides : BestDecides
-best-decides s i t (A, q) (d, h) = at
-  where
-    at : Every (λ j k n. j ≡ i → best s i t k ≡ lead (setSum s i t (best s i t) k) n .0) t
-    at = each→every (λ j k n. j ≡ i → best s i t k ≡ lead (setSum s i t (best s i t) k) n .0) t (in→each (λ j k n. j ≡ i → best s i t k ≡ lead (setSum s i t (best s i t) k) n .0) (decisions t) (λ x m e. decides s i A d t h q (x .1) (x .2) (subst (λ j. In (j, x .1, x .2) (decisions t)) e m)))
+best-decides s i t (A, q) (d, h) = in-every (λ j k n. j ≡ i → best s i t k ≡ lead (setSum s i t (best s i t) k) n .0) t
+    (λ x m e. decides s i A d t h q (x .1) (x .2) (subst (λ j. In (j, x .1, x .2) (decisions t)) e m))

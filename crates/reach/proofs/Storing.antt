@@ -6,8 +6,8 @@ use Prim.Native.Nat.{ℕ, suc, _+_, _-_, _≤_, _<_}
 use native.Mathlib.Omega.{arith}
 use lib.Dec.{eqb}
 use lib.Ieee.{Float, nan, binary64, ofBits, toBits}
-use lib.ListN.{length, getD, set, take, drop, length-set, length-drop}
-use lib.Seq.{getD-set-same, getD-set-other, length-take-le, getD-take, getD-drop}
+use lib.ListN.{length, getD, set, length-set}
+use lib.Seq.{getD-set-same, getD-set-other}
 use borrow.Author.Tests.{eq-eqb, eqb-true}
 use Rattle.finite.proofs.Tests.{Tested, holds, fails, tested}
 use Rattle.game.specs.Tree.{Key, Tree, end, chance, decide, Trees, nil, cons, fan, Every}
@@ -16,26 +16,12 @@ use Rattle.profiles.specs.Values.{Profile, profileOf, times, weight, passed}
 use Rattle.arena.specs.Words.{END, CHANCE, kindOf, actorOf, actionsOf, setOf, nextOf}
 use Rattle.arena.specs.Held.{Says, Held, HeldAll}
 use Rattle.arena.specs.Walk.{Behind, Fan}
-use Rattle.arena.specs.Index.{Kept}
+use Rattle.arena.specs.Index.{Kept, Alike}
 use Rattle.arena.specs.Legible.{Legible, LegibleAll}
-use Rattle.arena.proofs.Building.{size-some, held-same, held-same-all, kept-none, kept-join, kept-set}
+use Rattle.arena.proofs.Building.{size-some, fan-few, kept-none, kept-join, kept-set}
 use Rattle.arena.proofs.Reading.{deep-some, chance-row, decide-row, first, rest, near}
-use Rattle.reach.specs.Reached.{Storable, Alike, Marked, MarkedAll, Reached, ReachedAll, Each, Divided}
-
--- ---- words that stay
--- the words from lo to hi are the same
-abbrev pub Same : (v w : List ℕ) (lo hi : ℕ) → Type 0
-Same v w lo hi = (p : ℕ) → lo ≤ p → p < hi → getD w p 0 ≡ getD v p 0
-
-alike-join : (b : ℕ) (u v w : List ℕ) → Alike b u v → Alike b v w → Alike b u w
-alike-join b u v w h g p l = g p l ∙ h p l
-
-kept-wider : (lo hi a b : ℕ) (v w : List ℕ) → a ≤ lo → hi ≤ b → Kept lo hi v w → Kept a b v w
-kept-wider lo hi a b v w h g k = record { words = λ p o. k .words p (outside p o); long = k .long }
-  where
-    outside : (p : ℕ) → (p < a) ⊎ (b ≤ p) → (p < lo) ⊎ (hi ≤ p)
-    outside p (inl o) = inl (omega arith)
-    outside p (inr o) = inr (omega arith)
+use Rattle.arena.proofs.Staying.{Same, alike-join, kept-wider, alike-held, alike-row}
+use Rattle.reach.specs.Reached.{Storable, Marked, MarkedAll, Reached, ReachedAll, Each, Divided}
 
 -- ---- reaches stored stay so where other words change
 module _ (s : Profile) (i b : ℕ) (v w : List ℕ) where
@@ -50,20 +36,6 @@ module _ (s : Profile) (i b : ℕ) (v w : List ℕ) where
     marked-same-all : (a : ℕ) (g : ℕ → Float) (x : ℕ) (f : Trees) → Same v w (b + a) (b + (a + sizes f)) → MarkedAll s i b v a g x f → MarkedAll s i b w a g x f
     marked-same-all a g x nil e h = tt
     marked-same-all a g x (cons t f) e h = (marked-same a (g x) t (λ p l m. e p l (omega arith)) (h .0), marked-same-all (a + size t) g (suc x) f (λ p l m. e p (omega arith) (omega arith)) (h .1))
-
--- ---- what is held below place b is held where the words there are the same
-module _ (n : ℕ) (T : Tree) (l : ℕ → ℕ → Key → ℕ) (b a : ℕ) (v w : List ℕ) (e : Alike b v w) where
-  alike-held : (t : Tree) → a + size t ≤ b → Held n (firstEntry T) l v a t → Held n (firstEntry T) l w a t
-  alike-held t m h = held-same n (firstEntry T) l v w a t h (λ p x y. e p (omega arith))
-
-  alike-row : (f : Trees) → a + sizes f ≤ b → HeldAll n (firstEntry T) l v a f → HeldAll n (firstEntry T) l w a f
-  alike-row f m h = held-same-all n (firstEntry T) l v w a f h (λ p x y. e p (omega arith))
-
--- a row has no more trees than nodes
-fan-few : (f : Trees) → fan f ≤ sizes f
-unfolding fan size
-fan-few nil = omega arith
-fan-few (cons t f) = omega (arith, size-some t, fan-few f)
 
 -- ---- what a decision passes on
 module _ (s : Profile) (i : ℕ) (r : Float) (j : ℕ) (k : Key) (x : ℕ) where
@@ -350,14 +322,6 @@ module _ (profile : List Float) (i b a d : ℕ) (old : List ℕ) where
           let G = S .going w n T f g l h A R o k in
           going-end w n T l f g p (G .0) v (G .2) (omega (arith, G .1, R .actions));
     }
-
--- ---- the set's own part of the profile
-module _ (profile : List Float) (e z : ℕ) (g : z ≤ length profile) where
-  pub part-length : length (take (z - e) (drop e profile)) ≡ z - e
-  part-length = length-take-le (z - e) (drop e profile) (omega (arith, length-drop e profile))
-
-  pub part-entry : (c : ℕ) → c < z - e → getD (take (z - e) (drop e profile)) c nan ≡ getD profile (e + c) nan
-  part-entry c l = getD-take (z - e) (drop e profile) c nan l ∙ getD-drop e profile c nan
 
 -- ---- one step down, and one along
 pub store-down : (a b d : ℕ) → Storable a b d → (d ≡ 0 → ⊥) → Storable (a + 1) b (d - 1)

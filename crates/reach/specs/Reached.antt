@@ -7,7 +7,7 @@ use lib.Ieee.{Float, binary64, ofBits}
 use Rattle.game.specs.Tree.{Key, Tree, end, chance, decide, Trees, nil, cons, fan}
 use Rattle.game.specs.Sets.{size, sizes, firstEntry}
 use Rattle.profiles.specs.Values.{Profile, profileOf, times, weight, passed}
-use Rattle.arena.specs.Index.{Kept}
+use Rattle.arena.specs.Index.{Kept, Alike}
 use Rattle.arena.specs.Legible.{Legible, LegibleAll}
 
 -- a place, a base and a depth that keep every place in range
@@ -15,10 +15,6 @@ pub record Storable (a b d : ℕ) : Type 0 where
   pub place : a + d < 8388608
   pub shallow : d ≤ 32
   pub base : b ≤ 8388608
-
--- the words of v below place b are those of w
-abbrev pub Alike : (b : ℕ) (v w : List ℕ) → Type 0
-Alike b v w = (p : ℕ) → p < b → getD w p 0 ≡ getD v p 0
 
 -- the words have, from place b on, the reach of each decision of seat i in a tree at place a of reach r, at its place; in a row the child with number x has reach g x
 module _ (s : Profile) (i b : ℕ) (w : List ℕ) where

@@ -14,9 +14,9 @@ use Rattle.arena.specs.Words.{END, CHANCE, DECISION, kindOf, actorOf, actionsOf
 use Rattle.arena.specs.Held.{Says, Held}
 use Rattle.arena.specs.Index.{laterIn}
 use Rattle.arena.specs.Walk.{Behind, Fan}
-use Rattle.arena.proofs.Building.{size-some}
+use Rattle.arena.proofs.Building.{size-some, fan-few}
 use Rattle.profiles.specs.Values.{profileOf, nought, plus, times, weight, edge, value, picked, lead}
-use Rattle.floats.proofs.Parts.{part-entry}
+use Rattle.finite.proofs.Parts.{part-at}
 use Rattle.walks.specs.Child.{nth, Child}
 use Rattle.walks.specs.Stage.{Stage, Known, Noted, Stands, StandsAll}
 use Rattle.walks.proofs.Standing.{levels-some, kids-chance, kids-decide, first, rest, known-of, seen, held-in, held-in-all}
@@ -89,12 +89,6 @@ module _ (P : List Float) (i d h b k a : ℕ) (old : List ℕ) where
               (v S m n (pred y) f (omega arith) (ap setOf (says S m (decide i n f) y o) ∙ o .held .0 .3) (ap actionsOf (says S m (decide i n f) y o) ∙ o .held .0 .2) (subst (λ w. Stands (S .stage) w a (decide i n f)) p o))
 
 -- ---- the children of a chance node, one after the other
--- a row has no fewer nodes than trees
-fan-sizes : (f : Trees) → fan f ≤ sizes f
-unfolding fan size
-fan-sizes nil = NatL.le-refl 0
-fan-sizes (cons t f) = let l = fan-sizes f in omega (arith, size-some t)
-
 module _ (P : List Float) (i d h b k a z : ℕ) (old : List ℕ) (each : Float) where
   -- place c is reached with the words w: a row is to come, and its sum from here on is the sum of all
   abbrev pub Along : List ℕ → ℕ → Float → Type 0
@@ -108,7 +102,7 @@ module _ (P : List Float) (i d h b k a z : ℕ) (old : List ℕ) (each : Float) 
       is = c (S .stage .seats) (firstEntry (S .stage .tree)) (laterIn (S .stage .tree)) f (held-in-all (S .stage) old m lev a f r) q (omega (arith, q, r .room, S .stage .room))
 
       few : count < 4294967296
-      few = omega (arith, is, fan-sizes f, r .room, S .stage .room)
+      few = omega (arith, is, fan-few f, r .room, S .stage .room)
 
   behind-is : (S : Scene P i h b k) (w : List ℕ) → Noted (S .stage) w → (lev c p : ℕ) (t : Tree) (u : Trees) → StandsAll (S .stage) lev c (cons t u) → Behind w c p → p ≡ c + size t
   behind-is S w m lev c p t u B q = let o = first (S .stage) lev c t u B in
@@ -163,7 +157,7 @@ module _ (P : List Float) (i d h b k a x : ℕ) (old : List ℕ) where
 
     part-is : (S : Scene P i h b k) (j : ℕ) (y : Key) → setOf x ≡ firstEntry (S .stage .tree) j y → (c : ℕ) → c < actionsOf x → getD part c nan ≡ entries S j y c
     unfolding profileOf
-    part-is S j y e c l = part-entry P e₀ (e₀ + n₀) (omega arith) room c (omega (arith, is-count)) ∙ ap (λ n. getD P (n + c) nan) (is-first ∙ e)
+    part-is S j y e c l = part-at P e₀ (e₀ + n₀) c nan (omega (arith, is-count)) ∙ ap (λ n. getD P (n + c) nan) (is-first ∙ e)
 
     module _ (u v : List ℕ) (g₀ g₁ s₀ s₁ : Float) (p : ℕ) (G : Gained P i d h b k a old u g₀) (B : Behind u a p) (H : Gained P i d h b k p u v g₁)
         (q₀ : s₀ ≡ plus nought (times (getD part 0 nan) g₀)) (q₁ : s₁ ≡ plus s₀ (times (getD part 1 nan) g₁)) where

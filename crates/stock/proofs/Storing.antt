@@ -16,23 +16,17 @@ use Rattle.game.specs.Reply.{share}
 use Rattle.arena.specs.Words.{END, CHANCE, kindOf, actorOf, actionsOf, setOf, nextOf}
 use Rattle.arena.specs.Held.{Says, Held, HeldAll}
 use Rattle.arena.specs.Walk.{Behind, Fan}
-use Rattle.arena.specs.Index.{Kept}
+use Rattle.arena.specs.Index.{Kept, Alike}
 use Rattle.arena.proofs.Building.{size-some, held-same, held-same-all, kept-none, kept-join, kept-set}
 use Rattle.units.specs.Readable.{Readable, ReadableAll}
 use Rattle.units.specs.Gain.{given, Stocked, StockedAll}
 use Rattle.arena.proofs.Reading.{deep-some}
 use Rattle.units.proofs.Reading.{chance-row, decide-row, first, rest, near}
 use Rattle.units.proofs.Passing.{walk-down, walk-along, walk-here}
-use Rattle.stock.specs.Collected.{Storable, Alike, Collected, CollectedAll, Each, Dealt, Moved, Shared}
+use Rattle.arena.proofs.Staying.{Same, alike-join, alike-held, alike-row}
+use Rattle.stock.specs.Collected.{Storable, Collected, CollectedAll, Each, Dealt, Moved, Shared}
 
 -- ---- words that stay
--- the words from lo to hi are the same
-abbrev pub Same : (v w : List ℕ) (lo hi : ℕ) → Type 0
-Same v w lo hi = (p : ℕ) → lo ≤ p → p < hi → getD w p 0 ≡ getD v p 0
-
-pub alike-join : (b : ℕ) (u v w : List ℕ) → Alike b u v → Alike b v w → Alike b u w
-alike-join b u v w h g p l = g p l ∙ h p l
-
 kept-at : (a b c d : ℕ) (v w : List ℕ) → a ≡ b → c ≡ d → Kept a c v w → Kept b d v w
 kept-at a b c d v w e q k = subst (λ x. Kept x d v w) e (subst (λ x. Kept a x v w) q k)
 
@@ -52,14 +46,8 @@ module _ (D : ℕ) (s : Strategy) (i b : ℕ) (v w : List ℕ) where
 
 -- ---- what is read below place b is read where the words there are the same
 module _ (n : ℕ) (T : Tree) (l : ℕ → ℕ → Key → ℕ) (b a : ℕ) (v w : List ℕ) (e : Alike b v w) where
-  alike-held : (t : Tree) → a + size t ≤ b → Held n (firstEntry T) l v a t → Held n (firstEntry T) l w a t
-  alike-held t m h = held-same n (firstEntry T) l v w a t h (λ p x y. e p (omega arith))
-
-  alike-row : (f : Trees) → a + sizes f ≤ b → HeldAll n (firstEntry T) l v a f → HeldAll n (firstEntry T) l w a f
-  alike-row f m h = held-same-all n (firstEntry T) l v w a f h (λ p x y. e p (omega arith))
-
   pub alike-readable : (table : List ℕ) (D d : ℕ) (t : Tree) → a + size t ≤ b → Readable n T l v table D a d t → Readable n T l w table D a d t
-  alike-readable table D d t m h = record { held = alike-held t m (h .held); room = h .room; entered = h .entered; few = h .few; within = h .within }
+  alike-readable table D d t m h = record { held = alike-held n T l b a v w e t m (h .held); room = h .room; entered = h .entered; few = h .few; within = h .within }
 
 -- ---- a node: its units are put down first
 module _ (table : List ℕ) (D i b a u d : ℕ) (old : List ℕ) where

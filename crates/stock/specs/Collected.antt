@@ -7,7 +7,7 @@ use Rattle.game.specs.Tree.{Key, Tree, Trees, fan}
 use Rattle.game.specs.Sets.{size, sizes, firstEntry}
 use Rattle.game.specs.Table.{strategyOf}
 use Rattle.arena.specs.Words.{actorOf, actionsOf, setOf, nextOf}
-use Rattle.arena.specs.Index.{Kept}
+use Rattle.arena.specs.Index.{Kept, Alike}
 use Rattle.arena.specs.Legible.{Entered}
 use Rattle.units.specs.Readable.{Readable, ReadableAll, Walkable}
 use Rattle.units.specs.Gain.{given, Stocked, StockedAll}
@@ -16,10 +16,6 @@ use Rattle.units.specs.Gain.{given, Stocked, StockedAll}
 pub record Storable (a u D b d : ℕ) : Type 0 where
   pub walk : Walkable a u D d
   pub base : b ≤ 8388608
-
--- the words of v below place b are those of w
-abbrev pub Alike : (b : ℕ) (v w : List ℕ) → Type 0
-Alike b v w = (p : ℕ) → p < b → getD w p 0 ≡ getD v p 0
 
 -- the words below place b, where the tree stands, stay; whatever tree is read there at place a, its units are stored, from u, and no other word changes
 pub record Collected (table : List ℕ) (D i b a u d : ℕ) (old new : List ℕ) : Type 0 where

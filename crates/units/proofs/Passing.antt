@@ -4,8 +4,8 @@ use mathlib.Core.List.{List}
 use Prim.Native.Nat.{ℕ, _+_, _-_, _*_, _/_, _^_, _≤_, _<_}
 use native.Mathlib.Nat as NatL
 use native.Mathlib.Omega.{arith}
-use lib.ListN.{length, getD, take, drop, length-drop}
-use lib.Seq.{length-take-le, getD-take, getD-drop}
+use lib.ListN.{getD, take, drop}
+use Rattle.finite.proofs.Parts.{part-at}
 use Rattle.units.specs.Readable.{Walkable}
 
 -- ---- units
@@ -29,12 +29,8 @@ pub walk-here : (a u v D d : ℕ) → Walkable a u D d → v < 14411518807585587
 walk-here a u v D d h g = record { place = h .place; shallow = h .shallow; units = g; least = h .least; most = h .most }
 
 -- ---- the set's own part of the table
-module _ (table : List ℕ) (e z : ℕ) (h : e ≤ z) (g : z ≤ length table) where
-  pub part-length : length (take (z - e) (drop e table)) ≡ z - e
-  part-length = length-take-le (z - e) (drop e table) (omega (arith, length-drop e table))
-
-  pub part-shares : (c u v D : ℕ) → c < z - e → (getD (take (z - e) (drop e table)) c 0 ≤ D → v ≡ u * getD (take (z - e) (drop e table)) c 0 / D) → getD table (e + c) 0 ≤ D → v ≡ u * getD table (e + c) 0 / D
-  part-shares c u v D l q = rw (getD-take (z - e) (drop e table) c 0 l ∙ getD-drop e table c 0) at q
+pub part-shares : (table : List ℕ) (e z c u v D : ℕ) → c < z - e → (getD (take (z - e) (drop e table)) c 0 ≤ D → v ≡ u * getD (take (z - e) (drop e table)) c 0 / D) → getD table (e + c) 0 ≤ D → v ≡ u * getD table (e + c) 0 / D
+part-shares table e z c u v D l q = rw (part-at table e z c 0 l) at q
 
 -- ---- units that divide evenly
 -- p parts of d of u units, where u is d times q

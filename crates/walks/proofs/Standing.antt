@@ -12,7 +12,7 @@ use Rattle.game.proofs.Entries.{entry-inside}
 use Rattle.arena.specs.Held.{Held, HeldAll}
 use Rattle.arena.specs.Index.{laterIn}
 use Rattle.arena.proofs.Building.{size-some, held-same, held-same-all}
-use Rattle.arena.proofs.Numbering.{in-every, every-in}
+use Rattle.game.proofs.Counting.{in-every, every-in}
 use Rattle.walks.specs.Stage.{Stage, Known, Noted, Stands, StandsAll}
 
 pub levels-some : (v : ℕ → Key → ℕ) (d : ℕ) (t : Tree) → Levels v d t → 0 < d

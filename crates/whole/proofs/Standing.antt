@@ -16,7 +16,7 @@ use Rattle.tables.specs.Facts.{nodesOf, entriesOf, rootUnits}
 use Rattle.tables.proofs.Facts.{nodes-are, entries-are}
 use Rattle.arena.specs.Index.{firstOf, laterIn, Indexed}
 use Rattle.arena.proofs.Building.{held-same}
-use Rattle.arena.proofs.Numbering.{in-every, every-in}
+use Rattle.game.proofs.Counting.{in-every, every-in}
 use Rattle.units.specs.Readable.{Readable}
 use Rattle.units.specs.Lifted.{lifted}
 use Rattle.units.specs.Sums.{Summed}

@@ -1,6 +1,8 @@
 use borrow.Author.Needs.{needs}
 use mathlib.Core.Path.{_∙_}
-use Rattle.expected.proofs.Summing.{part-entry}
+use native.Mathlib.Omega.{arith}
+use lib.Ieee.{nan}
+use Rattle.finite.proofs.Parts.{part-at}
 use Rattle.expected.proofs.chance_of.Statement.{statement}
 use Rattle.expected.proofs.chance_of.Tie as tie
 
@@ -20,7 +22,7 @@ entry-requires : tie.Need-entry-requires
 entry-requires c κs = search needs
 
 returns : tie.Need-returns
-returns c = c .entry .ensures ∙ part-entry _ _ (c .before .before .before .args .end) (c .before .before .before .args .action) (c .before .before .before .pre .1)
+returns c = c .entry .ensures ∙ part-at _ _ (c .before .before .before .args .end) (c .before .before .before .args .action) nan (omega (arith, c .before .before .before .pre .1))
 
 pub chance-of-spec : {M : Type 1} → statement M
 chance-of-spec =

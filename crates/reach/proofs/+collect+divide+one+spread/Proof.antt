@@ -5,6 +5,8 @@ use mathlib.Core.Path.{_≡_, sym, _∙_}
 use native.Mathlib.Omega.{arith}
 use borrow.Author.Needs.{needs}
 use Rattle.reach.specs.Reached.{Storable, Each, Divided}
+use lib.Ieee.{nan}
+use Rattle.finite.proofs.Parts.{part-length, part-at}
 use Rattle.reach.proofs.Storing as storing
 use borrow.Fn.Kinds.{In}
 use borrow.Fn.PlainCycle.{Measures, is, falls, and}
@@ -872,7 +874,7 @@ divide-entry-requires : (t : ℕ) → divide-lts.Need-entry-requires (
   behind-reads.Asked,
   behind-reads.Learnt,
 ) (divide-at t) divide.Post divide-Inv-loop divide-μ-loop
-divide-entry-requires t c κs = rw (storing.part-length (now (c .before .before .before .before .before .args .profile)) (c .before .before .before .before .before .args .first) (c .before .before .before .before .before .args .end) (c .before .before .before .before .before .pre .1 .2)) (c .before .loop-test .taken)
+divide-entry-requires t c κs = rw (part-length (now (c .before .before .before .before .before .args .profile)) (c .before .before .before .before .before .args .first) (c .before .before .before .before .before .args .end) (c .before .before .before .before .before .pre .1 .2)) (c .before .loop-test .taken)
 
 divide-one-requires : (t : ℕ) → divide-lts.Need-one-requires (
   entry-reads.Asked,
@@ -922,7 +924,7 @@ divide-loop-again : (t : ℕ) → divide-lts.Need-loop-again (
   behind-reads.Asked,
   behind-reads.Learnt,
 ) (divide-at t) divide.Post divide-Inv-loop divide-μ-loop
-divide-loop-again t c = (storing.divided-more _ _ _ _ _ _ _ _ _ _ _ _ _ _ _ (c .before .before .before .before .before .before .before .before .before .loop .inv .0) (c .before .before .before .before .before .before .before .before .loop-test .taken) (c .before .before .before .before .before .before .entry .ensures ∙ storing.part-entry (now (c .before .before .before .before .before .before .before .before .before .before .before .before .args .profile)) (c .before .before .before .before .before .before .before .before .before .before .before .before .args .first) (c .before .before .before .before .before .before .before .before .before .before .before .before .args .end) (c .before .before .before .before .before .before .before .before .before .before .before .before .pre .1 .2) (c .before .before .before .before .before .before .before .before .before .loop .action) (c .before .before .before .before .before .before .before .before .loop-test .taken)) (c .before .before .before .before .one .ensures) (c .behind .ensures), storing.store-along _ _ _ _ (c .before .before .before .before .before .before .before .before .before .before .before .before .pre .1 .0) (c .behind .ensures .near), omega (arith, c .before .before .before .before .before .before .before .before .loop-test .taken))
+divide-loop-again t c = (storing.divided-more _ _ _ _ _ _ _ _ _ _ _ _ _ _ _ (c .before .before .before .before .before .before .before .before .before .loop .inv .0) (c .before .before .before .before .before .before .before .before .loop-test .taken) (c .before .before .before .before .before .before .entry .ensures ∙ part-at (now (c .before .before .before .before .before .before .before .before .before .before .before .before .args .profile)) (c .before .before .before .before .before .before .before .before .before .before .before .before .args .first) (c .before .before .before .before .before .before .before .before .before .before .before .before .args .end) (c .before .before .before .before .before .before .before .before .before .loop .action) nan (c .before .before .before .before .before .before .before .before .loop-test .taken)) (c .before .before .before .before .one .ensures) (c .behind .ensures), storing.store-along _ _ _ _ (c .before .before .before .before .before .before .before .before .before .before .before .before .pre .1 .0) (c .behind .ensures .near), omega (arith, c .before .before .before .before .before .before .before .before .loop-test .taken))
 
 divide-same-length : (t : ℕ) → divide-lts.Need-same-length (
   entry-reads.Asked,

@@ -9,6 +9,7 @@ use borrow.Fn.Kinds.{In}
 use borrow.Fn.PlainCycle.{Measures, is, falls, and}
 use Rattle.stock.proofs.+collect+deal+decide+divide+one+spread.{statement}
 use Rattle.stock.proofs.+collect+deal+decide+divide+one+spread.Tie.{close}
+use Rattle.finite.proofs.Parts.{part-length}
 use Rattle.units.proofs.Passing as passing
 use Rattle.stock.proofs.Storing as storing
 use Rattle.stock.proofs.collect.Reads as collect
@@ -708,7 +709,7 @@ divide-share-requires : (t : ℕ) → divide-lts.Need-share-requires (
   behind-reads.Asked,
   behind-reads.Learnt,
 ) (divide-at t) divide.Post divide-Inv-loop divide-μ-loop
-divide-share-requires t c κs = (rw (passing.part-length (now (c .before .before .before .before .before .args .table)) (c .before .before .before .before .before .args .first) (c .before .before .before .before .before .args .end) (c .before .before .before .before .before .pre .1 .1) (c .before .before .before .before .before .pre .1 .2)) (c .before .loop-test .taken), c .before .before .before .before .before .pre .1 .0 .walk .units, c .before .before .before .before .before .pre .1 .0 .walk .least, c .before .before .before .before .before .pre .1 .0 .walk .most, refl)
+divide-share-requires t c κs = (rw (part-length (now (c .before .before .before .before .before .args .table)) (c .before .before .before .before .before .args .first) (c .before .before .before .before .before .args .end) (c .before .before .before .before .before .pre .1 .2)) (c .before .loop-test .taken), c .before .before .before .before .before .pre .1 .0 .walk .units, c .before .before .before .before .before .pre .1 .0 .walk .least, c .before .before .before .before .before .pre .1 .0 .walk .most, refl)
 
 divide-one-requires : (t : ℕ) → divide-lts.Need-one-requires (
   share-reads.Asked,
@@ -761,7 +762,7 @@ divide-loop-again : (t : ℕ) → divide-lts.Need-loop-again (
 divide-loop-again t c =
     let l = c .before .before .before .before .before .before .before .before .loop-test .taken in
     let b = c .behind .ensures in
-    (storing.shared-more _ _ _ _ _ _ _ _ _ _ _ _ _ _ _ _ (c .before .before .before .before .before .before .before .before .before .loop .inv .0) l (passing.part-shares (now (c .before .before .before .before .before .before .before .before .before .before .before .before .args .table)) (c .before .before .before .before .before .before .before .before .before .before .before .before .args .first) (c .before .before .before .before .before .before .before .before .before .before .before .before .args .end) (c .before .before .before .before .before .before .before .before .before .before .before .before .pre .1 .1) (c .before .before .before .before .before .before .before .before .before .before .before .before .pre .1 .2) (c .before .before .before .before .before .before .before .before .before .loop .action) (c .before .before .before .before .before .before .before .before .before .before .before .before .args .u) (c .before .before .before .before .before .before .share .result) (c .before .before .before .before .before .before .before .before .before .before .before .before .args .d) l (c .before .before .before .before .before .before .share .ensures .1)) (c .before .before .before .before .one .ensures) b, storing.store-along _ _ _ _ _ _ _ (c .before .before .before .before .before .before .before .before .before .before .before .before .pre .1 .0) (b .near) (c .before .before .before .before .before .before .before .before .before .before .before .before .pre .1 .0 .walk .units), omega (arith, l))
+    (storing.shared-more _ _ _ _ _ _ _ _ _ _ _ _ _ _ _ _ (c .before .before .before .before .before .before .before .before .before .loop .inv .0) l (passing.part-shares (now (c .before .before .before .before .before .before .before .before .before .before .before .before .args .table)) (c .before .before .before .before .before .before .before .before .before .before .before .before .args .first) (c .before .before .before .before .before .before .before .before .before .before .before .before .args .end) (c .before .before .before .before .before .before .before .before .before .loop .action) (c .before .before .before .before .before .before .before .before .before .before .before .before .args .u) (c .before .before .before .before .before .before .share .result) (c .before .before .before .before .before .before .before .before .before .before .before .before .args .d) l (c .before .before .before .before .before .before .share .ensures .1)) (c .before .before .before .before .one .ensures) b, storing.store-along _ _ _ _ _ _ _ (c .before .before .before .before .before .before .before .before .before .before .before .before .pre .1 .0) (b .near) (c .before .before .before .before .before .before .before .before .before .before .before .before .pre .1 .0 .walk .units), omega (arith, l))
 
 divide-same-length : (t : ℕ) → divide-lts.Need-same-length (
   share-reads.Asked,

@@ -7,7 +7,7 @@ use denote.Ref.{now}
 use borrow.Author.Needs.{needs}
 use Rattle.arena.specs.Words.{actionsOf, laterOf}
 use Rattle.profiles.specs.Values.{nought, plus, times}
-use Rattle.floats.proofs.Parts.{part-length}
+use Rattle.finite.proofs.Parts.{part-length}
 use Rattle.response.specs.Valued.{Chosen, Dealt}
 use Rattle.response.proofs.Picking.{two-few, three-few}
 use Rattle.response.proofs.Valuing as valuing
@@ -882,7 +882,7 @@ split-weighed-requires : (t : ℕ) → split-lts.Need-weighed-requires (
   behind-reads.Asked,
   behind-reads.Learnt,
 ) (split-at t) split.Post
-split-weighed-requires t c κs = subst (λ n. 0 < n) (sym (part-length (now (c .before .before .before .before .before .before .before .before .before .before .before .args .profile)) (c .before .before .before .before .before .before .before .before .set .result) (c .before .before .before .before .before .before .before .before .set .result + c .before .before .before .before .before .before .before .actions .result) (omega arith) (c .before .before .before .before .before .if2 .left))) (omega (arith, c .before .before .before .before .before .before .if1 .left))
+split-weighed-requires t c κs = subst (λ n. 0 < n) (sym (part-length (now (c .before .before .before .before .before .before .before .before .before .before .before .args .profile)) (c .before .before .before .before .before .before .before .before .set .result) (c .before .before .before .before .before .before .before .before .set .result + c .before .before .before .before .before .before .before .actions .result) (c .before .before .before .before .before .if2 .left))) (omega (arith, c .before .before .before .before .before .before .if1 .left))
 
 split-behind-requires : (t : ℕ) → split-lts.Need-behind-requires (
   set-reads.Asked,
@@ -980,7 +980,7 @@ split-weighed-requires-2 : (t : ℕ) → split-lts.Need-weighed-requires-2 (
   behind-reads.Asked,
   behind-reads.Learnt,
 ) (split-at t) split.Post
-split-weighed-requires-2 t c κs = subst (λ n. 1 < n) (sym (part-length (now (c .before .before .before .before .before .before .before .before .before .before .before .before .before .before .before .before .before .before .before .args .profile)) (c .before .before .before .before .before .before .before .before .before .before .before .before .before .before .before .before .set .result) (c .before .before .before .before .before .before .before .before .before .before .before .before .before .before .before .before .set .result + c .before .before .before .before .before .before .before .before .before .before .before .before .before .before .before .actions .result) (omega arith) (c .before .before .before .before .before .before .before .before .before .before .before .before .before .if2 .left))) (omega (arith, c .before .before .before .before .before .before .before .before .before .before .before .before .before .before .if1 .left))
+split-weighed-requires-2 t c κs = subst (λ n. 1 < n) (sym (part-length (now (c .before .before .before .before .before .before .before .before .before .before .before .before .before .before .before .before .before .before .before .args .profile)) (c .before .before .before .before .before .before .before .before .before .before .before .before .before .before .before .before .set .result) (c .before .before .before .before .before .before .before .before .before .before .before .before .before .before .before .before .set .result + c .before .before .before .before .before .before .before .before .before .before .before .before .before .before .before .actions .result) (c .before .before .before .before .before .before .before .before .before .before .before .before .before .if2 .left))) (omega (arith, c .before .before .before .before .before .before .before .before .before .before .before .before .before .before .if1 .left))
 
 split-same-length : (t : ℕ) → split-lts.Need-same-length (
   set-reads.Asked,
@@ -1106,7 +1106,7 @@ split-weighed-requires-3 : (t : ℕ) → split-lts.Need-weighed-requires-3 (
   behind-reads.Asked,
   behind-reads.Learnt,
 ) (split-at t) split.Post
-split-weighed-requires-3 t c κs = subst (λ n. 2 < n) (sym (part-length (now (c .before .before .before .before .before .before .before .before .before .before .before .before .before .before .before .before .before .before .before .before .before .before .before .before .before .before .before .before .args .profile)) (c .before .before .before .before .before .before .before .before .before .before .before .before .before .before .before .before .before .before .before .before .before .before .before .before .before .set .result) (c .before .before .before .before .before .before .before .before .before .before .before .before .before .before .before .before .before .before .before .before .before .before .before .before .before .set .result + c .before .before .before .before .before .before .before .before .before .before .before .before .before .before .before .before .before .before .before .before .before .before .before .before .actions .result) (omega arith) (c .before .before .before .before .before .before .before .before .before .before .before .before .before .before .before .before .before .before .before .before .before .before .if2 .left))) (omega (arith, c .before .before .before .before .before .before .before .before .before .before .before .before .before .before .before .before .before .before .before .before .before .before .before .if1 .left, c .before .before .before .before .before .before .before .if3 .left))
+split-weighed-requires-3 t c κs = subst (λ n. 2 < n) (sym (part-length (now (c .before .before .before .before .before .before .before .before .before .before .before .before .before .before .before .before .before .before .before .before .before .before .before .before .before .before .before .before .args .profile)) (c .before .before .before .before .before .before .before .before .before .before .before .before .before .before .before .before .before .before .before .before .before .before .before .before .before .set .result) (c .before .before .before .before .before .before .before .before .before .before .before .before .before .before .before .before .before .before .before .before .before .before .before .before .before .set .result + c .before .before .before .before .before .before .before .before .before .before .before .before .before .before .before .before .before .before .before .before .before .before .before .before .actions .result) (c .before .before .before .before .before .before .before .before .before .before .before .before .before .before .before .before .before .before .before .before .before .before .if2 .left))) (omega (arith, c .before .before .before .before .before .before .before .before .before .before .before .before .before .before .before .before .before .before .before .before .before .before .before .if1 .left, c .before .before .before .before .before .before .before .if3 .left))
 
 split-same-length-2 : (t : ℕ) → split-lts.Need-same-length-2 (
   set-reads.Asked,
