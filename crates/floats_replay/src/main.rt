@@ -43,6 +43,20 @@ fn fill_profile(profile: &mut [f64; 2209], bits: &[u64], given: usize) {
     }
 }
 
+// A count and as many patterns: the first entries of the profile.
+fn read_profile(
+    buf: &mut [u8; 4096],
+    bits: &mut [u64; 2209],
+    profile: &mut [f64; 2209],
+    source: Source,
+) -> Source {
+    let given = replay::number(buf, source);
+    let after_given = given.source;
+    let end = read_bits(buf, bits, after_given, given.value);
+    fill_profile(profile, bits, given.value as usize);
+    end
+}
+
 // One line of the list. Answers where reading stands.
 fn replay_line(
     buf: &mut [u8; 4096],
@@ -69,8 +83,6 @@ fn replay_line(
     let after_seat = seat.source;
     let entries = replay::number(buf, after_seat);
     let after_entries = entries.source;
-    let given = replay::number(buf, after_entries);
-    let after_given = given.source;
     let call = Call {
         code: code.value,
         game: game.value as usize,
@@ -80,8 +92,7 @@ fn replay_line(
         seat: seat.value as usize,
         entries: entries.value as usize,
     };
-    let end = read_bits(buf, bits, after_given, given.value);
-    fill_profile(profile, bits, given.value as usize);
+    let end = read_profile(buf, bits, profile, after_entries);
     lend(text, call, work, profile);
     end
 }
