@@ -30,25 +30,21 @@ module _ (k₀ k₁ base step size : ℕ) (close : ℕ → ℕ → Tree) where
   abbrev pub acts : ℕ → ℕ → Trees → Tree
   acts j n f = decide j ((cond (eqb j 0) k₀ k₁ + (n + base)) ∷ []) f
 
-  -- after two raises FOLD or CALL; seat j has paid x
-  unfoldable pub reraisedTree : (j n x : ℕ) → Tree
+  -- after a raise FOLD or CALL and, while r raises may come, RAISE; seat j has paid x
+  unfoldable pub raisedTree : (r j n x : ℕ) → Tree
   unfolding endTree
-  reraisedTree j n x = acts j n (cons (endTree (2 * j) x) (cons (close (2 * n + step) (x + size)) nil))
+  raisedTree zero j n x = acts j n (cons (endTree (2 * j) x) (cons (close (2 * n + step) (x + size)) nil))
+  raisedTree (suc r) j n x = acts j n (cons (endTree (2 * j) x) (cons (close (2 * n + step) (x + size)) (cons (raisedTree r (1 - j) (2 * n + 2 * step) (x + size)) nil)))
 
-  -- after one raise FOLD, CALL or RAISE
-  unfoldable pub raisedTree : (j n x : ℕ) → Tree
-  unfolding endTree reraisedTree
-  raisedTree j n x = acts j n (cons (endTree (2 * j) x) (cons (close (2 * n + step) (x + size)) (cons (reraisedTree (1 - j) (2 * n + 2 * step) (x + size)) nil)))
-
-  -- after a CALL of seat 0 CALL or RAISE
+  -- after a CALL of seat 0 CALL or RAISE; a round has at most two raises
   unfoldable pub calledTree : ℕ → Tree
   unfolding raisedTree
-  calledTree x = acts 1 step (cons (close (3 * step) x) (cons (raisedTree 0 (4 * step) x) nil))
+  calledTree x = acts 1 step (cons (close (3 * step) x) (cons (raisedTree 1 0 (4 * step) x) nil))
 
   -- at the start CALL or RAISE
   unfoldable pub roundTree : ℕ → Tree
   unfolding calledTree raisedTree
-  roundTree x = acts 0 0 (cons (calledTree x) (cons (raisedTree 1 (2 * step) x) nil))
+  roundTree x = acts 0 0 (cons (calledTree x) (cons (raisedTree 1 1 (2 * step) x) nil))
 
 -- the tree of x if it is kept
 unfoldable pub only : Bool → (ℕ → Tree) → ℕ → Trees
