@@ -17,7 +17,7 @@ use Rattle.arena.specs.Held.{Says}
 use Rattle.arena.specs.Built.{Built, Row, Room}
 use Rattle.arena.proofs.Packing.{kind-of, actor-of, actions-of, set-of, next-of, later-of, chance-kind, chance-next}
 use Rattle.arena.proofs.Building.{join, sizes-join, snoc, row-none, row-one, row-more, row-join, built-chance, built-decide, built-end}
-use Rattle.leduc_arena.specs.Layout.{plain, byteFor, endTree, raisedTree, only, rowTo, Chosen}
+use Rattle.leduc_arena.specs.Layout.{plain, byteFor, endTree, raisedTree, only, rowTo, firstTree, dealTree, Chosen}
 
 -- ---- an end
 pub lays-end : (at e x a b : ℕ) (w v : List ℕ) → Room at w 1 → a ≡ byteFor e x → a < 128 → b ≡ byteFor (2 - e) x → b < 128 → v ≡ set w at (4 * a + 1024 * b) → Built 2 plain at w v (endTree e x) (at + 1)
@@ -230,3 +230,13 @@ module _ (p : ℕ → Bool) (g : ℕ → Tree) where
       child-room z l =
           let grows : sizes (rowTo p g (suc x)) ≤ sizes (rowTo p g 6) = subst (λ i. sizes (rowTo p g (suc x)) ≤ sizes (rowTo p g i)) (omega arith) (row-grows (suc x) (5 - x)) in
           record { words = rw (b .kept .long) (omega (arith, z .words, b .next, row-sizes x)); places = omega (arith, z .places, b .next, row-sizes x) }
+
+-- ---- behind a card round 1, or the deals of another
+module _ (r c d : ℕ) where
+  pub none-left : r ≡ 0 → dealTree r c d ≡ firstTree c d
+  unfolding dealTree
+  none-left e = rw e refl
+
+  pub some-left : 0 < r → dealTree r c d ≡ dealTree (suc (r - 1)) d d
+  unfolding dealTree
+  some-left l = let e : r ≡ suc (r - 1) = omega arith in subst (λ i. dealTree i c d ≡ dealTree (suc (r - 1)) d d) (sym e) refl

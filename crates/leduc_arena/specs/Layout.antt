@@ -80,15 +80,15 @@ unfoldable pub firstTree : (c d : ℕ) → Tree
 unfolding roundTree publicTree
 firstTree c d = roundTree c d 36 462 2 (publicTree c d) 1
 
--- the card of seat 1, then round 1
-unfoldable pub dealTree : ℕ → Tree
+-- behind cards c and d, where r are still to deal: round 1, or another card than d. Card 6 stands for none
+unfoldable pub dealTree : (r c d : ℕ) → Tree
 unfolding firstTree rowTo
-dealTree c = chance (rowTo (λ d. not (eqb d c)) (firstTree c) 6)
+dealTree zero c d = firstTree c d
+dealTree (suc r) c d = chance (rowTo (λ e. not (eqb e d)) (dealTree r d) 6)
 
 -- the whole tree
-unfoldable pub dealsTree : Tree
-unfolding dealTree rowTo
-dealsTree = chance (rowTo (λ c. true) dealTree 6)
+abbrev pub dealsTree : Tree
+dealsTree = dealTree 2 6 6
 
 -- the word at place a, and no other, is now that of seat j's decision over n trees that end at r, and its numbers are small
 pub record Chosen (a j n code r : ℕ) (old new : List ℕ) : Type 0 where
