@@ -24,7 +24,7 @@ use Rattle.leduc_rules.specs.Stakes.{ante, raise₁, raise₂}
 use Rattle.leduc_tree.specs.Tree.{next, each, below, leducTree}
 use Rattle.leduc_tree.proofs.Facts.{counts}
 use Rattle.leduc_arena.specs.Codes.{numberFrom, codeFrom, codeOf, codes}
-use Rattle.leduc_arena.specs.Layout.{plain, byteFor, endTree, reraisedTree, raisedTree, calledTree, roundTree, only, rowTo, showdownFor, secondTree, publicTree, firstTree, dealTree, dealsTree}
+use Rattle.leduc_arena.specs.Layout.{plain, byteFor, endTree, raisedTree, calledTree, roundTree, only, rowTo, showdownFor, secondTree, publicTree, firstTree, dealTree, dealsTree}
 
 -- ---- two payoffs are the same
 unfoldable equal : ℤ → ℤ → Bool
@@ -87,7 +87,7 @@ unfoldable mutual
   agreesAll (cons t f) (cons u g) = and (agrees t u) (agreesAll f g)
 
 all-agree : agrees (leducTree ante raise₁ raise₂) dealsTree ≡ true
-unfolding agrees equal told same keyOf historyOf fan codeOf codeFrom numberFrom leducTree below next each and or some those has ends-with folded closes behind raises may options in-play turn ended left remaining public-due due key matched bet seated after-round contribution folds pairs beats wins payoff byteFor endTree reraisedTree raisedTree calledTree roundTree only rowTo join showdownFor secondTree publicTree firstTree dealTree dealsTree
+unfolding agrees equal told same keyOf historyOf fan codeOf codeFrom numberFrom leducTree below next each and or some those has ends-with folded closes behind raises may options in-play turn ended left remaining public-due due key matched bet seated after-round contribution folds pairs beats wins payoff byteFor endTree raisedTree calledTree roundTree only rowTo join showdownFor secondTree publicTree firstTree dealTree
 all-agree = refl
 
 -- ---- what holds the one holds the other

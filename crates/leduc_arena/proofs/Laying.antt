@@ -10,14 +10,14 @@ use lib.IntN.{pos, _-ℤ_}
 use lib.ListN.{length, set}
 use mir.Syntax.{w64}
 use mir.Val.{Fits}
-use Rattle.game.specs.Tree.{Key, Tree, chance, decide, Trees, nil, cons, fan}
+use Rattle.game.specs.Tree.{Key, Tree, end, chance, decide, Trees, nil, cons, fan}
 use Rattle.game.specs.Sets.{size, sizes}
 use Rattle.arena.specs.Words.{byteOf, chanceWord, decisionWord}
 use Rattle.arena.specs.Held.{Says}
 use Rattle.arena.specs.Built.{Built, Row, Room}
 use Rattle.arena.proofs.Packing.{kind-of, actor-of, actions-of, set-of, next-of, later-of, chance-kind, chance-next}
-use Rattle.arena.proofs.Building.{sizes-join, snoc, row-none, row-one, row-more, row-join, built-chance, built-decide, built-end}
-use Rattle.leduc_arena.specs.Layout.{plain, byteFor, endTree, only, rowTo, Chosen}
+use Rattle.arena.proofs.Building.{join, sizes-join, snoc, row-none, row-one, row-more, row-join, built-chance, built-decide, built-end}
+use Rattle.leduc_arena.specs.Layout.{plain, byteFor, endTree, raisedTree, only, rowTo, firstTree, dealTree, Chosen}
 
 -- ---- an end
 pub lays-end : (at e x a b : ℕ) (w v : List ℕ) → Room at w 1 → a ≡ byteFor e x → a < 128 → b ≡ byteFor (2 - e) x → b < 128 → v ≡ set w at (4 * a + 1024 * b) → Built 2 plain at w v (endTree e x) (at + 1)
@@ -116,6 +116,49 @@ module _ {at r q : ℕ} {w v u : List ℕ} (j : ℕ) (k : Key) {t s : Tree} (h :
     unfolding size fan
     lays-three g c = lays-decision g (row-three h i l) refl refl c
 
+-- ---- the decision after a raise, where r more may come
+module _ (k₀ k₁ base step inc : ℕ) (close : ℕ → ℕ → Tree) (j n x : ℕ) {at : ℕ} {w : List ℕ} where
+  pub fold-room : (r : ℕ) → Room at w (size (raisedTree k₀ k₁ base step inc close r j n x)) → Room (at + 1) w (size (endTree (2 * j) x))
+  unfolding raisedTree
+  fold-room zero g = room-one _ _ _ _ g
+  fold-room (suc r) g = room-one _ _ _ _ g
+
+  -- its FOLD stands
+  module _ {v : List ℕ} {q : ℕ} (h : Built 2 plain (at + 1) w v (endTree (2 * j) x) q) where
+    pub call-room : (r : ℕ) → Room at w (size (raisedTree k₀ k₁ base step inc close r j n x)) → Room q v (size (close (2 * n + step) (x + inc)))
+    unfolding raisedTree
+    call-room zero g = room-two _ _ _ _ _ h g
+    call-room (suc r) g = room-two _ _ _ _ _ h g
+
+    -- and its CALL
+    module _ {u : List ℕ} {p : ℕ} (i : Built 2 plain q v u (close (2 * n + step) (x + inc)) p) where
+      pub last-fits : (r : ℕ) → r ≡ 0 → Room at w (size (raisedTree k₀ k₁ base step inc close r j n x)) → (p < 2097152) × (at < length u)
+      unfolding raisedTree
+      last-fits zero e g = two-fit _ _ h i g
+      last-fits (suc r) e g = absurd (omega arith)
+
+      pub lays-last : (r : ℕ) → r ≡ 0 → Room at w (size (raisedTree k₀ k₁ base step inc close r j n x)) → {y : List ℕ} {m : ℕ} → m ≡ n + base → Chosen at j 2 (cond (eqb j 0) k₀ k₁ + m) p u y → Built 2 plain at w y (raisedTree k₀ k₁ base step inc close r j n x) p
+      unfolding raisedTree
+      lays-last zero e g f c = lays-two _ _ h i g (rw f at c)
+      lays-last (suc r) e g f c = absurd (omega arith)
+
+      pub again-room : (r : ℕ) → 0 < r → Room at w (size (raisedTree k₀ k₁ base step inc close r j n x)) → Room p u (size (raisedTree k₀ k₁ base step inc close (r - 1) (1 - j) (2 * n + 2 * step) (x + inc)))
+      unfolding raisedTree
+      again-room zero l g = absurd (omega arith)
+      again-room (suc r) l g = let e : suc r - 1 ≡ r = omega arith in rw e (room-three _ _ _ _ _ h i _ g)
+
+      -- and its RAISE
+      module _ {z : List ℕ} {o : ℕ} where
+        pub again-fits : (r : ℕ) → 0 < r → Room at w (size (raisedTree k₀ k₁ base step inc close r j n x)) → Built 2 plain p u z (raisedTree k₀ k₁ base step inc close (r - 1) (1 - j) (2 * n + 2 * step) (x + inc)) o → (o < 2097152) × (at < length z)
+        unfolding raisedTree
+        again-fits zero l g b = absurd (omega arith)
+        again-fits (suc r) l g b = let e : suc r - 1 ≡ r = omega arith in three-fit _ _ h i (rw e at b) g
+
+        pub lays-again : (r : ℕ) → 0 < r → Room at w (size (raisedTree k₀ k₁ base step inc close r j n x)) → Built 2 plain p u z (raisedTree k₀ k₁ base step inc close (r - 1) (1 - j) (2 * n + 2 * step) (x + inc)) o → {y : List ℕ} {m : ℕ} → m ≡ n + base → Chosen at j 3 (cond (eqb j 0) k₀ k₁ + m) o z y → Built 2 plain at w y (raisedTree k₀ k₁ base step inc close r j n x) o
+        unfolding raisedTree
+        lays-again zero l g b f c = absurd (omega arith)
+        lays-again (suc r) l g b f c = let e : suc r - 1 ≡ r = omega arith in lays-three _ _ h i (rw e at b) g (rw f at c)
+
 -- ---- the numbers stay small
 module _ {j : ℕ} (l : j < 2) where
   pub fold-few : 2 * j ≤ 2
@@ -124,19 +167,24 @@ module _ {j : ℕ} (l : j < 2) where
   pub other-seat : 1 - j < 2
   other-seat = omega arith
 
--- of the second round, after one raise and after two
-pub raised-few : {n x : ℕ} → n ≤ 168 → x ≤ 5 → (n ≤ 4656) × (2 * n + 84 ≤ 420) × (x ≤ 13)
-raised-few h g = (omega arith, omega arith, omega arith)
+-- of a raise of the second round, where r more may come
+module _ (n x r : ℕ) (h : n + 252 * r ≤ 420) (g : x + 4 * r ≤ 9) where
+  pub second-few : (n ≤ 4656) × (x ≤ 13) × (x + 4 ≤ 13)
+  second-few = (omega arith, omega arith, omega arith)
 
-pub reraised-few : {n x : ℕ} → n ≤ 420 → x ≤ 9 → (n ≤ 4656) × (x ≤ 13)
-reraised-few h g = (omega arith, omega arith)
+  pub second-again : 0 < r → (2 * n + 84 + 252 * (r - 1) ≤ 420) × (x + 4 + 4 * (r - 1) ≤ 9)
+  second-again l = (omega arith, omega arith)
+
+pub start-few : {x : ℕ} → x ≤ 5 → x + 4 ≤ 9
+start-few h = omega arith
 
 -- of the first
-pub once-few : {n : ℕ} → n ≤ 1848 → (2 * n + 462 ≤ 9702) × (2 * n + 924 ≤ 4620) × (n + 36 ≤ 4656)
-once-few h = (omega arith, omega arith, omega arith)
+module _ (n x r : ℕ) (h : n + 2772 * r ≤ 4620) (g : x + 2 * r ≤ 3) where
+  pub first-few : (n + 36 ≤ 4656) × (2 * n + 462 ≤ 9702) × (x ≤ 13) × (x + 2 ≤ 5)
+  first-few = (omega arith, omega arith, omega arith, omega arith)
 
-pub twice-few : {n : ℕ} → n ≤ 4620 → (2 * n + 462 ≤ 9702) × (n + 36 ≤ 4656)
-twice-few h = (omega arith, omega arith)
+  pub first-again : 0 < r → (2 * n + 924 + 2772 * (r - 1) ≤ 4620) × (x + 2 + 2 * (r - 1) ≤ 3)
+  first-again l = (omega arith, omega arith)
 
 pub card-few : {c : ℕ} → c < 6 → c ≤ 9743
 card-few l = omega arith
@@ -182,3 +230,13 @@ module _ (p : ℕ → Bool) (g : ℕ → Tree) where
       child-room z l =
           let grows : sizes (rowTo p g (suc x)) ≤ sizes (rowTo p g 6) = subst (λ i. sizes (rowTo p g (suc x)) ≤ sizes (rowTo p g i)) (omega arith) (row-grows (suc x) (5 - x)) in
           record { words = rw (b .kept .long) (omega (arith, z .words, b .next, row-sizes x)); places = omega (arith, z .places, b .next, row-sizes x) }
+
+-- ---- behind a card round 1, or the deals of another
+module _ (r c d : ℕ) where
+  pub none-left : r ≡ 0 → dealTree r c d ≡ firstTree c d
+  unfolding dealTree
+  none-left e = rw e refl
+
+  pub some-left : 0 < r → dealTree r c d ≡ dealTree (suc (r - 1)) d d
+  unfolding dealTree
+  some-left l = let e : r ≡ suc (r - 1) = omega arith in subst (λ i. dealTree i c d ≡ dealTree (suc (r - 1)) d d) (sym e) refl

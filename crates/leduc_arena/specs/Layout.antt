@@ -1,6 +1,6 @@
 -- Leduc's tree as the builder writes it: a decision's key is its code, and an end's payoffs are its bytes. Definitions only; nothing is assumed.
-use mathlib.Core.Path.{_≡_}
 use mathlib.Core.Bool.{Bool, true, false, not, cond}
+use mathlib.Core.Path.{_≡_}
 use mathlib.Core.List.{List, [], _∷_}
 use Prim.Native.Nat.{ℕ, zero, suc, _+_, _*_, _-_, _/_, _<_}
 use lib.Dec.{eqb, ltb}
@@ -30,25 +30,21 @@ module _ (k₀ k₁ base step size : ℕ) (close : ℕ → ℕ → Tree) where
   abbrev pub acts : ℕ → ℕ → Trees → Tree
   acts j n f = decide j ((cond (eqb j 0) k₀ k₁ + (n + base)) ∷ []) f
 
-  -- after two raises FOLD or CALL; seat j has paid x
-  unfoldable pub reraisedTree : (j n x : ℕ) → Tree
+  -- after a raise FOLD or CALL and, while r raises may come, RAISE; seat j has paid x
+  unfoldable pub raisedTree : (r j n x : ℕ) → Tree
   unfolding endTree
-  reraisedTree j n x = acts j n (cons (endTree (2 * j) x) (cons (close (2 * n + step) (x + size)) nil))
+  raisedTree zero j n x = acts j n (cons (endTree (2 * j) x) (cons (close (2 * n + step) (x + size)) nil))
+  raisedTree (suc r) j n x = acts j n (cons (endTree (2 * j) x) (cons (close (2 * n + step) (x + size)) (cons (raisedTree r (1 - j) (2 * n + 2 * step) (x + size)) nil)))
 
-  -- after one raise FOLD, CALL or RAISE
-  unfoldable pub raisedTree : (j n x : ℕ) → Tree
-  unfolding endTree reraisedTree
-  raisedTree j n x = acts j n (cons (endTree (2 * j) x) (cons (close (2 * n + step) (x + size)) (cons (reraisedTree (1 - j) (2 * n + 2 * step) (x + size)) nil)))
-
-  -- after a CALL of seat 0 CALL or RAISE
+  -- after a CALL of seat 0 CALL or RAISE; a round has at most two raises
   unfoldable pub calledTree : ℕ → Tree
   unfolding raisedTree
-  calledTree x = acts 1 step (cons (close (3 * step) x) (cons (raisedTree 0 (4 * step) x) nil))
+  calledTree x = acts 1 step (cons (close (3 * step) x) (cons (raisedTree 1 0 (4 * step) x) nil))
 
   -- at the start CALL or RAISE
   unfoldable pub roundTree : ℕ → Tree
   unfolding calledTree raisedTree
-  roundTree x = acts 0 0 (cons (calledTree x) (cons (raisedTree 1 (2 * step) x) nil))
+  roundTree x = acts 0 0 (cons (calledTree x) (cons (raisedTree 1 1 (2 * step) x) nil))
 
 -- the tree of x if it is kept
 unfoldable pub only : Bool → (ℕ → Tree) → ℕ → Trees
@@ -84,15 +80,15 @@ unfoldable pub firstTree : (c d : ℕ) → Tree
 unfolding roundTree publicTree
 firstTree c d = roundTree c d 36 462 2 (publicTree c d) 1
 
--- the card of seat 1, then round 1
-unfoldable pub dealTree : ℕ → Tree
+-- behind cards c and d, where r are still to deal: round 1, or another card than d. Card 6 stands for none
+unfoldable pub dealTree : (r c d : ℕ) → Tree
 unfolding firstTree rowTo
-dealTree c = chance (rowTo (λ d. not (eqb d c)) (firstTree c) 6)
+dealTree zero c d = firstTree c d
+dealTree (suc r) c d = chance (rowTo (λ e. not (eqb e d)) (dealTree r d) 6)
 
 -- the whole tree
-unfoldable pub dealsTree : Tree
-unfolding dealTree rowTo
-dealsTree = chance (rowTo (λ c. true) dealTree 6)
+abbrev pub dealsTree : Tree
+dealsTree = dealTree 2 6 6
 
 -- the word at place a, and no other, is now that of seat j's decision over n trees that end at r, and its numbers are small
 pub record Chosen (a j n code r : ℕ) (old new : List ℕ) : Type 0 where

@@ -1,5 +1,6 @@
 // The first round, and the public card behind each history that closes it.
 use crate::second;
+use crate::words::RERAISES;
 use crate::words::choose;
 use crate::words::end;
 use crate::words::write;
@@ -7,14 +8,12 @@ use arena::words::chance;
 ghost use Prim.Native.Nat.{_+_, _*_, _<_, _≤_};
 ghost use Rattle.game.specs.Sets.{size, sizes};
 ghost use Rattle.arena.specs.Built.{Built, Row, Room};
-ghost use Rattle.leduc_arena.specs.Layout.{plain, only, other, reraisedTree, raisedTree, calledTree, secondTree, publicTree, firstTree};
+ghost use Rattle.leduc_arena.specs.Layout.{plain, only, other, raisedTree, calledTree, secondTree, publicTree, firstTree};
 
-// What a seat has paid: the ante, and then as much as one raise and as two.
+// What a seat has paid at the start, and what a raise adds.
 const ANTE: usize = 1;
 
-const RAISED: usize = 3;
-
-const RERAISED: usize = 5;
+const BET: usize = 2;
 
 // A code without a public card has this beside the card and the number of the history.
 const HIDDEN: usize = 36;
@@ -60,27 +59,29 @@ fn public(w: &mut [u64], at: usize, c: usize, d: usize, n: usize, paid: usize) -
     next
 }
 
-// Lays out FOLD and CALL after two raises; n is the number of the history.
-fn reraised(w: &mut [u64], at: usize, c: usize, d: usize, seat: usize, n: usize) -> usize
-    requires { ⌜ (c < 6) × (d < 6) × (seat < 2) × (n ≤ 4620) ⌝ }
-    requires { ⌜ Room at (now w) (size (reraisedTree c d 36 462 2 (publicTree c d) seat n 3)) ⌝ }
-    ensures { λ r. ⌜ Built 2 plain at (now (w .entry)) (now (w .exit)) (reraisedTree c d 36 462 2 (publicTree c d) seat n 3) r ⌝ }
+// Lays out FOLD, CALL and, while left raises may come, RAISE after a raise; below a RAISE left falls. The number of the history is n, and the seat has paid so much.
+fn raised(
+    w: &mut [u64],
+    at: usize,
+    c: usize,
+    d: usize,
+    seat: usize,
+    n: usize,
+    paid: usize,
+    left: usize,
+) -> usize
+    requires { ⌜ (c < 6) × (d < 6) × (seat < 2) × (n + 2772 * left ≤ 4620) × (paid + 2 * left ≤ 3) ⌝ }
+    requires { ⌜ Room at (now w) (size (raisedTree c d 36 462 2 (publicTree c d) left seat n paid)) ⌝ }
+    ensures { λ r. ⌜ Built 2 plain at (now (w .entry)) (now (w .exit)) (raisedTree c d 36 462 2 (publicTree c d) left seat n paid) r ⌝ }
 {
-    let call = end(w, at + 1, 2 * seat, RAISED);
-    let next = public(w, call, c, d, 2 * n + CALL, RERAISED);
-    choose(w, at, seat, 2, c, d, n + HIDDEN, next);
-    next
-}
-
-// Lays out FOLD, CALL and RAISE after one raise.
-fn raised(w: &mut [u64], at: usize, c: usize, d: usize, seat: usize, n: usize) -> usize
-    requires { ⌜ (c < 6) × (d < 6) × (seat < 2) × (n ≤ 1848) ⌝ }
-    requires { ⌜ Room at (now w) (size (raisedTree c d 36 462 2 (publicTree c d) seat n 1)) ⌝ }
-    ensures { λ r. ⌜ Built 2 plain at (now (w .entry)) (now (w .exit)) (raisedTree c d 36 462 2 (publicTree c d) seat n 1) r ⌝ }
-{
-    let call = end(w, at + 1, 2 * seat, ANTE);
-    let raise = public(w, call, c, d, 2 * n + CALL, RAISED);
-    let next = reraised(w, raise, c, d, 1 - seat, 2 * n + RAISE);
+    let more = paid + BET;
+    let call = end(w, at + 1, 2 * seat, paid);
+    let raise = public(w, call, c, d, 2 * n + CALL, more);
+    if left == 0 {
+        choose(w, at, seat, 2, c, d, n + HIDDEN, raise);
+        return raise;
+    }
+    let next = raised(w, raise, c, d, 1 - seat, 2 * n + RAISE, more, left - 1);
     choose(w, at, seat, 3, c, d, n + HIDDEN, next);
     next
 }
@@ -92,7 +93,7 @@ fn called(w: &mut [u64], at: usize, c: usize, d: usize) -> usize
     ensures { λ r. ⌜ Built 2 plain at (now (w .entry)) (now (w .exit)) (calledTree c d 36 462 2 (publicTree c d) 1) r ⌝ }
 {
     let raise = public(w, at + 1, c, d, CALL_CALL, ANTE);
-    let next = raised(w, raise, c, d, 0, CALL_RAISE);
+    let next = raised(w, raise, c, d, 0, CALL_RAISE, ANTE, RERAISES);
     choose(w, at, 1, 2, c, d, CALL + HIDDEN, next);
     next
 }
@@ -104,7 +105,7 @@ pub fn round(w: &mut [u64], at: usize, c: usize, d: usize) -> usize
     ensures { λ r. ⌜ Built 2 plain at (now (w .entry)) (now (w .exit)) (firstTree c d) r ⌝ }
 {
     let raise = called(w, at + 1, c, d);
-    let next = raised(w, raise, c, d, 1, RAISE);
+    let next = raised(w, raise, c, d, 1, RAISE, ANTE, RERAISES);
     choose(w, at, 0, 2, c, d, HIDDEN, next);
     next
 }

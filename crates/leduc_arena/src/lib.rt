@@ -6,7 +6,7 @@ mod words;
 use arena::words::chance;
 use words::write;
 ghost use mathlib.Core.Bool.{not};
-ghost use Prim.Native.Nat.{_+_, _<_, _≤_};
+ghost use Prim.Native.Nat.{suc, _+_, _<_, _≤_};
 ghost use lib.Dec.{eqb};
 ghost use lib.ListN.{length};
 ghost use Rattle.game.specs.Sets.{size, sizes};
@@ -14,32 +14,38 @@ ghost use Rattle.arena.specs.Built.{Built, Row, Room};
 ghost use Rattle.leduc_rules.specs.Stakes.{ante, raise₁, raise₂};
 ghost use Rattle.leduc_tree.specs.Tree.{leducTree};
 ghost use Rattle.leduc_arena.specs.Codes.{codeOf};
-ghost use Rattle.leduc_arena.specs.Layout.{plain, only, firstTree, dealTree};
+ghost use Rattle.leduc_arena.specs.Layout.{plain, only, dealTree};
 
 const DECK: usize = 6;
 
-// Lays out the hand of cards c and d, if they differ, at place at; the place behind it.
-fn dealt(w: &mut [u64], at: usize, c: usize, d: usize) -> usize
-    requires { ⌜ (c < 6) × (d < 6) ⌝ }
-    requires { ⌜ Room at (now w) (sizes (only (not (eqb d c)) (firstTree c) d)) ⌝ }
-    ensures { λ r. ⌜ Row 2 plain at (now (w .entry)) (now (w .exit)) (only (not (eqb d c)) (firstTree c) d) r ⌝ }
+// Stands for the card before the first.
+const NONE: usize = 6;
+
+// Lays out the tree behind card d, if that is not c, the card dealt before; left cards are to deal after d. Below another deal left falls.
+fn dealt(w: &mut [u64], at: usize, left: usize, c: usize, d: usize) -> usize
+    requires { ⌜ (c < 6 + left) × (d < 6) ⌝ }
+    requires { ⌜ Room at (now w) (sizes (only (not (eqb d c)) (dealTree left c) d)) ⌝ }
+    ensures { λ r. ⌜ Row 2 plain at (now (w .entry)) (now (w .exit)) (only (not (eqb d c)) (dealTree left c) d) r ⌝ }
 {
     if d == c {
         return at;
     }
-    first::round(w, at, c, d)
+    if left == 0 {
+        return first::round(w, at, c, d);
+    }
+    deal(w, at, left - 1, d)
 }
 
-// Lays out the deals of seat 1, where seat 0 has card c.
-fn deal(w: &mut [u64], at: usize, c: usize) -> usize
-    requires { ⌜ c < 6 ⌝ }
-    requires { ⌜ Room at (now w) (size (dealTree c)) ⌝ }
-    ensures { λ r. ⌜ Built 2 plain at (now (w .entry)) (now (w .exit)) (dealTree c) r ⌝ }
+// Lays out the deals of the card that comes after c, where left more are to deal after that.
+fn deal(w: &mut [u64], at: usize, left: usize, c: usize) -> usize
+    requires { ⌜ c < 6 + left ⌝ }
+    requires { ⌜ Room at (now w) (size (dealTree (suc left) c c)) ⌝ }
+    ensures { λ r. ⌜ Built 2 plain at (now (w .entry)) (now (w .exit)) (dealTree (suc left) c c) r ⌝ }
 {
     let mut next = at + 1;
     let mut d = 0;
     while d < DECK {
-        next = dealt(w, next, c, d);
+        next = dealt(w, next, left, c, d);
         d += 1;
     }
     write(w, at, chance(next));
@@ -51,12 +57,5 @@ pub fn build(w: &mut [u64]) -> usize
     requires { ⌜ 9457 ≤ length (now w) ⌝ }
     ensures { λ r. ⌜ Built 2 codeOf 0 (now (w .entry)) (now (w .exit)) (leducTree ante raise₁ raise₂) r ⌝ }
 {
-    let mut next = 1;
-    let mut c = 0;
-    while c < DECK {
-        next = deal(w, next, c);
-        c += 1;
-    }
-    write(w, 0, chance(next));
-    next
+    deal(w, 0, 1, NONE)
 }

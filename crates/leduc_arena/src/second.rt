@@ -1,5 +1,6 @@
 // The second round, and the showdown behind each history that closes it.
 use crate::words::LOSS;
+use crate::words::RERAISES;
 use crate::words::TIE;
 use crate::words::WIN;
 use crate::words::choose;
@@ -8,7 +9,7 @@ ghost use mathlib.Core.Path.{_≡_};
 ghost use Prim.Native.Nat.{_+_, _*_, _<_, _≤_};
 ghost use Rattle.game.specs.Sets.{size};
 ghost use Rattle.arena.specs.Built.{Built, Room};
-ghost use Rattle.leduc_arena.specs.Layout.{plain, endTree, reraisedTree, raisedTree, calledTree, roundTree, showdownFor};
+ghost use Rattle.leduc_arena.specs.Layout.{plain, endTree, raisedTree, calledTree, roundTree, showdownFor};
 
 // What a raise adds.
 const BET: usize = 4;
@@ -39,28 +40,7 @@ pub fn showdown(c: usize, d: usize, p: usize) -> usize
     TIE
 }
 
-// Lays out FOLD and CALL after two raises; n is the number of the history, and the seat has paid so much.
-fn reraised(
-    w: &mut [u64],
-    at: usize,
-    zero: usize,
-    one: usize,
-    outcome: usize,
-    seat: usize,
-    n: usize,
-    paid: usize,
-) -> usize
-    requires { ⌜ (zero ≤ 9743) × (one ≤ 9743) × (outcome ≤ 2) × (seat < 2) × (n ≤ 420) × (paid ≤ 9) ⌝ }
-    requires { ⌜ Room at (now w) (size (reraisedTree zero one 0 42 4 (λ m y. endTree outcome y) seat n paid)) ⌝ }
-    ensures { λ r. ⌜ Built 2 plain at (now (w .entry)) (now (w .exit)) (reraisedTree zero one 0 42 4 (λ m y. endTree outcome y) seat n paid) r ⌝ }
-{
-    let call = end(w, at + 1, 2 * seat, paid);
-    let next = end(w, call, outcome, paid + BET);
-    choose(w, at, seat, 2, zero, one, n, next);
-    next
-}
-
-// Lays out FOLD, CALL and RAISE after one raise.
+// Lays out FOLD, CALL and, while left raises may come, RAISE after a raise; below a RAISE left falls. The number of the history is n, and the seat has paid so much.
 fn raised(
     w: &mut [u64],
     at: usize,
@@ -70,15 +50,30 @@ fn raised(
     seat: usize,
     n: usize,
     paid: usize,
+    left: usize,
 ) -> usize
-    requires { ⌜ (zero ≤ 9743) × (one ≤ 9743) × (outcome ≤ 2) × (seat < 2) × (n ≤ 168) × (paid ≤ 5) ⌝ }
-    requires { ⌜ Room at (now w) (size (raisedTree zero one 0 42 4 (λ m y. endTree outcome y) seat n paid)) ⌝ }
-    ensures { λ r. ⌜ Built 2 plain at (now (w .entry)) (now (w .exit)) (raisedTree zero one 0 42 4 (λ m y. endTree outcome y) seat n paid) r ⌝ }
+    requires { ⌜ (zero ≤ 9743) × (one ≤ 9743) × (outcome ≤ 2) × (seat < 2) × (n + 252 * left ≤ 420) × (paid + 4 * left ≤ 9) ⌝ }
+    requires { ⌜ Room at (now w) (size (raisedTree zero one 0 42 4 (λ m y. endTree outcome y) left seat n paid)) ⌝ }
+    ensures { λ r. ⌜ Built 2 plain at (now (w .entry)) (now (w .exit)) (raisedTree zero one 0 42 4 (λ m y. endTree outcome y) left seat n paid) r ⌝ }
 {
     let more = paid + BET;
     let call = end(w, at + 1, 2 * seat, paid);
     let raise = end(w, call, outcome, more);
-    let next = reraised(w, raise, zero, one, outcome, 1 - seat, 2 * n + RAISE, more);
+    if left == 0 {
+        choose(w, at, seat, 2, zero, one, n, raise);
+        return raise;
+    }
+    let next = raised(
+        w,
+        raise,
+        zero,
+        one,
+        outcome,
+        1 - seat,
+        2 * n + RAISE,
+        more,
+        left - 1,
+    );
     choose(w, at, seat, 3, zero, one, n, next);
     next
 }
@@ -90,7 +85,7 @@ fn called(w: &mut [u64], at: usize, zero: usize, one: usize, outcome: usize, pai
     ensures { λ r. ⌜ Built 2 plain at (now (w .entry)) (now (w .exit)) (calledTree zero one 0 42 4 (λ m y. endTree outcome y) paid) r ⌝ }
 {
     let raise = end(w, at + 1, outcome, paid);
-    let next = raised(w, raise, zero, one, outcome, 0, CALL_RAISE, paid);
+    let next = raised(w, raise, zero, one, outcome, 0, CALL_RAISE, paid, RERAISES);
     choose(w, at, 1, 2, zero, one, CALL, next);
     next
 }
@@ -109,7 +104,7 @@ pub fn round(
     ensures { λ r. ⌜ Built 2 plain at (now (w .entry)) (now (w .exit)) (roundTree zero one 0 42 4 (λ m y. endTree outcome y) paid) r ⌝ }
 {
     let raise = called(w, at + 1, zero, one, outcome, paid);
-    let next = raised(w, raise, zero, one, outcome, 1, RAISE, paid);
+    let next = raised(w, raise, zero, one, outcome, 1, RAISE, paid, RERAISES);
     choose(w, at, 0, 2, zero, one, 0, next);
     next
 }

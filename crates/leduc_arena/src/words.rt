@@ -16,6 +16,9 @@ pub const TIE: usize = 1;
 
 pub const WIN: usize = 2;
 
+// How many raises of a round may come after its first.
+pub const RERAISES: usize = 1;
+
 // The code of a seat, of one for each.
 fn own(seat: usize, zero: usize, one: usize) -> usize
     requires { ⌜ (zero ≤ 9743) × (one ≤ 9743) ⌝ }

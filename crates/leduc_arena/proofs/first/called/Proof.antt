@@ -1,4 +1,5 @@
 -- CALL and RAISE after a CALL of the first round. Assumes nothing.
+use Prim.Native.Nat.{_-_}
 use native.Mathlib.Bridge.{le-by-compare, IsLe}
 use borrow.Author.Needs.{needs}
 use Rattle.leduc_arena.specs.Layout.{calledTree}
@@ -15,7 +16,7 @@ public-requires c κs = ((c .before .before .pre .0 .0, c .before .before .pre .
 
 raised-requires : tie.Need-raised-requires
 unfolding calledTree IsLe
-raised-requires c κs = ((c .before .before .before .before .before .before .pre .0 .0, c .before .before .before .before .before .before .pre .0 .1, le-by-compare 1 2 tt, le-by-compare 1848 1848 tt), room-two _ _ _ _ _ (c .before .before .before .public .ensures) (c .before .before .before .before .before .before .pre .1))
+raised-requires c κs = ((c .before .before .before .before .before .before .pre .0 .0, c .before .before .before .before .before .before .pre .0 .1, le-by-compare 1 2 tt, le-by-compare 4620 4620 tt, le-by-compare 3 3 tt), room-two _ _ _ _ _ (c .before .before .before .public .ensures) (c .before .before .before .before .before .before .pre .1))
 
 add-choose : tie.Need-add-choose
 add-choose c = search needs

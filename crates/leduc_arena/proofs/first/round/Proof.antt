@@ -1,4 +1,5 @@
 -- The first round. Assumes nothing.
+use Prim.Native.Nat.{_-_}
 use native.Mathlib.Bridge.{le-by-compare, IsLe}
 use borrow.Author.Needs.{needs}
 use Rattle.leduc_arena.specs.Layout.{roundTree, firstTree}
@@ -15,7 +16,7 @@ called-requires c κs = (c .before .before .pre .0, room-one _ _ _ _ (c .before 
 
 raised-requires : tie.Need-raised-requires
 unfolding roundTree firstTree IsLe
-raised-requires c κs = ((c .before .before .before .before .before .before .pre .0 .0, c .before .before .before .before .before .before .pre .0 .1, le-by-compare 2 2 tt, le-by-compare 924 1848 tt), room-two _ _ _ _ _ (c .before .before .before .called .ensures) (c .before .before .before .before .before .before .pre .1))
+raised-requires c κs = ((c .before .before .before .before .before .before .pre .0 .0, c .before .before .before .before .before .before .pre .0 .1, le-by-compare 2 2 tt, le-by-compare 3696 4620 tt, le-by-compare 3 3 tt), room-two _ _ _ _ _ (c .before .before .before .called .ensures) (c .before .before .before .before .before .before .pre .1))
 
 choose-requires : tie.Need-choose-requires
 unfolding roundTree firstTree IsLe

@@ -1,9 +1,10 @@
 -- CALL and RAISE after a CALL of the second round. Assumes nothing.
+use Prim.Native.Nat.{_-_}
 use native.Mathlib.Nat as NatL
 use native.Mathlib.Bridge.{le-by-compare, IsLe}
 use borrow.Author.Needs.{needs}
 use Rattle.leduc_arena.specs.Layout.{calledTree}
-use Rattle.leduc_arena.proofs.Laying.{place-fits, room-one, room-two, two-fit, lays-two}
+use Rattle.leduc_arena.proofs.Laying.{place-fits, room-one, room-two, two-fit, lays-two, start-few}
 use Rattle.leduc_arena.proofs.second.called.Statement.{statement}
 use Rattle.leduc_arena.proofs.second.called.Tie as tie
 
@@ -16,7 +17,7 @@ end-requires c κs = (c .before .before .pre .0 .2, NatL.le-trans (c .before .be
 
 raised-requires : tie.Need-raised-requires
 unfolding calledTree IsLe
-raised-requires c κs = ((c .before .before .before .before .before .before .pre .0 .0, c .before .before .before .before .before .before .pre .0 .1, c .before .before .before .before .before .before .pre .0 .2, le-by-compare 1 2 tt, le-by-compare 168 168 tt, c .before .before .before .before .before .before .pre .0 .3), room-two _ _ _ _ _ (c .before .before .before .end .ensures) (c .before .before .before .before .before .before .pre .1))
+raised-requires c κs = ((c .before .before .before .before .before .before .pre .0 .0, c .before .before .before .before .before .before .pre .0 .1, c .before .before .before .before .before .before .pre .0 .2, le-by-compare 1 2 tt, le-by-compare 420 420 tt, start-few (c .before .before .before .before .before .before .pre .0 .3)), room-two _ _ _ _ _ (c .before .before .before .end .ensures) (c .before .before .before .before .before .before .pre .1))
 
 choose-requires : tie.Need-choose-requires
 unfolding calledTree IsLe

@@ -1,8 +1,9 @@
 -- The second round. Assumes nothing.
+use Prim.Native.Nat.{_-_}
 use native.Mathlib.Bridge.{le-by-compare, IsLe}
 use borrow.Author.Needs.{needs}
 use Rattle.leduc_arena.specs.Layout.{roundTree}
-use Rattle.leduc_arena.proofs.Laying.{place-fits, room-one, room-two, two-fit, lays-two}
+use Rattle.leduc_arena.proofs.Laying.{place-fits, room-one, room-two, two-fit, lays-two, start-few}
 use Rattle.leduc_arena.proofs.second.round.Statement.{statement}
 use Rattle.leduc_arena.proofs.second.round.Tie as tie
 
@@ -15,7 +16,7 @@ called-requires c κs = (c .before .before .pre .0, room-one _ _ _ _ (c .before 
 
 raised-requires : tie.Need-raised-requires
 unfolding roundTree IsLe
-raised-requires c κs = ((c .before .before .before .before .before .before .pre .0 .0, c .before .before .before .before .before .before .pre .0 .1, c .before .before .before .before .before .before .pre .0 .2, le-by-compare 2 2 tt, le-by-compare 84 168 tt, c .before .before .before .before .before .before .pre .0 .3), room-two _ _ _ _ _ (c .before .before .before .called .ensures) (c .before .before .before .before .before .before .pre .1))
+raised-requires c κs = ((c .before .before .before .before .before .before .pre .0 .0, c .before .before .before .before .before .before .pre .0 .1, c .before .before .before .before .before .before .pre .0 .2, le-by-compare 2 2 tt, le-by-compare 336 420 tt, start-few (c .before .before .before .before .before .before .pre .0 .3)), room-two _ _ _ _ _ (c .before .before .before .called .ensures) (c .before .before .before .before .before .before .pre .1))
 
 choose-requires : tie.Need-choose-requires
 unfolding roundTree IsLe

@@ -1,5 +1,5 @@
 -- The word of a decision. Assumes nothing.
-use Prim.Native.Nat.{_+_, _<_}
+use Prim.Native.Nat.{_+_, _-_, _<_}
 use native.Mathlib.Omega.{arith}
 use borrow.Author.Needs.{needs}
 use Rattle.leduc_arena.proofs.words.choose.Statement.{statement}

@@ -1,9 +1,9 @@
 -- The word of an end. Assumes nothing.
-use native.Mathlib.Omega.{arith}
+use Prim.Native.Nat.{_-_}
 use borrow.Author.Needs.{needs}
 use Rattle.game.specs.Sets.{size}
 use Rattle.leduc_arena.specs.Layout.{endTree}
-use Rattle.leduc_arena.proofs.Laying.{lays-end}
+use Rattle.leduc_arena.proofs.Laying.{place-fits, lays-end}
 use Rattle.leduc_arena.proofs.words.end.Statement.{statement}
 use Rattle.leduc_arena.proofs.words.end.Tie as tie
 
@@ -30,7 +30,7 @@ unfolding endTree size
 write-requires c κs = search needs
 
 add-result : tie.Need-add-result
-add-result c = record { fits = omega (arith, c .before .before .before .before .before .before .before .pre .2 .places) }
+add-result c = place-fits (c .before .before .before .before .before .before .before .pre .2)
 
 same-length : tie.Need-same-length
 same-length c = search needs
