@@ -3,6 +3,10 @@ RUST ?= ../shared/docs/src
 
 CARGO_FLAGS := --offline --locked
 
+# How many crates `rt` proves side by side, each in up to 1 GB: a row of crates waits for its slowest, so it is more than the cores.
+RT_JOBS ?= 6
+export RT_JOBS
+
 # How many random hands `compare` plays of each game; its seed, else one from the clock. How many rounds `bench` times. How long `fuzz` runs; its seed is 1.
 HANDS ?= 2000
 SEED ?=

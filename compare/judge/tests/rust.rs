@@ -1,7 +1,9 @@
 //! The unchanged Rust on document 01's cases, and where the two differ.
 
 use judge::{whole, EventNumber};
-use reinfors_core::best_response::{best_response_values, enumerate_infosets, nash_conv, profile_values};
+use reinfors_core::best_response::{
+    best_response_value, best_response_values, enumerate_infosets, nash_conv, profile_values,
+};
 use reinfors_core::game::Game;
 use reinfors_core::StateCodec;
 use reinfors_games::kuhn::{KuhnPoker, KuhnState};
@@ -111,4 +113,20 @@ fn where_leduc_differs() {
     assert!(catch_unwind(|| LeducPoker.apply_chance_node(&leduc(&[], None, &[], &[]), 6).next_state).is_err());
     assert!(catch_unwind(|| LeducPoker.information_state_key(&leduc(&[0], None, &[], &[]), 1)).is_err());
     assert!(LeducPoker.validate_decoded_state(&due, false).is_err(), "a live second round needs its public card");
+}
+
+/// The profile with the same entries for each set.
+fn everywhere(entries: &'static [f64]) -> impl Fn(&[u8], usize) -> Vec<f64> {
+    |_, _| entries.to_vec()
+}
+
+#[test]
+fn where_the_values_differ() {
+    let of = |entries| nash_conv(&KUHN_2, &EventNumber, &everywhere(entries)).expect("a tree within the limit");
+    assert!(catch_unwind(|| of(&[0.5])).is_err(), "a list of one entry is too short");
+    assert_eq!(of(&[0.5, 0.5, 9.0]).to_bits(), of(&[0.5, 0.5]).to_bits(), "what is past the actions is not read");
+    let of_seat = |seat| best_response_value(&KUHN_2, &EventNumber, &everywhere(&[0.5, 0.5]), seat);
+    assert!(of_seat(1).is_ok());
+    assert!(catch_unwind(|| of_seat(2)).is_err(), "seat 2 has no payoff");
+    assert!(nash_conv(&KuhnPoker { players: 7 }, &EventNumber, &everywhere(&[0.5, 0.5])).is_err());
 }
