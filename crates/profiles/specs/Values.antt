@@ -14,11 +14,12 @@ use Rattle.game.specs.Sets.{sets, before, entriesOf, firstEntry, height}
 abbrev pub Profile : Type 0
 Profile = ℕ → Key → ℕ → Float
 
--- the profile of a list of entries: an action's stands at its set's first entry + the action
+-- the profile of a list of entries: an action's stands at its set's first entry + the action; NaN past the list, where no call looks that is not refused
 unfoldable pub profileOf : Tree → List Float → Profile
 unfolding sets before entriesOf
 profileOf t entries j k a = getD entries (firstEntry t j k + a) nan
 
+-- 0.0 and 1.0, by their bits
 abbrev pub nought : Float
 nought = ofBits binary64 0
 
@@ -42,7 +43,7 @@ edge i (end p) = ofInt binary64 (p i)
 edge i (chance f) = nought
 edge i (decide j k f) = nought
 
--- payoffs are seat i's, the nodes of a seat that owns are its own, where it makes the choice c
+-- payoffs are seat i's; a node is own if its seat is among those that own, and there the choice c is made by its key
 module _ (s : Profile) (i : ℕ) (owns : ℕ → Bool) (c : Choice) where
   unfoldable mutual
     unfolding fan edge
@@ -58,7 +59,7 @@ module _ (s : Profile) (i : ℕ) (owns : ℕ → Bool) (c : Choice) where
     added w a v nil = v
     added w a v (cons t f) = added w (suc a) (plus v (times (w a) (plus (edge i t) (value t)))) f
 
-    -- g of child a: the payoff on its edge plus its value
+    -- g of child a: the payoff on its edge plus its value; 0.0 past the children, where no choice points
     pub picked : Trees → ℕ → Float
     picked nil a = nought
     picked (cons t f) zero = plus (edge i t) (value t)
