@@ -41,9 +41,9 @@ pub struct Payoffs {
 }
 
 impl KuhnPoker {
-    pub const PASS: u8 = kuhn_rules::PASS;
+    pub const PASS: u8 = kuhn_betting::PASS;
 
-    pub const BET: u8 = kuhn_rules::BET;
+    pub const BET: u8 = kuhn_betting::BET;
 
     pub const LEAST_SEATS: usize = kuhn_positions::LEAST_SEATS;
 
@@ -53,9 +53,9 @@ impl KuhnPoker {
 
     pub const ACTIONS: usize = kuhn_positions::ACTIONS;
     // The stakes.
-    pub const ANTE: u64 = kuhn_rules::ANTE;
+    pub const ANTE: u64 = kuhn_money::ANTE;
 
-    pub const STAKE: u64 = kuhn_rules::STAKE;
+    pub const STAKE: u64 = kuhn_money::STAKE;
 
     // Number 2: the seat count is outside 2 to 10.
     pub fn validate(self) -> u64
@@ -113,7 +113,7 @@ impl KuhnPoker {
             return Moved { refusal, state };
         }
         let cards = state.cards;
-        let card = kuhn_rules::cards::nth_remaining(&cards, state.dealt, self.players, outcome);
+        let card = kuhn_cards::nth_remaining(&cards, state.dealt, self.players, outcome);
         let next = state.with_card(card);
         Moved {
             refusal,
@@ -134,7 +134,7 @@ impl KuhnPoker {
             return refusals::UNFIT;
         }
         let cards = state.cards;
-        if n < kuhn_rules::cards::nth_remaining(&cards, dealt, n, outcome) {
+        if n < kuhn_cards::nth_remaining(&cards, dealt, n, outcome) {
             return refusals::UNFIT;
         }
         refusals::ACCEPTED
@@ -255,7 +255,7 @@ impl KuhnPoker {
         let acted = state.acted;
         let cards = state.cards;
         let history = state.history;
-        let payoffs = kuhn_rules::money::payoffs(&cards, &history, acted, n);
+        let payoffs = kuhn_money::payoffs(&cards, &history, acted, n);
         Payoffs {
             refusal,
             state,

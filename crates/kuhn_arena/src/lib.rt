@@ -2,192 +2,20 @@
 use arena::index::clear;
 use arena::index::index;
 use arena::words::chance;
-use arena::words::decision;
 use arena::words::put;
+use kuhn_hands::before_bet;
+use kuhn_words::card_of;
 ghost use mathlib.Core.Path.{_≡_};
-ghost use mathlib.Core.Bool.{cond};
-ghost use Prim.Native.Nat.{_+_, _*_, _-_, _%_, _^_, _<_, _≤_};
-ghost use lib.Dec.{ltb};
+ghost use Prim.Native.Nat.{_+_, _*_, _^_, _<_, _≤_};
 ghost use lib.ListN.{length};
 ghost use Rattle.kuhn_rules.specs.Stakes.{ante, stake};
 ghost use Rattle.kuhn_tree.specs.Tree.{kuhnTree};
 ghost use Rattle.kuhn_tree.specs.Counts.{kuhnNodes};
 ghost use Rattle.finite.specs.Finite.{has};
 ghost use Rattle.game.specs.Sets.{size, sizes};
-ghost use Rattle.arena.specs.Words.{decisionWord};
 ghost use Rattle.arena.specs.Built.{Built, Row, Room};
 ghost use Rattle.arena.specs.Index.{Indexed};
-ghost use Rattle.kuhn_arena.specs.Layout.{codeOf, codeCount, historyAt, cardAt, cardsIn, unitOf, afterAt, beforeAt, dealAt, childrenTo, childAt, Betting, Passing, Top, Dealing};
-
-// The word of an end at which each of six seats has lost its ante.
-const ANTES: u64 = 0xFCFCFCFCFCFC;
-
-// The card of a seat, of cards in four bits each.
-fn card_of(cards: u64, seat: usize) -> usize
-    requires { ⌜ seat < 6 ⌝ }
-    ensures { λ r. ⌜ r ≡ cardAt cards seat ⌝ }
-{
-    let shifted = cards >> (4 * seat);
-    (shifted % 16) as usize
-}
-
-// A unit of a seat's payoff in the word of an end.
-fn unit(seat: usize) -> u64
-    requires { ⌜ seat < 6 ⌝ }
-    ensures { λ r. ⌜ (r ≡ unitOf seat) × (r ≤ 4398046511104) ⌝ }
-{
-    4 << (8 * seat)
-}
-
-// The word of an end: all seats lose what they have paid, and one wins the pot.
-fn end_word(pays: u64, pot: u64, win: usize) -> u64
-    requires { ⌜ (pays < 1125899906842624) × (pot ≤ 12) × (win < 6) ⌝ }
-    ensures { λ r. ⌜ r ≡ pays + pot * unitOf win ⌝ }
-{
-    pays + pot * unit(win)
-}
-
-// The word of the decision of a seat, of a history with the given number.
-fn decision_word(n: usize, cards: u64, number: usize, seat: usize, next: usize) -> u64
-    requires { ⌜ (n ≤ 6) × (number ≤ 2046) × (seat < n) × (next < 2097152) ⌝ }
-    ensures { λ r. ⌜ r ≡ decisionWord seat 2 (number * (n + 1) + cardAt cards seat) next 0 ⌝ }
-{
-    let set = number * (n + 1) + card_of(cards, seat);
-    decision(seat, 2, set, next, 0)
-}
-
-// The seat that acts after a seat.
-fn following(n: usize, seat: usize) -> usize
-    requires { ⌜ (seat < n) × (n ≤ 6) ⌝ }
-    ensures { λ r. ⌜ r ≡ (seat + 1) % n ⌝ }
-{
-    if seat + 1 == n { 0 } else { seat + 1 }
-}
-
-// Of two seats the one with the higher card, the first if they are equal.
-fn higher(cards: u64, first: usize, second: usize) -> usize
-    requires { ⌜ (first < 6) × (second < 6) ⌝ }
-    ensures { λ r. ⌜ r ≡ cond (ltb (cardAt cards first) (cardAt cards second)) second first ⌝ }
-{
-    if card_of(cards, first) < card_of(cards, second) {
-        second
-    } else {
-        first
-    }
-}
-
-// The seat with the highest card.
-fn highest(n: usize, cards: u64) -> usize
-    requires { ⌜ (1 ≤ n) × (n ≤ 6) ⌝ }
-    ensures { λ r. ⌜ Top n cards r ⌝ }
-{
-    let mut top = 0;
-    let mut seat = 1;
-    while seat < n {
-        top = higher(cards, top, seat);
-        seat += 1;
-    }
-    top
-}
-
-// Lays out the last decision of a hand with a bet, and the ends behind its two actions, at place at; the place behind them.
-fn last_action(
-    w: &mut [u64],
-    at: usize,
-    n: usize,
-    cards: u64,
-    number: usize,
-    seat: usize,
-    pays: u64,
-    pot: u64,
-    win: usize,
-) -> usize
-    requires { ⌜ Betting n (cardsIn n cards) (historyAt number) seat 1 pays pot win × (number ≤ 2046) ⌝ }
-    requires { ⌜ Room at (now w) (size (afterAt n cards number 1)) ⌝ }
-    ensures { λ r. ⌜ Built n (codeOf n) at (now (w .entry)) (now (w .exit)) (afterAt n cards number 1) r ⌝ }
-{
-    put(w, at + 1, end_word(pays, pot, win));
-    let top = higher(cards, win, seat);
-    put(w, at + 2, end_word(pays - unit(seat), pot + 1, top));
-    put(w, at, decision_word(n, cards, number, seat, at + 3));
-    at + 3
-}
-
-// Lays out a hand with a bet, of left actions to come, at place at; the place behind it.
-fn after_bet(
-    w: &mut [u64],
-    at: usize,
-    n: usize,
-    cards: u64,
-    number: usize,
-    seat: usize,
-    left: usize,
-    pays: u64,
-    pot: u64,
-    win: usize,
-) -> usize
-    requires { ⌜ Betting n (cardsIn n cards) (historyAt number) seat left pays pot win × (1 ≤ left) × ((number + 2) * 2 ^ left ≤ 4096) ⌝ }
-    requires { ⌜ Room at (now w) (size (afterAt n cards number left)) ⌝ }
-    ensures { λ r. ⌜ Built n (codeOf n) at (now (w .entry)) (now (w .exit)) (afterAt n cards number left) r ⌝ }
-{
-    if left == 1 {
-        return last_action(w, at, n, cards, number, seat, pays, pot, win);
-    }
-    let after = following(n, seat);
-    let bet = after_bet(
-        w,
-        at + 1,
-        n,
-        cards,
-        2 * number + 1,
-        after,
-        left - 1,
-        pays,
-        pot,
-        win,
-    );
-    let next = after_bet(
-        w,
-        bet,
-        n,
-        cards,
-        2 * number + 2,
-        after,
-        left - 1,
-        pays - unit(seat),
-        pot + 1,
-        higher(cards, win, seat),
-    );
-    put(w, at, decision_word(n, cards, number, seat, next));
-    next
-}
-
-// Lays out a hand without a bet from a seat's turn on, at place at; the place behind it.
-fn before_bet(w: &mut [u64], at: usize, n: usize, cards: u64, number: usize, seat: usize) -> usize
-    requires { ⌜ Passing n (cardsIn n cards) (historyAt number) seat number ⌝ }
-    requires { ⌜ Room at (now w) (size (beforeAt n cards number (n - seat))) ⌝ }
-    ensures { λ r. ⌜ Built n (codeOf n) at (now (w .entry)) (now (w .exit)) (beforeAt n cards number (n - seat)) r ⌝ }
-{
-    if seat == n {
-        put(w, at, end_word(ANTES, n as u64, highest(n, cards)));
-        return at + 1;
-    }
-    let bet = before_bet(w, at + 1, n, cards, 2 * number + 1, seat + 1);
-    let behind = after_bet(
-        w,
-        bet,
-        n,
-        cards,
-        2 * number + 2,
-        following(n, seat),
-        n - 1,
-        ANTES - unit(seat),
-        n as u64 + 1,
-        seat,
-    );
-    put(w, at, decision_word(n, cards, number, seat, behind));
-    behind
-}
+ghost use Rattle.kuhn_layout.specs.Layout.{codeOf, codeCount, cardsIn, dealAt, childrenTo, childAt, Dealing};
 
 // Whether one of the first seats has a card.
 fn is_dealt(cards: u64, dealt: usize, card: usize) -> bool

@@ -1,9 +1,9 @@
 // The listing of Kuhn's sets: a walk over the deals and then the histories, which writes a record at each node that is the first of its set.
-use kuhn_rules::BET;
-use kuhn_rules::PASS;
-use kuhn_rules::betting::is_terminal;
-use kuhn_rules::betting::wide;
-use kuhn_rules::cards::contains;
+use kuhn_betting::BET;
+use kuhn_betting::PASS;
+use kuhn_betting::is_terminal;
+use kuhn_betting::wide;
+use kuhn_cards::contains;
 ghost use mathlib.Core.Path.{_≡_};
 ghost use mathlib.Core.Bool.{not};
 ghost use mathlib.Core.List.{[], _∷_};

@@ -1,10 +1,10 @@
 // What a call asks of a position before it answers.
 use crate::KuhnState;
-use kuhn_rules::betting::is_terminal;
-use kuhn_rules::betting::past_the_end;
-use kuhn_rules::betting::unknown_action;
-use kuhn_rules::cards::card_outside;
-use kuhn_rules::cards::card_twice;
+use kuhn_betting::is_terminal;
+use kuhn_betting::past_the_end;
+use kuhn_betting::unknown_action;
+use kuhn_cards::card_outside;
+use kuhn_cards::card_twice;
 ghost use mathlib.Core.Path.{_≡_};
 ghost use mathlib.Core.Bool.{not};
 ghost use Prim.Native.Nat.{_≤_};

@@ -67,8 +67,8 @@ impl KuhnState {
 fn as_action(action: usize) -> u8
     ensures { λ r. ⌜ r ≡ counted action ⌝ }
 {
-    if (kuhn_rules::BET as usize) < action {
-        return kuhn_rules::BET;
+    if (kuhn_betting::BET as usize) < action {
+        return kuhn_betting::BET;
     }
     action as u8
 }

@@ -19,7 +19,7 @@ use Rattle.kuhn_tree.specs.Tree.{kuhnTree}
 use Rattle.kuhn_tree.specs.Counts.{dealNodes, kuhnNodes}
 use Rattle.leduc_tree.specs.Tree.{leducTree}
 use Rattle.leduc_tree.proofs.Facts as Leduc-facts
-use Rattle.kuhn_arena.specs.Layout.{codeCount}
+use Rattle.kuhn_layout.specs.Layout.{codeCount}
 use Rattle.leduc_arena.specs.Codes.{codeOf}
 use Rattle.leduc_arena.proofs.Sets.{leduc-coded}
 use Rattle.tables.specs.declared.Game.{Game}

@@ -6,7 +6,7 @@ use Prim.Native.Nat.{ℕ, _+_, _*_, _≤_}
 use lib.ListN.{length}
 use Rattle.arena.specs.Index.{Indexed}
 use Rattle.kuhn_tree.specs.Counts.{kuhnNodes}
-use Rattle.kuhn_arena.specs.Layout.{codeCount}
+use Rattle.kuhn_layout.specs.Layout.{codeCount}
 use Rattle.tables.specs.declared.Game.{Game}
 use Rattle.tables.specs.Games.{isKuhn, treeOf}
 use Rattle.tables.specs.Checks.{seats-out}

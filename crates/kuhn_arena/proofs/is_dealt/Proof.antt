@@ -6,8 +6,8 @@ use borrow.Author.Tests.{eq-eqb, ne-eqb}
 use lib.Dec.{eqb}
 use Rattle.finite.specs.Finite.{some}
 use Rattle.finite.proofs.Tests.{some-none, none-more, none-passed, some-here}
-use Rattle.kuhn_arena.specs.Layout.{cardAt}
-use Rattle.kuhn_arena.proofs.Numbers.{cards-have}
+use Rattle.kuhn_layout.specs.Layout.{cardAt}
+use Rattle.kuhn_layout.proofs.Numbers.{cards-have}
 use Rattle.kuhn_arena.proofs.is_dealt.Statement.{statement}
 use Rattle.kuhn_arena.proofs.is_dealt.Tie as tie
 

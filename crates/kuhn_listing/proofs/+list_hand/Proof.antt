@@ -13,7 +13,7 @@ use Rattle.kuhn_listing.proofs.list_hand.Kinds as list-hand-kinds
 use Rattle.kuhn_listing.proofs.+list_hand.Lts-list_hand as list-hand-lts
 use Rattle.kuhn_listing.proofs.with_action.Reads as with-action-reads
 use Rattle.kuhn_listing.proofs.write_first.Reads as write-first-reads
-use Rattle.kuhn_rules.proofs.betting.is_terminal.Reads as is-terminal-reads
+use Rattle.kuhn_betting.proofs.is_terminal.Reads as is-terminal-reads
 use Rattle.kuhn_listing.proofs.+list_hand.{statement}
 use Rattle.kuhn_listing.proofs.+list_hand.Tie.{close}
 

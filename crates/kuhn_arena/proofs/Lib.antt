@@ -1,7 +1,0 @@
-pub mod Numbers
-pub mod Bets
-pub mod Ends
-pub mod Hands
-pub mod Deals
-pub mod Start
-pub mod Apart

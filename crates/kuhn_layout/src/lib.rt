@@ -1,0 +1,1 @@
+// Kuhn's tree as its builder goes through it: definitions and facts, no code.

@@ -1,0 +1,28 @@
+-- Whether a seat wins, by the highest card. Assumes nothing.
+use mathlib.Core.Path.{sym, ap, _∙_}
+use lib.Dec.{eqb}
+use Rattle.kuhn_rules.proofs.Winner.{wins-highest, folds-lose}
+use borrow.Author.Needs.{needs}
+use Rattle.kuhn_money.proofs.won.Statement.{statement}
+use Rattle.kuhn_money.proofs.won.Tie as tie
+
+standing-requires : tie.Need-standing-requires
+standing-requires c κs = search needs
+
+shared-slice-read-wide : tie.Need-shared-slice-read-wide
+shared-slice-read-wide c = search needs
+
+wide-requires : tie.Need-wide-requires
+wide-requires c κs = search needs
+
+returns : tie.Need-returns
+returns c =
+    ap (λ k. eqb k (c .before .before .before .before .before .before .args .top)) (c .wide .ensures)
+    ∙ sym (wins-highest _ _ _ _ _ (c .before .before .before .before .before .before .pre .0 .3) (c .before .before .before .before .before .before .pre .1) (sym (c .before .before .before .standing .ensures) ∙ c .before .before .if1 .taken))
+
+returns-2 : tie.Need-returns-2
+returns-2 c = sym (folds-lose _ _ (c .before .before .before .before .args .cards .now) _ _ (sym (c .before .standing .ensures) ∙ c .if1 .left))
+
+pub won-spec : {M : Type 1} → statement M
+won-spec =
+    tie.close (tie.spec standing-requires shared-slice-read-wide wide-requires returns returns-2)
