@@ -1,9 +1,9 @@
 //! NashConv in f64 of one profile: the Rust's and ours, and ours in whole units beside it. The memory that is lent was filled before.
 
 use crate::row;
+use chukkanalli::archive::nash_conv_units;
 use host::floats::evaluate;
 use host::memory::Memory;
-use host::units::nash_conv_units;
 use judge::exact::{kuhn, leduc, probabilities, Tree};
 use judge::floats::{bits, Evaluation};
 use judge::listing_lists::{KUHN, LEDUC};

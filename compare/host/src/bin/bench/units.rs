@@ -1,8 +1,8 @@
 //! NashConv of one table: the Rust's f64 `nash_conv` of the profile part / D, and ours in whole units. The memory that is lent was filled before.
 
 use crate::row;
+use chukkanalli::archive::nash_conv_units;
 use host::memory::Memory;
-use host::units::nash_conv_units;
 use judge::exact::{kuhn, leduc, probabilities, Tree};
 use judge::listing_lists::{KUHN, LEDUC};
 use judge::parts::{table, Kind};

@@ -3,10 +3,10 @@
 
 use crate::number::{fewer, more, number_but, other_length};
 use crate::Counts;
-use host::floats::evaluate;
+use chukkanalli::archive::{best_reply, nash_conv_units, worths};
+use host::floats::{evaluate, judged};
 use host::memory::Memory;
 use host::stack::stack_of;
-use host::units::{best_reply, nash_conv_units, worths};
 use judge::exact::{kuhn, leduc, probabilities, Tree};
 use judge::floats::{Call, Evaluation, EVALUATIONS};
 use judge::listing_lists::{KUHN, LEDUC};
@@ -57,7 +57,7 @@ fn held(call: &Call, asked: Evaluation, counts: &mut Counts, random: &mut Random
     let Call { game, seats, seat, profile, .. } = call;
     let mut memory = Memory::new(call.words, 0);
     memory.fill_at_random(random);
-    let ours = evaluate(asked, *game, *seats, &mut memory.work, *seat, profile).judged();
+    let ours = judged(evaluate(asked, *game, *seats, &mut memory.work, *seat, profile));
     assert_eq!(ours, call.answer(asked), "{asked:?} of {call:?}");
     let from = if ours.refusal == 0 { call.kept() } else { 0 };
     assert!(memory.words_kept(from), "the work memory from word {from} after {asked:?} of {call:?}");

@@ -2,9 +2,9 @@
 
 use crate::number::{fewer, more, number_but, other_length};
 use crate::Counts;
+use chukkanalli::archive::{self, best_reply, nash_conv_units, worths};
 use host::memory::Memory;
 use host::stack::stack_of;
-use host::units::{best_reply, nash_conv_units, worths, NashConvAnswer, ReplyAnswer, WorthsAnswer};
 use judge::exact::{kuhn, leduc, Played, Sequences, Tree};
 use judge::listing_lists::{KUHN, LEDUC};
 use judge::parts::{mixed_rival, near, pure_rival, rival, table, Kind, KINDS};
@@ -91,7 +91,7 @@ impl Asked {
         let mut memory = self.memory(random);
         let ours = worths(*game, *seats, &mut memory.work, *d, table);
         let judged = self.call.worths();
-        let expected = WorthsAnswer { refusal: judged.refusal, count: judged.count, worths: judged.worths };
+        let expected = archive::Weighed { refusal: judged.refusal, count: judged.count, worths: judged.worths };
         assert_eq!(ours, expected, "the worths of {:?}", self.call);
         self.left(ours.refusal, 0, &memory);
         counts.count(ours.refusal);
@@ -102,7 +102,7 @@ impl Asked {
         let mut memory = self.memory(random);
         let ours = best_reply(*game, *seats, &mut memory.work, self.seat, *d, table, &mut memory.out);
         let judged = self.call.best_reply(self.seat, self.room);
-        let expected = ReplyAnswer { refusal: judged.refusal, value: judged.value };
+        let expected = archive::Replied { refusal: judged.refusal, value: judged.value };
         assert_eq!(ours, expected, "the best value of seat {} in {:?}", self.seat, self.call);
         let reply = &memory.out[..judged.reply.len()];
         assert_eq!(reply, judged.reply, "the reply of seat {} in {:?}", self.seat, self.call);
@@ -115,7 +115,7 @@ impl Asked {
         let mut memory = self.memory(random);
         let ours = nash_conv_units(*game, *seats, &mut memory.work, *d, table);
         let judged = self.call.nash_conv();
-        let expected = NashConvAnswer { refusal: judged.refusal, nash_conv: judged.nash_conv, units: judged.units };
+        let expected = archive::Summed { refusal: judged.refusal, nash_conv: judged.nash_conv, units: judged.units };
         assert_eq!(ours, expected, "NashConv of {:?}", self.call);
         self.left(ours.refusal, 0, &memory);
         counts.count(ours.refusal);
