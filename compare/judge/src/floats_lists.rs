@@ -6,7 +6,7 @@ use crate::line::Line;
 use crate::list::{List, Words};
 use crate::listing_lists::{KUHN, LEDUC};
 use crate::profiles::{profile, Kind, KINDS};
-use crate::random::Random;
+use random::Random;
 
 /// What word p of the work memory holds before a call: this and p more.
 const UNTOUCHED: u64 = 200;

@@ -4,7 +4,7 @@ use crate::kuhn::{Position, ACTIONS, CARDS};
 use crate::kuhn_paper::{all, Hand};
 use crate::line::ROOM;
 use crate::list::{self, changed, histories, List, Words, FAR};
-use crate::random::Random;
+use random::Random;
 use reinfors_games::kuhn::KuhnPoker;
 
 #[derive(Clone)]

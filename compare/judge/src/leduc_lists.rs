@@ -4,7 +4,7 @@ use crate::leduc::{number_of_public, Position, CARDS, HALF};
 use crate::leduc_paper::{all, Hand};
 use crate::line::ROOM;
 use crate::list::{self, changed, histories, List, Words, FAR};
-use crate::random::Random;
+use random::Random;
 use reinfors_games::leduc::LeducPoker;
 
 const WHOLE: u64 = ROOM as u64;

@@ -3,7 +3,7 @@
 use crate::line::Line;
 use crate::list::{List, Words};
 use crate::listing::{listing, Listing, RECORD, WORDS};
-use crate::random::Random;
+use random::Random;
 use reinfors_games::kuhn::KuhnPoker;
 use reinfors_games::leduc::LeducPoker;
 use std::sync::OnceLock;

@@ -1,7 +1,7 @@
 //! Tables of parts at random: mixed, pure, with ties, and with sets that no unit reaches.
 
 use crate::exact::{Set, Tree};
-use crate::random::Random;
+use random::Random;
 
 /// How the parts of a set are laid.
 #[derive(Clone, Copy, Debug, PartialEq, Eq)]

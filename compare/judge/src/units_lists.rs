@@ -6,8 +6,8 @@ use crate::line::Line;
 use crate::list::{List, Words};
 use crate::listing_lists::{KUHN, LEDUC};
 use crate::parts::{table, Kind, KINDS};
-use crate::random::Random;
 use crate::units::Call;
+use random::Random;
 
 /// What place p of the work memory and of the output holds before a call: this and p more, in the output as a byte.
 const UNTOUCHED: u64 = 200;

@@ -2,8 +2,8 @@
 
 use judge::exact::{kuhn, leduc, probabilities, Node, Played, Tree};
 use judge::parts::{pure_rival, rival, table, Kind, KINDS};
-use judge::random::Random;
 use judge::EventNumber;
+use random::Random;
 use reinfors_core::best_response::nash_conv;
 use reinfors_core::game::Game;
 use reinfors_games::kuhn::KuhnPoker;

@@ -4,8 +4,8 @@
 use crate::row;
 use chukkanalli::{KuhnPosition, LeducPosition};
 use host::rules::{Calls, Kuhn, Leduc};
-use judge::random::Random;
 use judge::whole;
+use random::Random;
 use reinfors_core::game::{Actor, ChanceDist, Game};
 use reinfors_games::kuhn::KuhnPoker;
 use reinfors_games::leduc::LeducPoker;

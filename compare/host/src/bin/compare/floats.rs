@@ -12,8 +12,8 @@ use judge::floats::{Call, Evaluation, EVALUATIONS};
 use judge::listing_lists::{KUHN, LEDUC};
 use judge::parts;
 use judge::profiles::{profile, KINDS};
-use judge::random::Random;
 use judge::units::words;
+use random::Random;
 
 /// The numbers that the calls give.
 const NUMBERS: [u64; 6] = [1, 2, 3, 4, 5, 7];

@@ -7,7 +7,7 @@ use host::memory::Memory;
 use host::stack::stack_of;
 use judge::listing::RECORD;
 use judge::listing_lists::{listing_of, Call, KUHN, LEDUC};
-use judge::random::Random;
+use random::Random;
 
 /// How often each tree is listed with lengths near those that it needs.
 const TIMES: u64 = 8;

@@ -7,7 +7,7 @@ mod number;
 mod rules;
 mod units;
 
-use judge::random::Random;
+use random::Random;
 use std::env;
 use std::time::{SystemTime, UNIX_EPOCH};
 

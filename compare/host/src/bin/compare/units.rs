@@ -8,8 +8,8 @@ use host::stack::stack_of;
 use judge::exact::{kuhn, leduc, Played, Sequences, Tree};
 use judge::listing_lists::{KUHN, LEDUC};
 use judge::parts::{mixed_rival, near, pure_rival, rival, table, Kind, KINDS};
-use judge::random::Random;
 use judge::units::{words, Call};
+use random::Random;
 
 /// The mixed rivals of each game and seat, at least.
 const LEAST_MIXED: usize = 10_000;
