@@ -2,6 +2,7 @@
 //! each game, held to the reference in whole units, and profiles, held to the Rust. It prints its seed, and stops at the first difference.
 
 mod floats;
+mod game;
 mod listing;
 mod number;
 mod rules;
