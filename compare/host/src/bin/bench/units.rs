@@ -23,9 +23,12 @@ pub fn bench(rounds: usize) {
 }
 
 /// A mixed table with as many parts as the game may have.
+pub fn mixed(tree: &Tree) -> Vec<u8> {
+    table(tree, tree.most_parts, Kind::Mixed, &mut Random::new(2026))
+}
+
 fn one_table<G: Game<Event = f64>>(name: &str, number: u64, tree: &Tree, game: &G, rounds: usize) {
-    let d = tree.most_parts;
-    let table = table(tree, d, Kind::Mixed, &mut Random::new(2026));
+    let (table, d) = (mixed(tree), tree.most_parts);
     let entries = probabilities(&table, d);
     let profile = tree.profile(&entries);
     let mut memory = Memory::new(words(tree), 0);
