@@ -19,15 +19,16 @@ pub fn compare(hands: u64, random: &mut Random) {
     let mut counts = Counts::new();
     for _ in 0..hands {
         let seats = 2 + random.below(9);
-        hand(&Kuhn(seats as u64), &KuhnPoker { players: seats }, random, &mut counts);
+        Family { ours: &Kuhn(seats as u64), game: &KuhnPoker { players: seats }, counts: &mut counts }.hand(random);
         let seats = some_number(random);
-        position(&Kuhn(seats), &KuhnPoker { players: seats as usize }, random, &mut counts);
+        let game = &KuhnPoker { players: seats as usize };
+        Family { ours: &Kuhn(seats), game, counts: &mut counts }.position(random);
     }
     println!("Kuhn: {hands} hands and as many seat counts agree");
     counts.print();
     let mut counts = Counts::new();
     for _ in 0..hands {
-        hand(&Leduc, &LeducPoker, random, &mut counts);
+        Family { ours: &Leduc, game: &LeducPoker, counts: &mut counts }.hand(random);
     }
     println!("Leduc: {hands} hands agree");
     counts.print();
@@ -114,38 +115,7 @@ fn some_byte(random: &mut Random) -> u8 {
     random.below(below) as u8
 }
 
-/// The answers of both on one hand, from the start to its end.
-fn hand<C, G>(ours: &C, game: &G, random: &mut Random, counts: &mut Counts)
-where
-    C: Calls<Position: Position<Judged = G::Position>>,
-    G: Judged,
-{
-    let mut at = Family { ours, game, counts }.start();
-    at.litter(random);
-    loop {
-        let next = Family { ours, game, counts }.all(at, random);
-        let mut damaged = at;
-        damaged.damage(random);
-        Family { ours, game, counts }.all(damaged, random);
-        if next.is_empty() {
-            return;
-        }
-        at = random.pick(&next);
-    }
-}
-
-/// The answers of both on one position with litter in it, whatever the game.
-fn position<C, G>(ours: &C, game: &G, random: &mut Random, counts: &mut Counts)
-where
-    C: Calls<Position: Position<Judged = G::Position>>,
-    G: Judged,
-{
-    let mut at = Family { ours, game, counts }.start();
-    at.damage(random);
-    Family { ours, game, counts }.all(at, random);
-}
-
-/// All calls of a game.
+/// All calls of a game, of the archive and of the judge.
 struct Family<'a, C, G> {
     ours: &'a C,
     game: &'a G,
@@ -157,6 +127,29 @@ where
     C: Calls<Position: Position<Judged = G::Position>>,
     G: Judged,
 {
+    /// The answers of both on one hand, from the start to its end.
+    fn hand(&mut self, random: &mut Random) {
+        let mut at = self.start();
+        at.litter(random);
+        loop {
+            let next = self.all(at, random);
+            let mut damaged = at;
+            damaged.damage(random);
+            self.all(damaged, random);
+            if next.is_empty() {
+                return;
+            }
+            at = random.pick(&next);
+        }
+    }
+
+    /// The answers of both on one position with litter in it, whatever the game.
+    fn position(&mut self, random: &mut Random) {
+        let mut at = self.start();
+        at.damage(random);
+        self.all(at, random);
+    }
+
     fn start(&mut self) -> C::Position {
         let (ours, rust) = (self.ours.start(), self.game.start());
         assert_eq!((ours.refusal, ours.position.judged()), (rust.refusal, rust.position), "start");
