@@ -1,13 +1,9 @@
 //! The host: it lends memory to the calls of libchukkanalli.a, and holds them to the unchanged Rust.
 
-#[cfg(feature = "floats")]
 pub mod floats;
-pub mod listing;
 pub mod memory;
 pub mod rules;
 pub mod stack;
-#[cfg(feature = "units")]
-pub mod units;
 
 /// The middle one of some times.
 pub fn median(mut times: Vec<f64>) -> f64 {

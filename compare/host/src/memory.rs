@@ -1,6 +1,6 @@
 //! Memory to lend: what it holds before a call is known, so that what a call may not touch can be held to it.
 
-use judge::random::Random;
+use random::Random;
 
 /// Work memory and output of the given lengths, filled anew before each call.
 pub struct Memory {

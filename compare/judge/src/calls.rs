@@ -10,7 +10,7 @@ use std::fmt::Debug;
 /// A game of the Rust, with what document 01 says of its positions.
 pub trait Judged: Game<Event = f64, State: PartialEq + Debug> {
     /// A position with its arrays and lengths, as the calls take it.
-    type Position: Noted + Copy;
+    type Position: Noted + Copy + PartialEq + Debug;
     /// What lies within the lengths, as document 01 has it.
     type Hand;
 

@@ -5,11 +5,10 @@ use crate::floats::{Call, Evaluation, EVALUATIONS};
 use crate::line::Line;
 use crate::list::{List, Words};
 use crate::listing_lists::{KUHN, LEDUC};
+use crate::parts::{CASE_K, CASE_L};
 use crate::profiles::{profile, Kind, KINDS};
-use crate::random::Random;
-
-/// What word p of the work memory holds before a call: this and p more.
-const UNTOUCHED: u64 = 200;
+use crate::units_lists::FAR;
+use random::Random;
 
 /// The letter of each call, in the order of `EVALUATIONS`.
 const LETTERS: [&str; 5] = ["B", "R", "P", "N", "E"];
@@ -59,7 +58,7 @@ impl Record {
         line.say(answer.count);
         answer.bits.iter().for_each(|bits| line.say(bits));
         let from = if answer.refusal == 0 { self.kept } else { 0 };
-        (from..self.call.words).for_each(|place| line.number(UNTOUCHED + place));
+        line.words_left(from, self.call.words);
     }
 }
 
@@ -105,9 +104,7 @@ pub fn list(seed: u64) -> List {
 
 /// Cases k and l as probabilities.
 fn cases(list: &mut List) {
-    let always_pass = [1, 0].repeat(12);
-    let value_nought: Vec<u8> = "303030210303302121303003".bytes().map(|digit| digit - b'0').collect();
-    for (table, d) in [(always_pass, 1), (value_nought, 3)] {
+    for (table, d) in [(CASE_K, 1), (CASE_L, 3)] {
         for seat in 0..2 {
             list.lend_floats(ALL, Call::of(KUHN, kuhn(2), seat, probabilities(&table, d)), 24);
         }
@@ -132,9 +129,6 @@ fn patterns(list: &mut List, game: u64, tree: &Tree, kind: Kind, random: &mut Ra
     (1..ALL).for_each(|code| lend(code, code));
     lend(ALL, tree.seats as u64);
 }
-
-/// Numbers that a cut to 8, 16 or 32 bits would take for small ones.
-const FAR: [u64; 6] = [256, 258, 65_538, 1 << 32, (1 << 32) + 2, u64::MAX];
 
 /// Calls of one game that are refused, every one of the five at once, some with later reasons too.
 struct Refused<'a> {

@@ -2,9 +2,8 @@
 
 use crate::kuhn::{Position, ACTIONS, CARDS};
 use crate::kuhn_paper::{all, Hand};
-use crate::line::ROOM;
-use crate::list::{self, changed, histories, List, Words, FAR};
-use crate::random::Random;
+use crate::list::{self, changed, histories, List, Words, FAR, WHOLE};
+use random::Random;
 use reinfors_games::kuhn::KuhnPoker;
 
 #[derive(Clone)]
@@ -112,48 +111,36 @@ fn wild(random: &mut Random) -> Given {
     }
 }
 
-const WHOLE: u64 = ROOM as u64;
-
 /// The whole list.
 pub fn list(seed: u64) -> List {
-    rules(seed).append(saved(seed))
+    List::drawn(seed, &[rules, saved])
 }
 
 /// The rules calls.
-fn rules(seed: u64) -> List {
-    let mut random = Random::new(seed);
-    let mut list = List::default();
+fn rules(list: &mut List, random: &mut Random) {
     (0..=12).chain(FAR).for_each(|seats| list.start::<Given>(&[seats]));
-    reachable_positions(&mut list, &mut random);
-    random_plays(&mut list, &mut random);
-    short_outputs(&mut list, &mut random);
-    wrong_seats(&mut random, |given| list.rules(true, WHOLE, given));
-    damaged_positions(1, &mut random, |given| list.rules(false, WHOLE, given));
-    for _ in 0..1000 {
-        list.rules(false, WHOLE, &wild(&mut random));
-    }
-    list
+    reachable_positions(list, random);
+    random_plays(list, random);
+    short_outputs(list, random);
+    wrong_seats(random, |given| list.rules(true, WHOLE, given));
+    damaged_positions(1, random, |given| list.rules(false, WHOLE, given));
+    (0..1000).for_each(|_| list.rules(false, WHOLE, &wild(random)));
 }
 
 /// The saved-position check.
-fn saved(seed: u64) -> List {
-    let mut random = Random::new(seed);
-    let mut list = List::default();
+fn saved(list: &mut List, random: &mut Random) {
     for n in 2..=3 {
         all(n).iter().for_each(|hand| list.saved(true, &Given::new(n, hand, random.pick(&[0, 7]))));
     }
     for n in 4..=10 {
-        for hand in (0..6).flat_map(|_| play(n, &mut random)).collect::<Vec<_>>() {
+        for hand in (0..6).flat_map(|_| play(n, random)).collect::<Vec<_>>() {
             list.saved(true, &Given::new(n, &hand, random.pick(&[0, 7])));
         }
     }
-    every_history(&mut list, &mut random);
-    wrong_seats(&mut random, |given| list.saved(true, given));
-    damaged_positions(2, &mut random, |given| list.saved(true, given));
-    for _ in 0..4000 {
-        list.saved(true, &wild(&mut random));
-    }
-    list
+    every_history(list, random);
+    wrong_seats(random, |given| list.saved(true, given));
+    damaged_positions(2, random, |given| list.saved(true, given));
+    (0..4000).for_each(|_| list.saved(true, &wild(random)));
 }
 
 /// Every reachable position of 2 to 4 seats; 2 and 3 in full text, 4 in samples.

@@ -2,12 +2,9 @@
 
 use crate::leduc::{number_of_public, Position, CARDS, HALF};
 use crate::leduc_paper::{all, Hand};
-use crate::line::ROOM;
-use crate::list::{self, changed, histories, List, Words, FAR};
-use crate::random::Random;
+use crate::list::{self, changed, histories, List, Words, FAR, WHOLE};
+use random::Random;
 use reinfors_games::leduc::LeducPoker;
-
-const WHOLE: u64 = ROOM as u64;
 
 #[derive(Clone)]
 pub struct Given {
@@ -106,13 +103,11 @@ fn wild(random: &mut Random) -> Given {
 
 /// The whole list.
 pub fn list(seed: u64) -> List {
-    rules(seed).append(saved(seed))
+    List::drawn(seed, &[rules, saved])
 }
 
 /// The rules calls.
-fn rules(seed: u64) -> List {
-    let mut random = Random::new(seed);
-    let mut list = List::default();
+fn rules(list: &mut List, random: &mut Random) {
     list.start::<Given>(&[]);
     let hands = all();
     for (at, hand) in hands.iter().enumerate() {
@@ -124,22 +119,12 @@ fn rules(seed: u64) -> List {
             list.rules(room % 4 == 1, room, &Given::new(hand, 7));
         }
     }
-    for _ in 0..8 {
-        let hand = &hands[random.below(hands.len())];
-        for fill in [0, 7] {
-            damaged(&Given::new(hand, fill)).iter().for_each(|given| list.rules(false, WHOLE, given));
-        }
-    }
-    for _ in 0..1000 {
-        list.rules(false, WHOLE, &wild(&mut random));
-    }
-    list
+    damaged_positions(8, &hands, random, |given| list.rules(false, WHOLE, given));
+    (0..1000).for_each(|_| list.rules(false, WHOLE, &wild(random)));
 }
 
 /// The saved-position check.
-fn saved(seed: u64) -> List {
-    let mut random = Random::new(seed);
-    let mut list = List::default();
+fn saved(list: &mut List, random: &mut Random) {
     let hands = all();
     for hand in hands.iter().filter(|hand| hand.cards.len() < 2) {
         list.saved(true, &Given::new(hand, 7));
@@ -148,17 +133,19 @@ fn saved(seed: u64) -> List {
         let hand = &hands[random.below(hands.len())];
         list.saved(true, &Given::new(hand, random.pick(&[0, 7])));
     }
-    every_history(&mut list, &mut random);
-    for _ in 0..16 {
+    every_history(list, random);
+    damaged_positions(16, &hands, random, |given| list.saved(true, given));
+    (0..3000).for_each(|_| list.saved(true, &wild(random)));
+}
+
+/// Damaged copies of some of the hands.
+fn damaged_positions(count: usize, hands: &[Hand], random: &mut Random, mut put: impl FnMut(&Given)) {
+    for _ in 0..count {
         let hand = &hands[random.below(hands.len())];
         for fill in [0, 7] {
-            damaged(&Given::new(hand, fill)).iter().for_each(|given| list.saved(true, given));
+            damaged(&Given::new(hand, fill)).iter().for_each(&mut put);
         }
     }
-    for _ in 0..3000 {
-        list.saved(true, &wild(&mut random));
-    }
-    list
 }
 
 /// Every pair of histories up to length 4: all on two deals, the first in text, and a sample on two others.

@@ -18,7 +18,6 @@ pub mod listing;
 pub mod listing_lists;
 pub mod parts;
 pub mod profiles;
-pub mod random;
 pub mod units;
 pub mod units_lists;
 

@@ -3,9 +3,14 @@
 /// How many bytes the output array has; a call is lent the first of them.
 pub const ROOM: usize = 32;
 
+/// What a place of lent memory holds before a call; a byte holds the lowest byte of it.
+fn held(place: u64) -> u64 {
+    200 + place
+}
+
 /// What the output array holds before a call.
 pub fn untouched() -> [u8; ROOM] {
-    std::array::from_fn(|place| 200 + place as u8)
+    std::array::from_fn(|place| held(place as u64) as u8)
 }
 
 pub struct Line {
@@ -31,6 +36,16 @@ impl Line {
     /// A number of an answer, its lowest byte first, into the checksum.
     pub fn number(&mut self, number: u64) {
         self.bytes(&number.to_le_bytes());
+    }
+
+    /// The words of work memory that a call left, from a place on.
+    pub fn words_left(&mut self, from: u64, words: u64) {
+        (from..words).for_each(|place| self.number(held(place)));
+    }
+
+    /// The bytes of output that a call left, from a place on.
+    pub fn bytes_left(&mut self, from: usize, room: u64) {
+        (from as u64..room).for_each(|place| self.byte(held(place) as u8));
     }
 
     /// A payoff, as one byte: 128 more than it is.

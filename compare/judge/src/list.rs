@@ -1,6 +1,8 @@
 //! A list: what a program is given, what it must write, and how often each refusal number is in it.
 
 use crate::calls::{rules_line, saved_line, start_line, Judged};
+use crate::line::ROOM;
+use random::Random;
 use std::fs;
 use std::io;
 use std::path::{Path, PathBuf};
@@ -11,6 +13,9 @@ const MOST_WRITTEN: usize = 1_000_000;
 
 /// Lengths and seat counts that a cut to 8, 16 or 32 bits would take for small ones.
 pub const FAR: [u64; 8] = [20, 255, 256, 258, 300, 65_538, (1 << 32) + 2, u64::MAX];
+
+/// The length of the whole output array.
+pub const WHOLE: u64 = ROOM as u64;
 
 /// A position as a line gives it: bytes for the first places of each array, and a number that fills the others.
 pub trait Given {
@@ -66,6 +71,13 @@ pub struct List {
 }
 
 impl List {
+    /// The list that some parts make one after the other, each with the seed's numbers from the first on.
+    pub fn drawn(seed: u64, parts: &[fn(&mut List, &mut Random)]) -> List {
+        let mut list = List::default();
+        parts.iter().for_each(|part| part(&mut list, &mut Random::new(seed)));
+        list
+    }
+
     pub fn push(&mut self, given: &[u64], answer: &str) {
         let words: Vec<String> = given.iter().map(u64::to_string).collect();
         self.stdin += &(words.join(" ") + "\n");
@@ -94,14 +106,6 @@ impl List {
         let answer = saved_line(shown, &G::game(&words), given.position(), self);
         let code = if shown { 3 } else { 4 };
         self.push(&[vec![code], words].concat(), &answer);
-    }
-
-    pub fn append(mut self, more: List) -> List {
-        self.stdin += &more.stdin;
-        self.stdout += &more.stdout;
-        self.lines += more.lines;
-        self.counts.iter_mut().zip(more.counts).for_each(|(count, n)| *count += n);
-        self
     }
 
     pub fn count(&mut self, refusal: u64) {

@@ -3,16 +3,13 @@
 use crate::line::Line;
 use crate::list::{List, Words};
 use crate::listing::{listing, Listing, RECORD, WORDS};
-use crate::random::Random;
+use random::Random;
 use reinfors_games::kuhn::KuhnPoker;
 use reinfors_games::leduc::LeducPoker;
 use std::sync::OnceLock;
 
 pub const KUHN: u64 = 0;
 pub const LEDUC: u64 = 1;
-
-/// What place p of the work memory and of the output holds before a call: this and p more, in the output as a byte.
-const UNTOUCHED: u64 = 200;
 
 /// One call: the game's number, its seats, the words of work memory and the bytes of output that are lent.
 #[derive(Clone, Copy, Debug)]
@@ -78,8 +75,8 @@ impl Call {
         }
         let written = sets.concat();
         line.bytes(&written);
-        (written.len() as u64..self.room).for_each(|place| line.byte((UNTOUCHED + place) as u8));
-        (WORDS * nodes..self.words).for_each(|place| line.number(UNTOUCHED + place));
+        line.bytes_left(written.len(), self.room);
+        line.words_left(WORDS * nodes, self.words);
         let mut text = line.end();
         sets.iter().for_each(|record| text += &("\n".to_string() + &hex(record)));
         text

@@ -1,7 +1,7 @@
 //! Tables of parts at random: mixed, pure, with ties, and with sets that no unit reaches.
 
 use crate::exact::{Set, Tree};
-use crate::random::Random;
+use random::Random;
 
 /// How the parts of a set are laid.
 #[derive(Clone, Copy, Debug, PartialEq, Eq)]
@@ -21,6 +21,11 @@ pub enum Kind {
 }
 
 pub const KINDS: [Kind; 6] = [Kind::Mixed, Kind::Pure, Kind::Even, Kind::First, Kind::Last, Kind::Sparse];
+
+/// Kuhn 2's table of document 01's case k, with D = 1: both seats always pass.
+pub const CASE_K: [u8; 24] = [1, 0, 1, 0, 1, 0, 1, 0, 1, 0, 1, 0, 1, 0, 1, 0, 1, 0, 1, 0, 1, 0, 1, 0];
+/// That of case l, with D = 3.
+pub const CASE_L: [u8; 24] = [3, 0, 3, 0, 3, 0, 2, 1, 0, 3, 0, 3, 3, 0, 2, 1, 2, 1, 3, 0, 3, 0, 0, 3];
 
 /// A valid table of a tree.
 pub fn table(tree: &Tree, d: u64, kind: Kind, random: &mut Random) -> Vec<u8> {

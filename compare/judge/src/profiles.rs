@@ -1,7 +1,7 @@
 //! Profiles of f64 entries at random: weights, ties, and entries that no strategy has, up to any bits.
 
 use crate::exact::Tree;
-use crate::random::Random;
+use random::Random;
 
 /// How the entries of a profile are made.
 #[derive(Clone, Copy, Debug, PartialEq, Eq)]

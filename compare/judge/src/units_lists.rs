@@ -5,12 +5,9 @@ use crate::exact::{kuhn, leduc, Tree};
 use crate::line::Line;
 use crate::list::{List, Words};
 use crate::listing_lists::{KUHN, LEDUC};
-use crate::parts::{table, Kind, KINDS};
-use crate::random::Random;
+use crate::parts::{table, Kind, CASE_K, CASE_L, KINDS};
 use crate::units::Call;
-
-/// What place p of the work memory and of the output holds before a call: this and p more, in the output as a byte.
-const UNTOUCHED: u64 = 200;
+use random::Random;
 
 /// The seat that is none, tried on every line beside those from 0 up to the seat count.
 const NO_SEAT: u64 = u64::MAX;
@@ -74,7 +71,7 @@ impl Record {
             line.say_all(&answer.reply);
         }
         line.bytes(&answer.reply);
-        (answer.reply.len() as u64..self.room).for_each(|place| line.byte((UNTOUCHED + place) as u8));
+        line.bytes_left(answer.reply.len(), self.room);
         self.words_left(answer.refusal, line);
     }
 
@@ -91,7 +88,7 @@ impl Record {
     /// The words that a call had to leave: all of them if it was refused.
     fn words_left(&self, refusal: u64, line: &mut Line) {
         let from = if refusal == 0 { self.kept } else { 0 };
-        (from..self.call.words).for_each(|place| line.number(UNTOUCHED + place));
+        line.words_left(from, self.call.words);
     }
 }
 
@@ -132,10 +129,8 @@ pub fn list(seed: u64) -> List {
 
 /// Cases k and l.
 fn cases(list: &mut List) {
-    let always_pass = [1, 0].repeat(12);
-    let value_nought = "303030210303302121303003".bytes().map(|digit| digit - b'0').collect();
-    list.lend(true, Call::of(KUHN, kuhn(2), 1, always_pass), 24);
-    list.lend(true, Call::of(KUHN, kuhn(2), 3, value_nought), 24);
+    list.lend(true, Call::of(KUHN, kuhn(2), 1, CASE_K.to_vec()), 24);
+    list.lend(true, Call::of(KUHN, kuhn(2), 3, CASE_L.to_vec()), 24);
 }
 
 /// A valid table, lent a little more than enough once in two.
@@ -165,7 +160,7 @@ fn few_tables(list: &mut List, game: u64, tree: &Tree, random: &mut Random) {
 }
 
 /// Numbers that a cut to 8, 16 or 32 bits would take for small ones.
-const FAR: [u64; 6] = [256, 258, 65_538, 1 << 32, (1 << 32) + 2, u64::MAX];
+pub const FAR: [u64; 6] = [256, 258, 65_538, 1 << 32, (1 << 32) + 2, u64::MAX];
 
 /// Calls of one game that are refused.
 struct Refused<'a> {

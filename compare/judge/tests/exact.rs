@@ -1,9 +1,12 @@
 //! The reference in whole units: document 01's cases k and l and its counts, the unchanged Rust's f64 NashConv, and rivals.
 
+mod common;
+
+use common::COUNTS;
 use judge::exact::{kuhn, leduc, probabilities, Node, Played, Tree};
-use judge::parts::{pure_rival, rival, table, Kind, KINDS};
-use judge::random::Random;
+use judge::parts::{pure_rival, rival, table, Kind, CASE_K, CASE_L, KINDS};
 use judge::EventNumber;
+use random::Random;
 use reinfors_core::best_response::nash_conv;
 use reinfors_core::game::Game;
 use reinfors_games::kuhn::KuhnPoker;
@@ -21,12 +24,11 @@ fn nash_conv_of_all(played: &Played) -> (Vec<i128>, Vec<i128>, i128) {
 
 #[test]
 fn case_k() {
-    let always_pass = [1, 0].repeat(12);
-    let played = Played::new(kuhn(2), 1, &always_pass);
+    let played = Played::new(kuhn(2), 1, &CASE_K);
     assert_eq!(nash_conv_of_all(&played), (vec![0, 0], vec![6, 6], 12));
     assert_eq!(played.units(), 6);
     // Seat 0's sets in order: 0 0; 0 0 0 1; 0 1; 0 1 0 1; 0 2; 0 2 0 1. They stand at places 0, 2, 6, 8, 10 and 11.
-    let mut reply = always_pass.clone();
+    let mut reply = CASE_K;
     for set in [0, 6] {
         reply[2 * set..][..2].copy_from_slice(&[0, 1]);
     }
@@ -35,8 +37,7 @@ fn case_k() {
 
 #[test]
 fn case_l() {
-    let entries: Vec<u8> = "303030210303302121303003".bytes().map(|digit| digit - b'0').collect();
-    let played = Played::new(kuhn(2), 3, &entries);
+    let played = Played::new(kuhn(2), 3, &CASE_L);
     assert_eq!(nash_conv_of_all(&played), (vec![-9, 9], vec![-9, 9], 0));
     assert_eq!(played.units(), 162);
 }
@@ -44,12 +45,7 @@ fn case_l() {
 #[test]
 fn trees_have_document_01s_counts() {
     let counts = |tree: &Tree| (tree.nodes.len(), tree.sets.len(), tree.entries);
-    assert_eq!(counts(kuhn(2)), (58, 12, 24));
-    assert_eq!(counts(kuhn(3)), (617, 48, 96));
-    assert_eq!(counts(kuhn(4)), (7_886, 160, 320));
-    assert_eq!(counts(kuhn(5)), (116_437, 480, 960));
-    assert_eq!(counts(kuhn(6)), (1_944_020, 1_344, 2_688));
-    assert_eq!(counts(leduc()), (9_457, 936, 2_184));
+    assert_eq!((2..=6).map(kuhn).chain([leduc()]).map(counts).collect::<Vec<_>>(), COUNTS);
 }
 
 /// The product of the fans and the number of decisions on the longest way down from a node.
@@ -170,8 +166,7 @@ fn no_rival_is_worth_more() {
 /// A tie goes to the lowest action, also in a set without units.
 #[test]
 fn ties_go_to_the_lowest_action() {
-    let always_pass = [1, 0].repeat(12);
-    let played = Played::new(kuhn(2), 1, &always_pass);
+    let played = Played::new(kuhn(2), 1, &CASE_K);
     let units = played.units_of_nodes(Some(1));
     for (number, set) in kuhn(2).sets.iter().enumerate().filter(|(_, set)| set.seat == 1) {
         if set.members.iter().all(|&member| units[member] == 0) {

@@ -5,7 +5,7 @@ use judge::floats::{bits, Call, Evaluation, EVALUATIONS};
 use judge::listing_lists::{KUHN, LEDUC};
 use judge::parts;
 use judge::profiles::{profile, Kind, KINDS};
-use judge::random::Random;
+use random::Random;
 use reinfors_core::best_response::enumerate_infosets;
 use reinfors_core::game::Game;
 use reinfors_games::kuhn::KuhnPoker;

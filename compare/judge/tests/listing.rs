@@ -1,5 +1,8 @@
 //! The unchanged Rust's trees and sets on document 01's counts and keys.
 
+mod common;
+
+use common::COUNTS;
 use judge::listing::{listing, Listed, Listing};
 use reinfors_games::kuhn::KuhnPoker;
 use reinfors_games::leduc::LeducPoker;
@@ -21,15 +24,10 @@ fn key(record: &[u8; 24]) -> &[u8] {
 #[test]
 fn trees_have_document_01s_counts() {
     let counts = |tree: Listing| {
-        let entries: u64 = tree.sets.iter().map(|record| u64::from(record[22])).sum();
-        (tree.nodes, tree.sets.len(), entries)
+        let entries = tree.sets.iter().map(|record| usize::from(record[22])).sum();
+        (tree.nodes as usize, tree.sets.len(), entries)
     };
-    assert_eq!(counts(kuhn(2)), (58, 12, 24));
-    assert_eq!(counts(kuhn(3)), (617, 48, 96));
-    assert_eq!(counts(kuhn(4)), (7_886, 160, 320));
-    assert_eq!(counts(kuhn(5)), (116_437, 480, 960));
-    assert_eq!(counts(kuhn(6)), (1_944_020, 1_344, 2_688));
-    assert_eq!(counts(leduc()), (9_457, 936, 2_184));
+    assert_eq!((2..=6).map(kuhn).chain([leduc()]).map(counts).collect::<Vec<_>>(), COUNTS);
 }
 
 #[test]

@@ -1,24 +1,30 @@
-//! The calls of libchukkanalli.a, as include/chukkanalli.h declares them. Nothing checks these lines against it: the tests run them.
+//! The calls as the archive has them: on any numbers, positions and lengths, with every field of the answer, refused or not. A call has the name
+//! that include/chukkanalli.h gives it, and the header says what it does; a pointer with its length is a slice. [`KuhnPoker`](crate::KuhnPoker),
+//! [`LeducPoker`](crate::LeducPoker) and [`Evaluator`](crate::Evaluator) make these calls.
 
+use crate::exports;
 use crate::{KuhnPosition, LeducPosition, Payoffs, PerSeat, Refusal};
 
 /// What a start, a deal, a step or a saved-position check answers.
 #[repr(C)]
+#[derive(Clone, Copy, Debug, PartialEq, Eq)]
 pub struct Moved<P> {
     pub refusal: u64,
     pub position: P,
 }
 
-/// What a legal list or a key answers.
+/// What a legal list or a key answers: how many bytes it wrote to the front of the output.
 #[repr(C)]
+#[derive(Clone, Copy, Debug, PartialEq, Eq)]
 pub struct Written<P> {
     pub refusal: u64,
     pub position: P,
     pub count: u64,
 }
 
-/// What a payoff answers.
+/// What a payoff answers: a number for each of `count` seats, 0 past them.
 #[repr(C)]
+#[derive(Clone, Copy, Debug, PartialEq, Eq)]
 pub struct Paid<P> {
     pub refusal: u64,
     pub position: P,
@@ -26,175 +32,192 @@ pub struct Paid<P> {
     pub payoffs: [i64; 10],
 }
 
-/// What the listing answers.
+/// What the listing answers: the nodes and the sets of the game's tree.
 #[repr(C)]
+#[derive(Clone, Copy, Debug, PartialEq, Eq)]
 pub struct Listed {
     pub refusal: u64,
     pub nodes: u64,
     pub sets: u64,
 }
 
-/// What the worths answer.
+/// What the worths answer: a number for each of `count` seats, 0 past them.
 #[repr(C)]
+#[derive(Clone, Copy, Debug, PartialEq, Eq)]
 pub struct Weighed {
     pub refusal: u64,
     pub count: u64,
     pub worths: [i64; 6],
 }
 
-/// What a best reply answers.
+/// What a best reply answers: the seat's best value.
 #[repr(C)]
+#[derive(Clone, Copy, Debug, PartialEq, Eq)]
 pub struct Replied {
     pub refusal: u64,
     pub value: i64,
 }
 
-/// What NashConv answers.
+/// What NashConv answers in whole units, with the units to divide by.
 #[repr(C)]
+#[derive(Clone, Copy, Debug, PartialEq, Eq)]
 pub struct Summed {
     pub refusal: u64,
     pub nash_conv: u64,
     pub units: u64,
 }
 
-/// What a call in f64 answers.
+/// What a call in f64 answers: `count` values, 0.0 past them.
 #[repr(C)]
-#[derive(Clone, Copy, Debug)]
+#[derive(Clone, Copy, Debug, PartialEq)]
 pub struct Valued {
     pub refusal: u64,
     pub count: u64,
     pub values: [f64; 6],
 }
 
-extern "C" {
-    pub fn chukkanalli_kuhn_validate(seats: u64) -> u64;
-    pub fn chukkanalli_kuhn_initial_state(seats: u64) -> Moved<KuhnPosition>;
-    pub fn chukkanalli_kuhn_legal_actions(
-        seats: u64,
-        position: KuhnPosition,
-        seat: u64,
-        out: *mut u8,
-        out_len: usize,
-    ) -> Written<KuhnPosition>;
-    pub fn chukkanalli_kuhn_apply_chance_node(seats: u64, position: KuhnPosition, outcome: u64) -> Moved<KuhnPosition>;
-    pub fn chukkanalli_kuhn_step(seats: u64, position: KuhnPosition, action: u64) -> Moved<KuhnPosition>;
-    pub fn chukkanalli_kuhn_information_state_key(
-        seats: u64,
-        position: KuhnPosition,
-        seat: u64,
-        out: *mut u8,
-        out_len: usize,
-    ) -> Written<KuhnPosition>;
-    pub fn chukkanalli_kuhn_payouts(seats: u64, position: KuhnPosition) -> Paid<KuhnPosition>;
-    pub fn chukkanalli_kuhn_validate_decoded_state(
-        seats: u64,
-        position: KuhnPosition,
-        done: u64,
-    ) -> Moved<KuhnPosition>;
+// SAFETY, of every call below: numbers and positions go by value, each pointer is valid for its length, and a slice that can be written
+// overlaps no other.
 
-    pub fn chukkanalli_leduc_initial_state() -> Moved<LeducPosition>;
-    pub fn chukkanalli_leduc_legal_actions(
-        position: LeducPosition,
-        seat: u64,
-        out: *mut u8,
-        out_len: usize,
-    ) -> Written<LeducPosition>;
-    pub fn chukkanalli_leduc_apply_chance_node(position: LeducPosition, outcome: u64) -> Moved<LeducPosition>;
-    pub fn chukkanalli_leduc_step(position: LeducPosition, action: u64) -> Moved<LeducPosition>;
-    pub fn chukkanalli_leduc_information_state_key(
-        position: LeducPosition,
-        seat: u64,
-        out: *mut u8,
-        out_len: usize,
-    ) -> Written<LeducPosition>;
-    pub fn chukkanalli_leduc_payouts(position: LeducPosition) -> Paid<LeducPosition>;
-    pub fn chukkanalli_leduc_validate_decoded_state(position: LeducPosition, done: u64) -> Moved<LeducPosition>;
+/// The refusal of a seat count: 0 or 2.
+pub fn kuhn_validate(seats: u64) -> u64 {
+    unsafe { exports::chukkanalli_kuhn_validate(seats) }
+}
 
-    pub fn chukkanalli_enumerate_infosets(
-        game: u64,
-        seats: u64,
-        work: *const u64,
-        work_len: usize,
-        out: *mut u8,
-        out_len: usize,
-    ) -> Listed;
+/// Refuses with 2.
+pub fn kuhn_initial_state(seats: u64) -> Moved<KuhnPosition> {
+    unsafe { exports::chukkanalli_kuhn_initial_state(seats) }
+}
 
-    pub fn chukkanalli_worths(
-        game: u64,
-        seats: u64,
-        work: *mut u64,
-        work_len: usize,
-        d: u64,
-        table: *const u8,
-        table_len: usize,
-    ) -> Weighed;
-    pub fn chukkanalli_best_reply(
-        game: u64,
-        seats: u64,
-        work: *mut u64,
-        work_len: usize,
-        seat: u64,
-        d: u64,
-        table: *const u8,
-        table_len: usize,
-        out: *mut u8,
-        out_len: usize,
-    ) -> Replied;
-    pub fn chukkanalli_nash_conv_units(
-        game: u64,
-        seats: u64,
-        work: *mut u64,
-        work_len: usize,
-        d: u64,
-        table: *const u8,
-        table_len: usize,
-    ) -> Summed;
+/// Refuses with 2, 19, 9.
+pub fn kuhn_legal_actions(seats: u64, position: KuhnPosition, seat: u64, out: &mut [u8]) -> Written<KuhnPosition> {
+    unsafe { exports::chukkanalli_kuhn_legal_actions(seats, position, seat, out.as_mut_ptr(), out.len()) }
+}
 
-    pub fn chukkanalli_best_response_value(
-        game: u64,
-        seats: u64,
-        work: *mut u64,
-        work_len: usize,
-        seat: u64,
-        profile: *const f64,
-        profile_len: usize,
-    ) -> Valued;
-    pub fn chukkanalli_best_response_values(
-        game: u64,
-        seats: u64,
-        work: *mut u64,
-        work_len: usize,
-        profile: *const f64,
-        profile_len: usize,
-    ) -> Valued;
-    pub fn chukkanalli_profile_values(
-        game: u64,
-        seats: u64,
-        work: *mut u64,
-        work_len: usize,
-        profile: *const f64,
-        profile_len: usize,
-    ) -> Valued;
-    pub fn chukkanalli_nash_conv(
-        game: u64,
-        seats: u64,
-        work: *mut u64,
-        work_len: usize,
-        profile: *const f64,
-        profile_len: usize,
-    ) -> Valued;
-    pub fn chukkanalli_exploitability(
-        game: u64,
-        seats: u64,
-        work: *mut u64,
-        work_len: usize,
-        profile: *const f64,
-        profile_len: usize,
-    ) -> Valued;
+/// Refuses with 2, 19, 20.
+pub fn kuhn_apply_chance_node(seats: u64, position: KuhnPosition, outcome: u64) -> Moved<KuhnPosition> {
+    unsafe { exports::chukkanalli_kuhn_apply_chance_node(seats, position, outcome) }
+}
+
+/// Refuses with 2, 19, 20.
+pub fn kuhn_step(seats: u64, position: KuhnPosition, action: u64) -> Moved<KuhnPosition> {
+    unsafe { exports::chukkanalli_kuhn_step(seats, position, action) }
+}
+
+/// Refuses with 2, 19, 20, 9.
+pub fn kuhn_information_state_key(
+    seats: u64,
+    position: KuhnPosition,
+    seat: u64,
+    out: &mut [u8],
+) -> Written<KuhnPosition> {
+    unsafe { exports::chukkanalli_kuhn_information_state_key(seats, position, seat, out.as_mut_ptr(), out.len()) }
+}
+
+/// Refuses with 2, 19, 20.
+pub fn kuhn_payouts(seats: u64, position: KuhnPosition) -> Paid<KuhnPosition> {
+    unsafe { exports::chukkanalli_kuhn_payouts(seats, position) }
+}
+
+/// Refuses with 2, 10 to 14, 18.
+pub fn kuhn_validate_decoded_state(seats: u64, position: KuhnPosition, done: u64) -> Moved<KuhnPosition> {
+    unsafe { exports::chukkanalli_kuhn_validate_decoded_state(seats, position, done) }
+}
+
+/// Never refuses.
+pub fn leduc_initial_state() -> Moved<LeducPosition> {
+    unsafe { exports::chukkanalli_leduc_initial_state() }
+}
+
+/// Refuses with 19, 9.
+pub fn leduc_legal_actions(position: LeducPosition, seat: u64, out: &mut [u8]) -> Written<LeducPosition> {
+    unsafe { exports::chukkanalli_leduc_legal_actions(position, seat, out.as_mut_ptr(), out.len()) }
+}
+
+/// Refuses with 19, 20.
+pub fn leduc_apply_chance_node(position: LeducPosition, outcome: u64) -> Moved<LeducPosition> {
+    unsafe { exports::chukkanalli_leduc_apply_chance_node(position, outcome) }
+}
+
+/// Refuses with 19, 20.
+pub fn leduc_step(position: LeducPosition, action: u64) -> Moved<LeducPosition> {
+    unsafe { exports::chukkanalli_leduc_step(position, action) }
+}
+
+/// Refuses with 19, 20, 9.
+pub fn leduc_information_state_key(position: LeducPosition, seat: u64, out: &mut [u8]) -> Written<LeducPosition> {
+    unsafe { exports::chukkanalli_leduc_information_state_key(position, seat, out.as_mut_ptr(), out.len()) }
+}
+
+/// Refuses with 19, 20.
+pub fn leduc_payouts(position: LeducPosition) -> Paid<LeducPosition> {
+    unsafe { exports::chukkanalli_leduc_payouts(position) }
+}
+
+/// Refuses with 10 to 18.
+pub fn leduc_validate_decoded_state(position: LeducPosition, done: u64) -> Moved<LeducPosition> {
+    unsafe { exports::chukkanalli_leduc_validate_decoded_state(position, done) }
+}
+
+/// Writes a game's sets to an output. Refuses with 1, 2, 3, 4, 9.
+pub fn enumerate_infosets(game: u64, seats: u64, work: &[u64], out: &mut [u8]) -> Listed {
+    let (to, room) = (out.as_mut_ptr(), out.len());
+    unsafe { exports::chukkanalli_enumerate_infosets(game, seats, work.as_ptr(), work.len(), to, room) }
+}
+
+/// Refuses with 1, 2, 3, 4, 6, 7, 8.
+pub fn worths(game: u64, seats: u64, work: &mut [u64], d: u64, table: &[u8]) -> Weighed {
+    let (work, words) = (work.as_mut_ptr(), work.len());
+    unsafe { exports::chukkanalli_worths(game, seats, work, words, d, table.as_ptr(), table.len()) }
+}
+
+/// Writes the reply to an output. Refuses with 1 to 9.
+pub fn best_reply(game: u64, seats: u64, work: &mut [u64], seat: u64, d: u64, table: &[u8], out: &mut [u8]) -> Replied {
+    let (work, words) = (work.as_mut_ptr(), work.len());
+    let (from, length) = (table.as_ptr(), table.len());
+    let (to, room) = (out.as_mut_ptr(), out.len());
+    unsafe { exports::chukkanalli_best_reply(game, seats, work, words, seat, d, from, length, to, room) }
+}
+
+/// Refuses with 1, 2, 3, 4, 6, 7, 8.
+pub fn nash_conv_units(game: u64, seats: u64, work: &mut [u64], d: u64, table: &[u8]) -> Summed {
+    let (work, words) = (work.as_mut_ptr(), work.len());
+    unsafe { exports::chukkanalli_nash_conv_units(game, seats, work, words, d, table.as_ptr(), table.len()) }
+}
+
+/// Refuses with 1, 2, 3, 4, 5, 7.
+pub fn best_response_value(game: u64, seats: u64, work: &mut [u64], seat: u64, profile: &[f64]) -> Valued {
+    let (work, words) = (work.as_mut_ptr(), work.len());
+    let (from, length) = (profile.as_ptr(), profile.len());
+    unsafe { exports::chukkanalli_best_response_value(game, seats, work, words, seat, from, length) }
+}
+
+/// Refuses with 1, 2, 3, 4, 7.
+pub fn best_response_values(game: u64, seats: u64, work: &mut [u64], profile: &[f64]) -> Valued {
+    let (work, words) = (work.as_mut_ptr(), work.len());
+    unsafe { exports::chukkanalli_best_response_values(game, seats, work, words, profile.as_ptr(), profile.len()) }
+}
+
+/// Refuses with 1, 2, 3, 4, 7.
+pub fn profile_values(game: u64, seats: u64, work: &mut [u64], profile: &[f64]) -> Valued {
+    let (work, words) = (work.as_mut_ptr(), work.len());
+    unsafe { exports::chukkanalli_profile_values(game, seats, work, words, profile.as_ptr(), profile.len()) }
+}
+
+/// Refuses with 1, 2, 3, 4, 7.
+pub fn nash_conv(game: u64, seats: u64, work: &mut [u64], profile: &[f64]) -> Valued {
+    let (work, words) = (work.as_mut_ptr(), work.len());
+    unsafe { exports::chukkanalli_nash_conv(game, seats, work, words, profile.as_ptr(), profile.len()) }
+}
+
+/// Refuses with 1, 2, 3, 4, 7.
+pub fn exploitability(game: u64, seats: u64, work: &mut [u64], profile: &[f64]) -> Valued {
+    let (work, words) = (work.as_mut_ptr(), work.len());
+    unsafe { exports::chukkanalli_exploitability(game, seats, work, words, profile.as_ptr(), profile.len()) }
 }
 
 /// Ok for 0, else the refusal of the number.
-pub fn accepted(refusal: u64) -> Result<(), Refusal> {
+pub(crate) fn accepted(refusal: u64) -> Result<(), Refusal> {
     match Refusal::from_number(refusal) {
         None if refusal == 0 => Ok(()),
         None => unreachable!("the calls answer document 01's numbers, and {refusal} is none"),
@@ -202,15 +225,15 @@ pub fn accepted(refusal: u64) -> Result<(), Refusal> {
     }
 }
 
-pub fn moved<P>(answer: Moved<P>) -> Result<P, Refusal> {
+pub(crate) fn moved<P>(answer: Moved<P>) -> Result<P, Refusal> {
     accepted(answer.refusal).map(|()| answer.position)
 }
 
 /// The front of the output that the call has written.
-pub fn written<P>(answer: Written<P>, out: &[u8]) -> Result<&[u8], Refusal> {
+pub(crate) fn written<P>(answer: Written<P>, out: &[u8]) -> Result<&[u8], Refusal> {
     accepted(answer.refusal).map(|()| &out[..answer.count as usize])
 }
 
-pub fn paid<P>(answer: Paid<P>) -> Result<Payoffs, Refusal> {
+pub(crate) fn paid<P>(answer: Paid<P>) -> Result<Payoffs, Refusal> {
     accepted(answer.refusal).map(|()| PerSeat::new(answer.count, answer.payoffs))
 }

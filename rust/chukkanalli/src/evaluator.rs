@@ -87,10 +87,7 @@ impl Evaluator {
 
     /// What a table is worth to each seat, in units. Refuses with 6, 7, 8.
     pub fn worths(&mut self, d: u64, table: &[u8]) -> Result<Worths, Refusal> {
-        let (game, seats) = (self.game.number(), self.game.seats());
-        let (work, words) = (self.work.as_mut_ptr(), self.work.len());
-        // SAFETY: each pointer is valid for its length, and the slice that can be written overlaps no other.
-        let answer = unsafe { archive::chukkanalli_worths(game, seats, work, words, d, table.as_ptr(), table.len()) };
+        let answer = archive::worths(self.game.number(), self.game.seats(), &mut self.work, d, table);
         accepted(answer.refusal).map(|()| PerSeat::new(answer.count, answer.worths))
     }
 
@@ -103,34 +100,20 @@ impl Evaluator {
 
     /// The best value of a seat, with its reply written to the front of an output. Refuses with 5, 6, 7, 8, 9; the output then stays.
     pub fn best_reply_into(&mut self, seat: u64, d: u64, table: &[u8], out: &mut [u8]) -> Result<i64, Refusal> {
-        let (game, seats) = (self.game.number(), self.game.seats());
-        let (work, words) = (self.work.as_mut_ptr(), self.work.len());
-        let (from, length) = (table.as_ptr(), table.len());
-        let (to, room) = (out.as_mut_ptr(), out.len());
-        // SAFETY: each pointer is valid for its length, and a slice that can be written overlaps no other.
-        let answer =
-            unsafe { archive::chukkanalli_best_reply(game, seats, work, words, seat, d, from, length, to, room) };
+        let answer = archive::best_reply(self.game.number(), self.game.seats(), &mut self.work, seat, d, table, out);
         accepted(answer.refusal).map(|()| answer.value)
     }
 
     /// NashConv of a table. Refuses with 6, 7, 8.
     pub fn nash_conv_units(&mut self, d: u64, table: &[u8]) -> Result<NashConv, Refusal> {
-        let (game, seats) = (self.game.number(), self.game.seats());
-        let (work, words) = (self.work.as_mut_ptr(), self.work.len());
-        let (from, length) = (table.as_ptr(), table.len());
-        // SAFETY: each pointer is valid for its length, and the slice that can be written overlaps no other.
-        let answer = unsafe { archive::chukkanalli_nash_conv_units(game, seats, work, words, d, from, length) };
+        let answer = archive::nash_conv_units(self.game.number(), self.game.seats(), &mut self.work, d, table);
         accepted(answer.refusal).map(|()| NashConv { nash_conv: answer.nash_conv, units: answer.units })
     }
 }
 
 /// The listing of a game's sets into an output.
 fn list(game: u64, seats: u64, work: &[u64], out: &mut [u8]) -> Result<(), Refusal> {
-    let (to, room) = (out.as_mut_ptr(), out.len());
-    // SAFETY: each pointer is valid for its length, and the slice that can be written overlaps no other.
-    accepted(
-        unsafe { archive::chukkanalli_enumerate_infosets(game, seats, work.as_ptr(), work.len(), to, room) }.refusal,
-    )
+    accepted(archive::enumerate_infosets(game, seats, work, out).refusal)
 }
 
 /// The legal actions at a set's first node.

@@ -4,52 +4,39 @@ use crate::archive::{self, accepted, Valued};
 use crate::{Evaluator, PerSeat, Refusal, Values};
 
 /// A call that is handed no seat.
-type ProfileCall = unsafe extern "C" fn(u64, u64, *mut u64, usize, *const f64, usize) -> Valued;
+type ProfileCall = fn(u64, u64, &mut [u64], &[f64]) -> Valued;
 
 impl Evaluator {
     /// The best response value of a seat. Refuses with 5, 7.
     pub fn best_response_value(&mut self, seat: u64, profile: &[f64]) -> Result<f64, Refusal> {
         let (game, seats) = (self.game().number(), self.game().seats());
-        one(of_seat(game, seats, &mut self.work, seat, profile))
+        one(archive::best_response_value(game, seats, &mut self.work, seat, profile))
     }
 
     /// The best response value of each seat. Refuses with 7.
     pub fn best_response_values(&mut self, profile: &[f64]) -> Result<Values, Refusal> {
-        each(self.valued(archive::chukkanalli_best_response_values, profile))
+        each(self.valued(archive::best_response_values, profile))
     }
 
     /// What a profile is worth to each seat. Refuses with 7.
     pub fn profile_values(&mut self, profile: &[f64]) -> Result<Values, Refusal> {
-        each(self.valued(archive::chukkanalli_profile_values, profile))
+        each(self.valued(archive::profile_values, profile))
     }
 
     /// NashConv of a profile: the sum of best response value − worth by seat. Refuses with 7.
     pub fn nash_conv(&mut self, profile: &[f64]) -> Result<f64, Refusal> {
-        one(self.valued(archive::chukkanalli_nash_conv, profile))
+        one(self.valued(archive::nash_conv, profile))
     }
 
     /// Exploitability of a profile: NashConv divided by the seats. Refuses with 7.
     pub fn exploitability(&mut self, profile: &[f64]) -> Result<f64, Refusal> {
-        one(self.valued(archive::chukkanalli_exploitability, profile))
+        one(self.valued(archive::exploitability, profile))
     }
 
     fn valued(&mut self, call: ProfileCall, profile: &[f64]) -> Valued {
         let (game, seats) = (self.game().number(), self.game().seats());
-        of_profile(call, game, seats, &mut self.work, profile)
+        call(game, seats, &mut self.work, profile)
     }
-}
-
-fn of_seat(game: u64, seats: u64, work: &mut [u64], seat: u64, profile: &[f64]) -> Valued {
-    let (to, words) = (work.as_mut_ptr(), work.len());
-    let (from, length) = (profile.as_ptr(), profile.len());
-    // SAFETY: each pointer is valid for its length, and the slice that can be written overlaps no other.
-    unsafe { archive::chukkanalli_best_response_value(game, seats, to, words, seat, from, length) }
-}
-
-fn of_profile(call: ProfileCall, game: u64, seats: u64, work: &mut [u64], profile: &[f64]) -> Valued {
-    let (to, words) = (work.as_mut_ptr(), work.len());
-    // SAFETY: each pointer is valid for its length, and the slice that can be written overlaps no other.
-    unsafe { call(game, seats, to, words, profile.as_ptr(), profile.len()) }
 }
 
 fn one(answer: Valued) -> Result<f64, Refusal> {
@@ -65,12 +52,8 @@ mod tests {
     use super::*;
     use crate::Game;
 
-    const PROFILE_CALLS: [ProfileCall; 4] = [
-        archive::chukkanalli_best_response_values,
-        archive::chukkanalli_profile_values,
-        archive::chukkanalli_nash_conv,
-        archive::chukkanalli_exploitability,
-    ];
+    const PROFILE_CALLS: [ProfileCall; 4] =
+        [archive::best_response_values, archive::profile_values, archive::nash_conv, archive::exploitability];
 
     /// What the calls are lent: a game number, a seat count, words of work memory, a seat and entries.
     type Lent = (u64, u64, usize, u64, usize);
@@ -79,8 +62,8 @@ mod tests {
     fn answers((game, seats, words, seat, entries): Lent, kept: usize) -> Vec<Valued> {
         let mut work = vec![9; words];
         let profile = vec![0.5; entries];
-        let mut answers = vec![of_seat(game, seats, &mut work, seat, &profile)];
-        answers.extend(PROFILE_CALLS.map(|call| of_profile(call, game, seats, &mut work, &profile)));
+        let mut answers = vec![archive::best_response_value(game, seats, &mut work, seat, &profile)];
+        answers.extend(PROFILE_CALLS.map(|call| call(game, seats, &mut work, &profile)));
         assert!(work[kept..].iter().all(|&word| word == 9));
         answers
     }

@@ -62,34 +62,31 @@ mod calls {
     use crate::archive::{self, accepted, moved, paid, written};
     use crate::{Payoffs, Refusal};
 
-    // SAFETY, of every call below: numbers and positions go by value, and an output's pointer is valid for its length.
     impl KuhnPoker {
         /// Refuses a seat count with 2.
         pub fn validate(self) -> Result<(), Refusal> {
-            accepted(unsafe { archive::chukkanalli_kuhn_validate(self.seats) })
+            accepted(archive::kuhn_validate(self.seats))
         }
 
         /// The start: no card dealt, no action made. Refuses with 2.
         pub fn initial_state(self) -> Result<KuhnPosition, Refusal> {
-            moved(unsafe { archive::chukkanalli_kuhn_initial_state(self.seats) })
+            moved(archive::kuhn_initial_state(self.seats))
         }
 
         /// The legal actions of a seat, written to the front of an output; none for a seat whose turn it is not, while a card is due and
         /// after the end. Refuses with 2, 19, 9.
         pub fn legal_actions(self, position: KuhnPosition, seat: u64, out: &mut [u8]) -> Result<&[u8], Refusal> {
-            let (to, room) = (out.as_mut_ptr(), out.len());
-            let answer = unsafe { archive::chukkanalli_kuhn_legal_actions(self.seats, position, seat, to, room) };
-            written(answer, out)
+            written(archive::kuhn_legal_actions(self.seats, position, seat, out), out)
         }
 
         /// The next seat gets the card of an outcome, which counts those left from the lowest. Refuses with 2, 19, 20.
         pub fn apply_chance_node(self, position: KuhnPosition, outcome: u64) -> Result<KuhnPosition, Refusal> {
-            moved(unsafe { archive::chukkanalli_kuhn_apply_chance_node(self.seats, position, outcome) })
+            moved(archive::kuhn_apply_chance_node(self.seats, position, outcome))
         }
 
         /// The seat whose turn it is acts; every action above 1 counts as BET. Refuses with 2, 19, 20.
         pub fn step(self, position: KuhnPosition, action: u64) -> Result<KuhnPosition, Refusal> {
-            moved(unsafe { archive::chukkanalli_kuhn_step(self.seats, position, action) })
+            moved(archive::kuhn_step(self.seats, position, action))
         }
 
         /// The key of a seat that has a card, written to the front of an output: seat, card, history. Refuses with 2, 19, 20, 9.
@@ -99,20 +96,17 @@ mod calls {
             seat: u64,
             out: &mut [u8],
         ) -> Result<&[u8], Refusal> {
-            let (to, room) = (out.as_mut_ptr(), out.len());
-            let answer =
-                unsafe { archive::chukkanalli_kuhn_information_state_key(self.seats, position, seat, to, room) };
-            written(answer, out)
+            written(archive::kuhn_information_state_key(self.seats, position, seat, out), out)
         }
 
         /// What each seat gains at the end of a hand. Refuses with 2, 19, 20.
         pub fn payouts(self, position: KuhnPosition) -> Result<Payoffs, Refusal> {
-            paid(unsafe { archive::chukkanalli_kuhn_payouts(self.seats, position) })
+            paid(archive::kuhn_payouts(self.seats, position))
         }
 
         /// Checks a saved position with its end mark, 0 for a live hand and 1 for one that has ended. Refuses with 2, 10 to 14, 18.
         pub fn validate_decoded_state(self, position: KuhnPosition, done: u64) -> Result<(), Refusal> {
-            moved(unsafe { archive::chukkanalli_kuhn_validate_decoded_state(self.seats, position, done) }).map(drop)
+            moved(archive::kuhn_validate_decoded_state(self.seats, position, done)).map(drop)
         }
     }
 }

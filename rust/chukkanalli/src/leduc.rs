@@ -69,46 +69,43 @@ mod calls {
     use crate::archive::{self, moved, paid, written};
     use crate::{Payoffs, Refusal};
 
-    // SAFETY, of every call below: numbers and positions go by value, and an output's pointer is valid for its length.
     impl LeducPoker {
         /// The start: no card dealt, no action made.
         pub fn initial_state() -> LeducPosition {
-            unsafe { archive::chukkanalli_leduc_initial_state() }.position
+            archive::leduc_initial_state().position
         }
 
         /// The legal actions of a seat, written to the front of an output; none for a seat whose turn it is not, while a card is due and
         /// after the end. Refuses with 19, 9.
         pub fn legal_actions(position: LeducPosition, seat: u64, out: &mut [u8]) -> Result<&[u8], Refusal> {
-            let (to, room) = (out.as_mut_ptr(), out.len());
-            written(unsafe { archive::chukkanalli_leduc_legal_actions(position, seat, to, room) }, out)
+            written(archive::leduc_legal_actions(position, seat, out), out)
         }
 
         /// Deals a seat's card, or the public card once round 1 has closed; an outcome counts the cards left from the lowest. Refuses with
         /// 19, 20.
         pub fn apply_chance_node(position: LeducPosition, outcome: u64) -> Result<LeducPosition, Refusal> {
-            moved(unsafe { archive::chukkanalli_leduc_apply_chance_node(position, outcome) })
+            moved(archive::leduc_apply_chance_node(position, outcome))
         }
 
         /// The seat whose turn it is acts; an illegal action becomes FOLD if that is legal, else CALL. Refuses with 19, 20.
         pub fn step(position: LeducPosition, action: u64) -> Result<LeducPosition, Refusal> {
-            moved(unsafe { archive::chukkanalli_leduc_step(position, action) })
+            moved(archive::leduc_step(position, action))
         }
 
         /// The key of a seat that has a card, written to the front of an output: seat, card, public card or 255, then each round's length
         /// and actions. Refuses with 19, 20, 9.
         pub fn information_state_key(position: LeducPosition, seat: u64, out: &mut [u8]) -> Result<&[u8], Refusal> {
-            let (to, room) = (out.as_mut_ptr(), out.len());
-            written(unsafe { archive::chukkanalli_leduc_information_state_key(position, seat, to, room) }, out)
+            written(archive::leduc_information_state_key(position, seat, out), out)
         }
 
         /// What each seat gains at the end of a hand. Refuses with 19, 20.
         pub fn payouts(position: LeducPosition) -> Result<Payoffs, Refusal> {
-            paid(unsafe { archive::chukkanalli_leduc_payouts(position) })
+            paid(archive::leduc_payouts(position))
         }
 
         /// Checks a saved position with its end mark, 0 for a live hand and 1 for one that has ended. Refuses with 10 to 18.
         pub fn validate_decoded_state(position: LeducPosition, done: u64) -> Result<(), Refusal> {
-            moved(unsafe { archive::chukkanalli_leduc_validate_decoded_state(position, done) }).map(drop)
+            moved(archive::leduc_validate_decoded_state(position, done)).map(drop)
         }
     }
 }

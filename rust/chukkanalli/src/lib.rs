@@ -34,9 +34,11 @@ mod per_seat;
 mod refusal;
 
 #[cfg(feature = "archive")]
-mod archive;
+pub mod archive;
 #[cfg(feature = "archive")]
 mod evaluator;
+#[cfg(feature = "archive")]
+mod exports;
 #[cfg(feature = "archive")]
 mod floats;
 

@@ -7,9 +7,9 @@ use std::panic::{self, AssertUnwindSafe};
 use std::path::Path;
 
 use chukkanalli_cli::console::Console;
+use random::Random;
 
 use crate::model::{self, Listed};
-use crate::random::Random;
 use crate::{path_of, texts, Seen};
 
 /// The first half of each list fits most games.

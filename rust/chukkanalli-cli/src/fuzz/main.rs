@@ -5,7 +5,6 @@
 
 mod lines;
 mod model;
-mod random;
 mod texts;
 
 use std::fs;

@@ -3,9 +3,9 @@
 use std::fmt::Debug;
 
 use chukkanalli_cli::reader::{self, Entry};
+use random::Random;
 
 use crate::model::{self, Listed, Read};
-use crate::random::Random;
 
 /// What tables and profiles are made of, and what they are spoiled with.
 const PIECES: [&[u8]; 60] = [

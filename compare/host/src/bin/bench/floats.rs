@@ -1,14 +1,13 @@
 //! NashConv in f64 of one profile: the Rust's and ours, and ours in whole units beside it. The memory that is lent was filled before.
 
 use crate::row;
+use crate::units::mixed;
+use chukkanalli::archive::nash_conv_units;
 use host::floats::evaluate;
 use host::memory::Memory;
-use host::units::nash_conv_units;
 use judge::exact::{kuhn, leduc, probabilities, Tree};
 use judge::floats::{bits, Evaluation};
 use judge::listing_lists::{KUHN, LEDUC};
-use judge::parts::{table, Kind};
-use judge::random::Random;
 use judge::units::words;
 use judge::EventNumber;
 use reinfors_core::best_response::nash_conv;
@@ -22,11 +21,6 @@ pub fn bench(rounds: usize) {
         one_profile(&format!("nash_conv f64, Kuhn {players}"), KUHN, kuhn(players), &KuhnPoker { players }, rounds);
     }
     one_profile("nash_conv f64, Leduc", LEDUC, leduc(), &LeducPoker, rounds);
-}
-
-/// The mixed table with the most parts, as in the rows in whole units.
-fn mixed(tree: &Tree) -> Vec<u8> {
-    table(tree, tree.most_parts, Kind::Mixed, &mut Random::new(2026))
 }
 
 fn one_profile<G: Game<Event = f64>>(name: &str, number: u64, tree: &Tree, game: &G, rounds: usize) {

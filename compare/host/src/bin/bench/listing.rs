@@ -2,7 +2,7 @@
 //! for the first time. The Rust makes its sets from the whole tree, ours finds the first node of each.
 
 use crate::row;
-use host::listing::enumerate_infosets;
+use chukkanalli::archive::enumerate_infosets;
 use host::memory::Memory;
 use judge::listing::{Listed, RECORD};
 use judge::listing_lists::{listing_of, KUHN, LEDUC};

@@ -1,11 +1,9 @@
 //! `bench [ROUNDS]`: our time and the Rust's on the same inputs in one run. Both take turns, round after round; a row has the
 //! median of each and their ratio, and how many rounds it had: fewer where they would take too long.
 
-#[cfg(feature = "floats")]
 mod floats;
 mod listing;
 mod rules;
-#[cfg(feature = "units")]
 mod units;
 
 use host::median;
@@ -23,12 +21,9 @@ fn main() {
     println!("| what | rounds | Rust | ours | times as fast |");
     println!("| --- | --- | --- | --- | --- |");
     listing::bench(rounds);
-    #[cfg(feature = "units")]
     units::bench(rounds);
-    #[cfg(feature = "floats")]
     floats::bench(rounds);
     rules::bench(rounds);
-    #[cfg(feature = "floats")]
     floats::beside_units(rounds);
 }
 

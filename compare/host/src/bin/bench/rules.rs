@@ -2,9 +2,10 @@
 //! that the position can be reached; the Rust trusts its caller.
 
 use crate::row;
-use host::rules::{Calls, Kuhn, KuhnPosition, Leduc, LeducPosition, NO_CARD};
-use judge::random::Random;
+use chukkanalli::{KuhnPosition, LeducPosition};
+use host::rules::{Calls, Kuhn, Leduc};
 use judge::whole;
+use random::Random;
 use reinfors_core::game::{Actor, ChanceDist, Game};
 use reinfors_games::kuhn::KuhnPoker;
 use reinfors_games::leduc::LeducPoker;
@@ -52,17 +53,18 @@ impl Turns for Leduc {
         if position.dealt < 2 {
             return Some(6 - position.dealt as usize);
         }
-        (closed(position) && position.public_card == NO_CARD).then_some(4)
+        (closed(position) && position.public().is_none()).then_some(4)
     }
 
     fn seat(&self, position: &LeducPosition) -> u64 {
-        position.acted[usize::from(closed(position))] % 2
+        let acted = if closed(position) { position.acted2 } else { position.acted1 };
+        acted % 2
     }
 }
 
 /// Whether round 1 has closed.
 fn closed(position: &LeducPosition) -> bool {
-    let acted = position.acted[0] as usize;
+    let acted = position.acted1 as usize;
     acted >= 2 && position.history[acted - 1] == 1
 }
 

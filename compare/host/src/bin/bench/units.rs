@@ -1,14 +1,14 @@
 //! NashConv of one table: the Rust's f64 `nash_conv` of the profile part / D, and ours in whole units. The memory that is lent was filled before.
 
 use crate::row;
+use chukkanalli::archive::nash_conv_units;
 use host::memory::Memory;
-use host::units::nash_conv_units;
 use judge::exact::{kuhn, leduc, probabilities, Tree};
 use judge::listing_lists::{KUHN, LEDUC};
 use judge::parts::{table, Kind};
-use judge::random::Random;
 use judge::units::words;
 use judge::EventNumber;
+use random::Random;
 use reinfors_core::best_response::nash_conv;
 use reinfors_core::game::Game;
 use reinfors_games::kuhn::KuhnPoker;
@@ -23,9 +23,12 @@ pub fn bench(rounds: usize) {
 }
 
 /// A mixed table with as many parts as the game may have.
+pub fn mixed(tree: &Tree) -> Vec<u8> {
+    table(tree, tree.most_parts, Kind::Mixed, &mut Random::new(2026))
+}
+
 fn one_table<G: Game<Event = f64>>(name: &str, number: u64, tree: &Tree, game: &G, rounds: usize) {
-    let d = tree.most_parts;
-    let table = table(tree, d, Kind::Mixed, &mut Random::new(2026));
+    let (table, d) = (mixed(tree), tree.most_parts);
     let entries = probabilities(&table, d);
     let profile = tree.profile(&entries);
     let mut memory = Memory::new(words(tree), 0);

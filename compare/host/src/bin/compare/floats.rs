@@ -1,28 +1,26 @@
 //! The calls in f64: random profiles of each game and calls that are refused, held to the unchanged Rust bit for bit; and the uniform profile, held
 //! to the whole units of the archive.
 
-use crate::number::{fewer, more, number_but, other_length};
+use crate::game::Game;
+use crate::number::{more, number_but, other_length};
 use crate::Counts;
-use host::floats::evaluate;
+use chukkanalli::archive::{best_reply, nash_conv_units, worths};
+use host::floats::{evaluate, judged};
 use host::memory::Memory;
 use host::stack::stack_of;
-use host::units::{best_reply, nash_conv_units, worths};
-use judge::exact::{kuhn, leduc, probabilities, Tree};
+use judge::exact::probabilities;
 use judge::floats::{Call, Evaluation, EVALUATIONS};
-use judge::listing_lists::{KUHN, LEDUC};
 use judge::parts;
 use judge::profiles::{profile, KINDS};
-use judge::random::Random;
 use judge::units::words;
+use random::Random;
 
 /// The numbers that the calls give.
 const NUMBERS: [u64; 6] = [1, 2, 3, 4, 5, 7];
 
 /// A game, and how much of it is compared.
 struct Plan {
-    name: &'static str,
-    game: u64,
-    tree: &'static Tree,
+    game: Game,
     profiles: usize,
     /// The calls on each profile: all five, or one of them in turn where the Rust is slow.
     calls: usize,
@@ -31,22 +29,22 @@ struct Plan {
 }
 
 pub fn compare(random: &mut Random) {
-    let plan = |name, game, tree, profiles, calls, refused| Plan { name, game, tree, profiles, calls, refused };
+    let plan = |game, profiles, calls, refused| Plan { game, profiles, calls, refused };
     let plans = [
-        plan("Kuhn 2", KUHN, kuhn(2), 6_000, 5, 100),
-        plan("Kuhn 3", KUHN, kuhn(3), 3_000, 5, 100),
-        plan("Kuhn 4", KUHN, kuhn(4), 600, 5, 20),
-        plan("Kuhn 5", KUHN, kuhn(5), 1_020, 1, 2),
-        plan("Kuhn 6", KUHN, kuhn(6), 20, 1, 1),
-        plan("Leduc", LEDUC, leduc(), 600, 5, 20),
+        plan(Game::kuhn(2), 6_000, 5, 100),
+        plan(Game::kuhn(3), 3_000, 5, 100),
+        plan(Game::kuhn(4), 600, 5, 20),
+        plan(Game::kuhn(5), 1_020, 1, 2),
+        plan(Game::kuhn(6), 20, 1, 1),
+        plan(Game::leduc(), 600, 5, 20),
     ];
     let mut counts = Counts::new();
     for plan in &plans {
         plan.all_profiles(&mut counts, random);
         plan.all_refusals(&mut counts, random);
         plan.uniform();
-        let Plan { name, profiles, calls, .. } = plan;
-        println!("f64, {name}: {profiles} profiles agree, {calls} calls on each");
+        let Plan { game, profiles, calls, .. } = plan;
+        println!("f64, {}: {profiles} profiles agree, {calls} calls on each", game.name);
     }
     println!("f64: at most {} bytes of stack", plans.iter().map(Plan::stack).max().expect("six games"));
     counts.print();
@@ -57,7 +55,7 @@ fn held(call: &Call, asked: Evaluation, counts: &mut Counts, random: &mut Random
     let Call { game, seats, seat, profile, .. } = call;
     let mut memory = Memory::new(call.words, 0);
     memory.fill_at_random(random);
-    let ours = evaluate(asked, *game, *seats, &mut memory.work, *seat, profile).judged();
+    let ours = judged(evaluate(asked, *game, *seats, &mut memory.work, *seat, profile));
     assert_eq!(ours, call.answer(asked), "{asked:?} of {call:?}");
     let from = if ours.refusal == 0 { call.kept() } else { 0 };
     assert!(memory.words_kept(from), "the work memory from word {from} after {asked:?} of {call:?}");
@@ -67,9 +65,10 @@ fn held(call: &Call, asked: Evaluation, counts: &mut Counts, random: &mut Random
 impl Plan {
     /// A profile of each kind in turn, for each seat in turn, with as many words as are needed or a few more.
     fn some_call(&self, number: usize, random: &mut Random) -> Call {
-        let seat = (number / KINDS.len() % self.tree.seats) as u64;
-        let profile = profile(self.tree, KINDS[number % KINDS.len()], random);
-        let mut call = Call::of(self.game, self.tree, seat, profile);
+        let tree = self.game.tree;
+        let seat = (number / KINDS.len() % tree.seats) as u64;
+        let profile = profile(tree, KINDS[number % KINDS.len()], random);
+        let mut call = Call::of(self.game.number, tree, seat, profile);
         call.words += more(random);
         call
     }
@@ -109,39 +108,34 @@ impl Plan {
 
     /// Makes the call one that a check refuses.
     fn damage(&self, call: &mut Call, number: u64, random: &mut Random) {
+        let tree = self.game.tree;
         match number {
-            1 => call.game = number_but(random, |game| game > LEDUC),
-            2 => {
-                call.seats =
-                    number_but(random, |seats| if self.game == KUHN { !(2..=10).contains(&seats) } else { seats != 2 })
-            }
-            3 => (call.game, call.seats) = (KUHN, 7 + random.below(4) as u64),
-            4 => call.words = fewer(words(self.tree), random),
-            5 => call.seat = number_but(random, |seat| seat >= self.tree.seats as u64),
-            _ => call.profile.resize(other_length(self.tree.entries, random), 0.5),
+            1..=4 => self.game.damage(number, &mut call.game, &mut call.seats, &mut call.words, random),
+            5 => call.seat = number_but(random, |seat| seat >= tree.seats as u64),
+            _ => call.profile.resize(other_length(tree.entries, random), 0.5),
         }
     }
 
     /// The values of the uniform profile, and those in whole units of the uniform table with D = 6, / U, are near each other.
     fn uniform(&self) {
-        let Plan { game, tree, .. } = self;
+        let Game { name, number, tree } = &self.game;
         let seats = tree.seats as u64;
         let table = parts::table(tree, 6, parts::Kind::Even, &mut Random::new(1));
         let mut memory = Memory::new(words(tree), tree.entries as u64);
         let Memory { work, out, .. } = &mut memory;
-        let whole = nash_conv_units(*game, seats, work, 6, &table);
+        let whole = nash_conv_units(*number, seats, work, 6, &table);
         let share = |units: i64| units as f64 / whole.units as f64;
         let bests: Vec<f64> =
-            (0..seats).map(|seat| share(best_reply(*game, seats, work, seat, 6, &table, out).value)).collect();
-        let worths = worths(*game, seats, work, 6, &table).worths.map(share);
+            (0..seats).map(|seat| share(best_reply(*number, seats, work, seat, 6, &table, out).value)).collect();
+        let worths = worths(*number, seats, work, 6, &table).worths.map(share);
         let nash_conv = whole.nash_conv as f64 / whole.units as f64;
         let exploitability = nash_conv / seats as f64;
         let expected = [&bests[1..2], &bests, &worths[..tree.seats], &[nash_conv], &[exploitability]];
         for (asked, expected) in EVALUATIONS.into_iter().zip(expected) {
-            let answer = evaluate(asked, *game, seats, work, 1, &probabilities(&table, 6));
-            assert_eq!((answer.refusal, answer.count), (0, expected.len() as u64), "{asked:?} of {}", self.name);
+            let answer = evaluate(asked, *number, seats, work, 1, &probabilities(&table, 6));
+            assert_eq!((answer.refusal, answer.count), (0, expected.len() as u64), "{asked:?} of {name}");
             let near = answer.values.iter().zip(expected).all(|(value, whole)| (value - whole).abs() <= 1e-12);
-            assert!(near, "{asked:?} of {}: {answer:?} and {expected:?}", self.name);
+            assert!(near, "{asked:?} of {name}: {answer:?} and {expected:?}");
         }
     }
 

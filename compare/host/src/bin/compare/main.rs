@@ -1,16 +1,14 @@
 //! `compare [CALLS [SEED]]`: as many hands of each game, and as many listings, with random inputs, held to the unchanged Rust; and tables of
-//! each game, held to the reference in whole units. With the feature `floats`, profiles too, held to the Rust.
-//! It prints its seed, and stops at the first difference.
+//! each game, held to the reference in whole units, and profiles, held to the Rust. It prints its seed, and stops at the first difference.
 
-#[cfg(feature = "floats")]
 mod floats;
+mod game;
 mod listing;
 mod number;
 mod rules;
-#[cfg(feature = "units")]
 mod units;
 
-use judge::random::Random;
+use random::Random;
 use std::env;
 use std::time::{SystemTime, UNIX_EPOCH};
 
@@ -22,9 +20,7 @@ fn main() {
     let mut random = Random::new(seed);
     rules::compare(calls, &mut random);
     listing::compare(calls, &mut random);
-    #[cfg(feature = "units")]
     units::compare(&mut random);
-    #[cfg(feature = "floats")]
     floats::compare(&mut random);
 }
 

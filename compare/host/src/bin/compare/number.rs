@@ -1,6 +1,6 @@
 //! Numbers to try a call with.
 
-use judge::random::Random;
+use random::Random;
 
 /// A number of any size: small ones, and those that a cut to 8, 16 or 32 bits would take for them.
 pub fn some_number(random: &mut Random) -> u64 {

@@ -3,12 +3,14 @@
 
 use crate::number::some_number;
 use crate::Counts;
-use host::rules::{Calls, Kuhn, KuhnPosition, Leduc, LeducPosition};
+use chukkanalli::{KuhnPosition, LeducPosition};
+use host::rules::{Calls, Kuhn, Leduc};
 use judge::answer;
 use judge::calls::{validate, Asked, Judged};
 use judge::leduc::HALF;
 use judge::line::{untouched, ROOM};
-use judge::random::Random;
+use judge::{kuhn, leduc};
+use random::Random;
 use reinfors_games::kuhn::KuhnPoker;
 use reinfors_games::leduc::LeducPoker;
 use std::fmt::Debug;
@@ -17,15 +19,16 @@ pub fn compare(hands: u64, random: &mut Random) {
     let mut counts = Counts::new();
     for _ in 0..hands {
         let seats = 2 + random.below(9);
-        hand(&Kuhn(seats as u64), &KuhnPoker { players: seats }, random, &mut counts);
+        Family { ours: &Kuhn(seats as u64), game: &KuhnPoker { players: seats }, counts: &mut counts }.hand(random);
         let seats = some_number(random);
-        position(&Kuhn(seats), &KuhnPoker { players: seats as usize }, random, &mut counts);
+        let game = &KuhnPoker { players: seats as usize };
+        Family { ours: &Kuhn(seats), game, counts: &mut counts }.position(random);
     }
     println!("Kuhn: {hands} hands and as many seat counts agree");
     counts.print();
     let mut counts = Counts::new();
     for _ in 0..hands {
-        hand(&Leduc, &LeducPoker, random, &mut counts);
+        Family { ours: &Leduc, game: &LeducPoker, counts: &mut counts }.hand(random);
     }
     println!("Leduc: {hands} hands agree");
     counts.print();
@@ -33,6 +36,11 @@ pub fn compare(hands: u64, random: &mut Random) {
 
 /// A position that can be written to at random.
 trait Position: Copy + Debug {
+    type Judged;
+
+    /// The judge's position, in which no byte is lost.
+    fn judged(self) -> Self::Judged;
+
     /// Any byte into every place of the arrays.
     fn litter(&mut self, random: &mut Random);
 
@@ -41,6 +49,12 @@ trait Position: Copy + Debug {
 }
 
 impl Position for KuhnPosition {
+    type Judged = kuhn::Position;
+
+    fn judged(self) -> kuhn::Position {
+        kuhn::Position { cards: self.cards, dealt: self.dealt, history: self.history, acted: self.acted }
+    }
+
     fn litter(&mut self, random: &mut Random) {
         self.cards.iter_mut().chain(&mut self.history).for_each(|byte| *byte = random.draw() as u8);
     }
@@ -57,19 +71,32 @@ impl Position for KuhnPosition {
 }
 
 impl Position for LeducPosition {
+    type Judged = leduc::Position;
+
+    fn judged(self) -> leduc::Position {
+        leduc::Position {
+            cards: self.cards,
+            dealt: self.dealt,
+            public: self.public(),
+            history: self.history,
+            acted: [self.acted1, self.acted2],
+        }
+    }
+
     fn litter(&mut self, random: &mut Random) {
         self.cards.iter_mut().chain(&mut self.history).for_each(|byte| *byte = random.draw() as u8);
     }
 
     fn damage(&mut self, random: &mut Random) {
         let round = random.below(2);
+        let acted = [&mut self.acted1, &mut self.acted2];
         match random.below(6) {
             0 => self.cards[random.below(self.cards.len())] = some_byte(random),
             1 => self.history[random.below(self.history.len())] = some_byte(random),
             2 => self.dealt = some_number(random),
             3 => self.public_card = some_byte(random),
-            4 => self.acted[round] = some_number(random),
-            _ => append(&mut self.history[round * HALF..][..HALF], &mut self.acted[round], random),
+            4 => *acted[round] = some_number(random),
+            _ => append(&mut self.history[round * HALF..][..HALF], acted[round], random),
         }
     }
 }
@@ -88,38 +115,7 @@ fn some_byte(random: &mut Random) -> u8 {
     random.below(below) as u8
 }
 
-/// The answers of both on one hand, from the start to its end.
-fn hand<C, G>(ours: &C, game: &G, random: &mut Random, counts: &mut Counts)
-where
-    C: Calls<Position: Position + Into<G::Position>>,
-    G: Judged<Position: PartialEq + Debug>,
-{
-    let mut at = Family { ours, game, counts }.start();
-    at.litter(random);
-    loop {
-        let next = Family { ours, game, counts }.all(at, random);
-        let mut damaged = at;
-        damaged.damage(random);
-        Family { ours, game, counts }.all(damaged, random);
-        if next.is_empty() {
-            return;
-        }
-        at = random.pick(&next);
-    }
-}
-
-/// The answers of both on one position with litter in it, whatever the game.
-fn position<C, G>(ours: &C, game: &G, random: &mut Random, counts: &mut Counts)
-where
-    C: Calls<Position: Position + Into<G::Position>>,
-    G: Judged<Position: PartialEq + Debug>,
-{
-    let mut at = Family { ours, game, counts }.start();
-    at.damage(random);
-    Family { ours, game, counts }.all(at, random);
-}
-
-/// All calls of a game.
+/// All calls of a game, of the archive and of the judge.
 struct Family<'a, C, G> {
     ours: &'a C,
     game: &'a G,
@@ -128,12 +124,35 @@ struct Family<'a, C, G> {
 
 impl<C, G> Family<'_, C, G>
 where
-    C: Calls<Position: Position + Into<G::Position>>,
-    G: Judged<Position: PartialEq + Debug>,
+    C: Calls<Position: Position<Judged = G::Position>>,
+    G: Judged,
 {
+    /// The answers of both on one hand, from the start to its end.
+    fn hand(&mut self, random: &mut Random) {
+        let mut at = self.start();
+        at.litter(random);
+        loop {
+            let next = self.all(at, random);
+            let mut damaged = at;
+            damaged.damage(random);
+            self.all(damaged, random);
+            if next.is_empty() {
+                return;
+            }
+            at = random.pick(&next);
+        }
+    }
+
+    /// The answers of both on one position with litter in it, whatever the game.
+    fn position(&mut self, random: &mut Random) {
+        let mut at = self.start();
+        at.damage(random);
+        self.all(at, random);
+    }
+
     fn start(&mut self) -> C::Position {
         let (ours, rust) = (self.ours.start(), self.game.start());
-        assert_eq!((ours.refusal, ours.position.into()), (rust.refusal, rust.position), "start");
+        assert_eq!((ours.refusal, ours.position.judged()), (rust.refusal, rust.position), "start");
         assert_eq!(self.ours.validate(), rust.refusal, "validate");
         self.counts.count(rust.refusal);
         ours.position
@@ -141,7 +160,7 @@ where
 
     /// Every call on a position; the positions that its moves lead to.
     fn all(&mut self, at: C::Position, random: &mut Random) -> Vec<C::Position> {
-        let asked = Asked::new(self.game, at.into());
+        let asked = Asked::new(self.game, at.judged());
         let [mut seats, mut outcomes, mut actions] = self.game.tries();
         for tried in [&mut seats, &mut outcomes, &mut actions] {
             tried.push(some_number(random));
@@ -173,7 +192,7 @@ where
         self.payoff(&asked, at);
         for done in [0, 1, 2, some_number(random)] {
             let ours = self.ours.saved(at, done);
-            let rust = answer::Moved { refusal: validate(self.game, &at.into(), done), position: at.into() };
+            let rust = answer::Moved { refusal: validate(self.game, &at.judged(), done), position: at.judged() };
             self.moved((ours.refusal, ours.position), rust, at, &format!("saved with {done}"));
         }
         next
@@ -186,7 +205,7 @@ where
         at: C::Position,
         call: &str,
     ) -> Option<C::Position> {
-        assert_eq!((ours.0, ours.1.into()), (rust.refusal, rust.position), "{call} at {at:?}");
+        assert_eq!((ours.0, ours.1.judged()), (rust.refusal, rust.position), "{call} at {at:?}");
         self.counts.count(rust.refusal);
         (rust.refusal == 0).then_some(ours.1)
     }
@@ -199,7 +218,7 @@ where
         call: &str,
     ) {
         assert_eq!((refusal, count, out), (rust.refusal, rust.count, rust.out), "{call} at {at:?}");
-        assert_eq!(position.into(), at.into(), "the position after {call} at {at:?}");
+        assert_eq!(position.judged(), at.judged(), "the position after {call} at {at:?}");
         self.counts.count(rust.refusal);
     }
 
@@ -207,7 +226,7 @@ where
         let (ours, rust) = (self.ours.payoff(at), asked.payoff());
         let answers = ((ours.refusal, ours.count, ours.payoffs), (rust.refusal, rust.count, rust.payoffs));
         assert_eq!(answers.0, answers.1, "payoff at {at:?}");
-        assert_eq!(ours.position.into(), at.into(), "the position after the payoff at {at:?}");
+        assert_eq!(ours.position.judged(), at.judged(), "the position after the payoff at {at:?}");
         self.counts.count(rust.refusal);
     }
 }

@@ -1,24 +1,22 @@
 //! The calls in whole units: random tables of each game, rivals of their seats, and calls that are refused, held to the reference.
 
+use crate::game::Game;
 use crate::number::{fewer, more, number_but, other_length};
 use crate::Counts;
+use chukkanalli::archive::{self, best_reply, nash_conv_units, worths};
 use host::memory::Memory;
 use host::stack::stack_of;
-use host::units::{best_reply, nash_conv_units, worths, NashConvAnswer, ReplyAnswer, WorthsAnswer};
-use judge::exact::{kuhn, leduc, Played, Sequences, Tree};
-use judge::listing_lists::{KUHN, LEDUC};
+use judge::exact::{Played, Sequences};
 use judge::parts::{mixed_rival, near, pure_rival, rival, table, Kind, KINDS};
-use judge::random::Random;
-use judge::units::{words, Call};
+use judge::units::Call;
+use random::Random;
 
 /// The mixed rivals of each game and seat, at least.
 const LEAST_MIXED: usize = 10_000;
 
 /// A game, and how much of it is compared.
 struct Plan {
-    name: &'static str,
-    game: u64,
-    tree: &'static Tree,
+    game: Game,
     tables: usize,
     /// The rivals of each kind for each table and seat.
     rivals: usize,
@@ -27,22 +25,22 @@ struct Plan {
 }
 
 pub fn compare(random: &mut Random) {
-    let plan = |name, game, tree, tables, rivals, refused| Plan { name, game, tree, tables, rivals, refused };
+    let plan = |game, tables, rivals, refused| Plan { game, tables, rivals, refused };
     let plans = [
-        plan("Kuhn 2", KUHN, kuhn(2), 2_400, 6, 100),
-        plan("Kuhn 3", KUHN, kuhn(3), 480, 30, 100),
-        plan("Kuhn 4", KUHN, kuhn(4), 48, 300, 20),
-        plan("Kuhn 5", KUHN, kuhn(5), 24, 600, 2),
-        plan("Kuhn 6", KUHN, kuhn(6), 6, 2_400, 1),
-        plan("Leduc", LEDUC, leduc(), 48, 300, 20),
+        plan(Game::kuhn(2), 2_400, 6, 100),
+        plan(Game::kuhn(3), 480, 30, 100),
+        plan(Game::kuhn(4), 48, 300, 20),
+        plan(Game::kuhn(5), 24, 600, 2),
+        plan(Game::kuhn(6), 6, 2_400, 1),
+        plan(Game::leduc(), 48, 300, 20),
     ];
     let mut counts = Counts::new();
     for plan in &plans {
         let rivals = plan.all_tables(&mut counts, random);
         let refused = plan.all_refusals(&mut counts, random);
-        println!("units, {}: {} tables agree, {refused} calls are refused", plan.name, plan.tables);
+        println!("units, {}: {} tables agree, {refused} calls are refused", plan.game.name, plan.tables);
         rivals.iter().enumerate().for_each(|(seat, rivals)| rivals.print(seat));
-        assert!(rivals.iter().all(|rivals| rivals.mixed >= LEAST_MIXED), "{}: too few mixed rivals", plan.name);
+        assert!(rivals.iter().all(|rivals| rivals.mixed >= LEAST_MIXED), "{}: too few mixed rivals", plan.game.name);
     }
     pure_rivals(random);
     println!("units: at most {} bytes of stack", plans.iter().map(Plan::stack).max().expect("six games"));
@@ -91,7 +89,7 @@ impl Asked {
         let mut memory = self.memory(random);
         let ours = worths(*game, *seats, &mut memory.work, *d, table);
         let judged = self.call.worths();
-        let expected = WorthsAnswer { refusal: judged.refusal, count: judged.count, worths: judged.worths };
+        let expected = archive::Weighed { refusal: judged.refusal, count: judged.count, worths: judged.worths };
         assert_eq!(ours, expected, "the worths of {:?}", self.call);
         self.left(ours.refusal, 0, &memory);
         counts.count(ours.refusal);
@@ -102,7 +100,7 @@ impl Asked {
         let mut memory = self.memory(random);
         let ours = best_reply(*game, *seats, &mut memory.work, self.seat, *d, table, &mut memory.out);
         let judged = self.call.best_reply(self.seat, self.room);
-        let expected = ReplyAnswer { refusal: judged.refusal, value: judged.value };
+        let expected = archive::Replied { refusal: judged.refusal, value: judged.value };
         assert_eq!(ours, expected, "the best value of seat {} in {:?}", self.seat, self.call);
         let reply = &memory.out[..judged.reply.len()];
         assert_eq!(reply, judged.reply, "the reply of seat {} in {:?}", self.seat, self.call);
@@ -115,7 +113,7 @@ impl Asked {
         let mut memory = self.memory(random);
         let ours = nash_conv_units(*game, *seats, &mut memory.work, *d, table);
         let judged = self.call.nash_conv();
-        let expected = NashConvAnswer { refusal: judged.refusal, nash_conv: judged.nash_conv, units: judged.units };
+        let expected = archive::Summed { refusal: judged.refusal, nash_conv: judged.nash_conv, units: judged.units };
         assert_eq!(ours, expected, "NashConv of {:?}", self.call);
         self.left(ours.refusal, 0, &memory);
         counts.count(ours.refusal);
@@ -132,20 +130,20 @@ impl Asked {
 impl Plan {
     /// The limits of D, and two numbers near the lower one.
     fn d(&self, number: usize) -> u64 {
-        [1, self.tree.most_parts, 3, 2][number % 4]
+        [1, self.game.tree.most_parts, 3, 2][number % 4]
     }
 
     /// A valid table, with lengths at or a little above those that are needed.
     fn some_call(&self, number: usize, random: &mut Random) -> Call {
-        let d = self.d(number);
-        let mut call = Call::of(self.game, self.tree, d, table(self.tree, d, KINDS[number / 4 % KINDS.len()], random));
+        let (tree, d) = (self.game.tree, self.d(number));
+        let mut call = Call::of(self.game.number, tree, d, table(tree, d, KINDS[number / 4 % KINDS.len()], random));
         call.words += more(random);
         call
     }
 
     /// All calls on each table, with rivals of every seat. Answers how many rivals each seat had.
     fn all_tables(&self, counts: &mut Counts, random: &mut Random) -> Vec<Rivals> {
-        let mut rivals = vec![Rivals::default(); self.tree.seats];
+        let mut rivals = vec![Rivals::default(); self.game.tree.seats];
         for number in 0..self.tables {
             // 24 tables have each kind with each D; fewer have another kind and another D in turn, the first mixed with the largest D.
             let number = if self.tables < 24 { number * 5 + 1 } else { number };
@@ -154,7 +152,7 @@ impl Plan {
             asked.nash_conv(counts, random);
             for (seat, rivals) in rivals.iter_mut().enumerate() {
                 asked.seat = seat as u64;
-                asked.room = self.tree.entries as u64 + more(random);
+                asked.room = self.game.tree.entries as u64 + more(random);
                 asked.best_reply(counts, random);
                 self.replied(&asked.call, seat, random);
                 self.rivals(&asked.call, seat, rivals, random);
@@ -165,7 +163,7 @@ impl Plan {
 
     /// The best value of a table, by the archive, and the reply.
     fn best(&self, call: &Call, seat: usize) -> (i64, Vec<u8>) {
-        let mut memory = Memory::new(call.words, self.tree.entries as u64);
+        let mut memory = Memory::new(call.words, self.game.tree.entries as u64);
         let Memory { work, out, .. } = &mut memory;
         let answer = best_reply(call.game, call.seats, work, seat as u64, call.d, &call.table, out);
         assert_eq!(answer.refusal, 0, "{call:?}");
@@ -185,13 +183,13 @@ impl Plan {
         let (value, reply) = self.best(call, seat);
         assert_eq!(self.worth(call, &reply, seat), value, "the reply's worth in {call:?}");
         let kind = random.pick(&KINDS);
-        let other = rival(self.tree, &call.table, seat, call.d, kind, random);
+        let other = rival(self.game.tree, &call.table, seat, call.d, kind, random);
         assert_eq!(self.best(&Call { table: other, ..call.clone() }, seat), (value, reply), "a rival of {call:?}");
     }
 
     /// No rival is worth more than the best value.
     fn rivals(&self, call: &Call, seat: usize, rivals: &mut Rivals, random: &mut Random) {
-        let Plan { tree, .. } = self;
+        let tree = self.game.tree;
         let Call { d, table, .. } = call;
         let (best, reply) = self.best(call, seat);
         let weighed = Weighed { plan: self, call, seat, best, sequences: Played::new(tree, *d, table).sequences(seat) };
@@ -219,9 +217,9 @@ impl Plan {
 
     /// A call that is refused with a number, and may have reason to be refused with later ones.
     fn refused_with(&self, number: u64, time: usize, random: &mut Random) -> Asked {
-        let room = self.tree.entries as u64 + more(random);
+        let room = self.game.tree.entries as u64 + more(random);
         let call = self.some_call(time, random);
-        let mut asked = Asked { call, seat: random.below(self.tree.seats) as u64, room };
+        let mut asked = Asked { call, seat: random.below(self.game.tree.seats) as u64, room };
         for later in ((number + 1).max(4)..=9).rev() {
             if random.below(4) == 0 {
                 self.damage(&mut asked, later, random);
@@ -235,24 +233,19 @@ impl Plan {
     fn damage(&self, asked: &mut Asked, number: u64, random: &mut Random) {
         let Asked { call, seat, room } = asked;
         match number {
-            1 => call.game = number_but(random, |game| game > LEDUC),
-            2 => {
-                call.seats =
-                    number_but(random, |seats| if self.game == KUHN { !(2..=10).contains(&seats) } else { seats != 2 })
-            }
-            3 => (call.game, call.seats) = (KUHN, 7 + random.below(4) as u64),
-            4 => call.words = fewer(words(self.tree), random),
-            5 => *seat = number_but(random, |seat| seat >= self.tree.seats as u64),
-            6 => call.d = number_but(random, |d| d == 0 || d > self.tree.most_parts),
-            7 => call.table.resize(other_length(self.tree.entries, random), 0),
+            1..=4 => self.game.damage(number, &mut call.game, &mut call.seats, &mut call.words, random),
+            5 => *seat = number_but(random, |seat| seat >= self.game.tree.seats as u64),
+            6 => call.d = number_but(random, |d| d == 0 || d > self.game.tree.most_parts),
+            7 => call.table.resize(other_length(self.game.tree.entries, random), 0),
             8 => self.unbalance(call, random),
-            _ => *room = fewer(self.tree.entries as u64, random),
+            _ => *room = fewer(self.game.tree.entries as u64, random),
         }
     }
 
     /// A part more, a part less, a part moved to another set, or a sum that a byte would take for D.
     fn unbalance(&self, call: &mut Call, random: &mut Random) {
-        let set = &self.tree.sets[random.below(self.tree.sets.len())];
+        let sets = &self.game.tree.sets;
+        let set = &sets[random.below(sets.len())];
         let Some(part) = call.table.get_mut(set.first..set.first + set.actions) else { return };
         let place = random.below(part.len());
         match random.below(3) {
@@ -269,7 +262,7 @@ impl Plan {
     /// The most stack that a call takes.
     fn stack(&self) -> usize {
         let call = self.some_call(1, &mut Random::new(1));
-        let mut memory = Memory::new(call.words, self.tree.entries as u64);
+        let mut memory = Memory::new(call.words, self.game.tree.entries as u64);
         let Memory { work, out, .. } = &mut memory;
         let Call { game, seats, d, table, .. } = &call;
         let of_worths = stack_of(|| _ = worths(*game, *seats, work, *d, table));
@@ -297,7 +290,7 @@ impl Weighed<'_> {
             let worth = sequences.worth(&rival);
             assert!(worth <= i128::from(*best), "{rival:?} is worth {worth} to seat {seat} in {call:?}");
             if number == 0 {
-                assert_eq!(worth, Played::new(plan.tree, call.d, &rival).worths()[*seat], "{rival:?} in {call:?}");
+                assert_eq!(worth, Played::new(plan.game.tree, call.d, &rival).worths()[*seat], "{rival:?} in {call:?}");
                 assert_eq!(worth, i128::from(plan.worth(call, &rival, *seat)), "{rival:?} in {call:?}");
             }
         }
@@ -307,11 +300,11 @@ impl Weighed<'_> {
 
 /// All 64 pure rivals of each seat of some tables of Kuhn 2: the best of them is the best value.
 fn pure_rivals(random: &mut Random) {
-    let plan = Plan { name: "Kuhn 2", game: KUHN, tree: kuhn(2), tables: 240, rivals: 0, refused: 0 };
+    let plan = Plan { game: Game::kuhn(2), tables: 240, rivals: 0, refused: 0 };
     for number in 0..plan.tables {
         let call = plan.some_call(number, random);
         for seat in 0..2 {
-            let worth = |pure| plan.worth(&call, &pure_rival(plan.tree, &call.table, seat, call.d, pure), seat);
+            let worth = |pure| plan.worth(&call, &pure_rival(plan.game.tree, &call.table, seat, call.d, pure), seat);
             let best = (0..64).map(worth).max().expect("64 rivals");
             assert_eq!(plan.best(&call, seat).0, best, "the pure rivals of seat {seat} in {call:?}");
         }

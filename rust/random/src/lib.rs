@@ -1,4 +1,4 @@
-//! Random numbers from a seed.
+//! Random numbers from a seed, which gives the same numbers everywhere.
 
 pub struct Random(u64);
 
@@ -26,7 +26,20 @@ impl Random {
         self.below(cases) == 0
     }
 
-    pub fn pick<'a, T: ?Sized>(&mut self, items: &[&'a T]) -> &'a T {
-        items[self.below(items.len())]
+    pub fn pick<T: Copy>(&mut self, from: &[T]) -> T {
+        from[self.below(from.len())]
+    }
+}
+
+#[cfg(test)]
+mod tests {
+    use super::*;
+
+    /// The numbers that SplitMix64 is published with.
+    #[test]
+    fn a_seed_gives_splitmix64s_numbers() {
+        let mut random = Random::new(1_234_567);
+        let published = [6_457_827_717_110_365_317, 3_203_168_211_198_807_973, 9_817_491_932_198_370_423];
+        assert_eq!(published.map(|_| random.draw()), published);
     }
 }
