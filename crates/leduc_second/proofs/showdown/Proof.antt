@@ -2,9 +2,9 @@
 use mathlib.Core.Path.{refl}
 use native.Mathlib.Omega.{arith}
 use borrow.Author.Tests.{eq-eqb, ne-eqb, lt-ltb, le-ltb}
-use Rattle.leduc_arena.specs.Layout.{showdownFor}
-use Rattle.leduc_arena.proofs.second.showdown.Statement.{statement}
-use Rattle.leduc_arena.proofs.second.showdown.Tie as tie
+use Rattle.leduc_layout.specs.Layout.{showdownFor}
+use Rattle.leduc_second.proofs.showdown.Statement.{statement}
+use Rattle.leduc_second.proofs.showdown.Tie as tie
 
 returns : tie.Need-returns
 unfolding showdownFor

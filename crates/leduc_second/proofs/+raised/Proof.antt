@@ -4,17 +4,17 @@ use native.Mathlib.Nat as NatL
 use native.Mathlib.Omega.{arith}
 use native.Mathlib.Bridge.{le-by-compare, IsLe}
 use borrow.Author.Needs.{needs}
-use Rattle.leduc_arena.proofs.Laying.{place-fits, fold-room, call-room, last-fits, lays-last, again-room, again-fits, lays-again, fold-few, other-seat, second-few, second-again}
+use Rattle.leduc_layout.proofs.Laying.{place-fits, fold-room, call-room, last-fits, lays-last, again-room, again-fits, lays-again, fold-few, other-seat, second-few, second-again}
 use Prim.Native.Nat.{ℕ, _-_, _<_}
 use borrow.Fn.Kinds.{In}
 use borrow.Fn.PlainCycle.{Measures, is, falls, and}
-use Rattle.leduc_arena.proofs.second.raised.Reads as raised
-use Rattle.leduc_arena.proofs.second.raised.Kinds as raised-kinds
-use Rattle.leduc_arena.proofs.second.+raised.Lts-raised as raised-lts
-use Rattle.leduc_arena.proofs.words.choose.Reads as choose-reads
-use Rattle.leduc_arena.proofs.words.end.Reads as end-reads
-use Rattle.leduc_arena.proofs.second.+raised.{statement}
-use Rattle.leduc_arena.proofs.second.+raised.Tie.{close}
+use Rattle.leduc_second.proofs.raised.Reads as raised
+use Rattle.leduc_second.proofs.raised.Kinds as raised-kinds
+use Rattle.leduc_second.proofs.+raised.Lts-raised as raised-lts
+use Rattle.leduc_second.proofs.words.choose.Reads as choose-reads
+use Rattle.leduc_second.proofs.words.end.Reads as end-reads
+use Rattle.leduc_second.proofs.+raised.{statement}
+use Rattle.leduc_second.proofs.+raised.Tie.{close}
 
 abbrev μ-raised : Measures 1 raised-kinds.ps ℕ
 μ-raised κs a = a .1 .1 .1 .1 .1 .1 .1 .1 .0

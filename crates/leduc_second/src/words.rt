@@ -7,7 +7,7 @@ ghost use lib.Dec.{eqb};
 ghost use lib.ListN.{length, set};
 ghost use Rattle.game.specs.Sets.{size};
 ghost use Rattle.arena.specs.Built.{Built, Room};
-ghost use Rattle.leduc_arena.specs.Layout.{plain, byteFor, endTree, Chosen};
+ghost use Rattle.leduc_layout.specs.Layout.{plain, byteFor, endTree, Chosen};
 
 // How an end goes for a seat.
 pub const LOSS: usize = 0;

@@ -2,8 +2,8 @@
 use Prim.Native.Nat.{_+_, _-_, _<_}
 use native.Mathlib.Omega.{arith}
 use borrow.Author.Needs.{needs}
-use Rattle.leduc_arena.proofs.words.choose.Statement.{statement}
-use Rattle.leduc_arena.proofs.words.choose.Tie as tie
+use Rattle.leduc_second.proofs.words.choose.Statement.{statement}
+use Rattle.leduc_second.proofs.words.choose.Tie as tie
 
 own-requires : tie.Need-own-requires
 own-requires c κs = search needs

@@ -1,15 +1,17 @@
-// The second round, and the showdown behind each history that closes it.
-use crate::words::LOSS;
-use crate::words::RERAISES;
-use crate::words::TIE;
-use crate::words::WIN;
-use crate::words::choose;
-use crate::words::end;
+// The second round of Leduc's tree, laid out in work memory, and the showdown behind each history that closes it.
+pub mod words;
+
+use words::LOSS;
+use words::RERAISES;
+use words::TIE;
+use words::WIN;
+use words::choose;
+use words::end;
 ghost use mathlib.Core.Path.{_≡_};
 ghost use Prim.Native.Nat.{_+_, _*_, _<_, _≤_};
 ghost use Rattle.game.specs.Sets.{size};
 ghost use Rattle.arena.specs.Built.{Built, Room};
-ghost use Rattle.leduc_arena.specs.Layout.{plain, endTree, raisedTree, calledTree, roundTree, showdownFor};
+ghost use Rattle.leduc_layout.specs.Layout.{plain, endTree, raisedTree, calledTree, roundTree, showdownFor};
 
 // What a raise adds.
 const BET: usize = 4;

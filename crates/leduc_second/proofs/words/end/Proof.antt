@@ -2,10 +2,10 @@
 use Prim.Native.Nat.{_-_}
 use borrow.Author.Needs.{needs}
 use Rattle.game.specs.Sets.{size}
-use Rattle.leduc_arena.specs.Layout.{endTree}
-use Rattle.leduc_arena.proofs.Laying.{place-fits, lays-end}
-use Rattle.leduc_arena.proofs.words.end.Statement.{statement}
-use Rattle.leduc_arena.proofs.words.end.Tie as tie
+use Rattle.leduc_layout.specs.Layout.{endTree}
+use Rattle.leduc_layout.proofs.Laying.{place-fits, lays-end}
+use Rattle.leduc_second.proofs.words.end.Statement.{statement}
+use Rattle.leduc_second.proofs.words.end.Tie as tie
 
 byte-requires : tie.Need-byte-requires
 byte-requires c κs = search needs

@@ -2,8 +2,8 @@
 use mathlib.Core.Path.{refl}
 use native.Mathlib.Omega.{arith}
 use borrow.Author.Tests.{eq-eqb, ne-eqb}
-use Rattle.leduc_arena.proofs.words.own.Statement.{statement}
-use Rattle.leduc_arena.proofs.words.own.Tie as tie
+use Rattle.leduc_second.proofs.words.own.Statement.{statement}
+use Rattle.leduc_second.proofs.words.own.Tie as tie
 
 returns : tie.Need-returns
 returns c = rw (eq-eqb _ 0 (c .if1 .taken)) (refl, omega arith)

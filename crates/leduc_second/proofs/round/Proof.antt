@@ -2,10 +2,10 @@
 use Prim.Native.Nat.{_-_}
 use native.Mathlib.Bridge.{le-by-compare, IsLe}
 use borrow.Author.Needs.{needs}
-use Rattle.leduc_arena.specs.Layout.{roundTree}
-use Rattle.leduc_arena.proofs.Laying.{place-fits, room-one, room-two, two-fit, lays-two, start-few}
-use Rattle.leduc_arena.proofs.second.round.Statement.{statement}
-use Rattle.leduc_arena.proofs.second.round.Tie as tie
+use Rattle.leduc_layout.specs.Layout.{roundTree}
+use Rattle.leduc_layout.proofs.Laying.{place-fits, room-one, room-two, two-fit, lays-two, start-few}
+use Rattle.leduc_second.proofs.round.Statement.{statement}
+use Rattle.leduc_second.proofs.round.Tie as tie
 
 add-called : tie.Need-add-called
 add-called c = place-fits (c .before .before .pre .1)

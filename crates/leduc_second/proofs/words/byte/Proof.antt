@@ -3,9 +3,9 @@ use mathlib.Core.Path.{refl}
 use native.Mathlib.Omega.{arith}
 use borrow.Author.Needs.{needs}
 use borrow.Author.Tests.{eq-eqb, ne-eqb}
-use Rattle.leduc_arena.specs.Layout.{byteFor}
-use Rattle.leduc_arena.proofs.words.byte.Statement.{statement}
-use Rattle.leduc_arena.proofs.words.byte.Tie as tie
+use Rattle.leduc_layout.specs.Layout.{byteFor}
+use Rattle.leduc_second.proofs.words.byte.Statement.{statement}
+use Rattle.leduc_second.proofs.words.byte.Tie as tie
 
 sub-result : tie.Need-sub-result
 sub-result c = search needs

@@ -14,8 +14,8 @@ use Rattle.arena.specs.Index.{unlinked, Codes, Coded}
 use Rattle.leduc_rules.specs.Stakes.{ante, raise₁, raise₂}
 use Rattle.leduc_tree.specs.Tree.{leducTree}
 use Rattle.leduc_tree.proofs.Facts.{counts}
-use Rattle.leduc_arena.specs.Codes.{codeOf, codes}
-use Rattle.leduc_arena.proofs.Agreeing.{keyOf, told, Told, leduc-told}
+use Rattle.leduc_layout.specs.Codes.{codeOf, codes}
+use Rattle.leduc_layout.proofs.Agreeing.{keyOf, told, Told, leduc-told}
 
 -- two decisions with one code are of one set
 one-set : (j : ℕ) (k : Key) (n i : ℕ) (l : Key) (m : ℕ) → Told j k n → Told i l m → codeOf j k ≡ codeOf i l → (j ≡ i) × (k ≡ l)

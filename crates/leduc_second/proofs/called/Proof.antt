@@ -3,10 +3,10 @@ use Prim.Native.Nat.{_-_}
 use native.Mathlib.Nat as NatL
 use native.Mathlib.Bridge.{le-by-compare, IsLe}
 use borrow.Author.Needs.{needs}
-use Rattle.leduc_arena.specs.Layout.{calledTree}
-use Rattle.leduc_arena.proofs.Laying.{place-fits, room-one, room-two, two-fit, lays-two, start-few}
-use Rattle.leduc_arena.proofs.second.called.Statement.{statement}
-use Rattle.leduc_arena.proofs.second.called.Tie as tie
+use Rattle.leduc_layout.specs.Layout.{calledTree}
+use Rattle.leduc_layout.proofs.Laying.{place-fits, room-one, room-two, two-fit, lays-two, start-few}
+use Rattle.leduc_second.proofs.called.Statement.{statement}
+use Rattle.leduc_second.proofs.called.Tie as tie
 
 add-end : tie.Need-add-end
 add-end c = place-fits (c .before .before .pre .1)

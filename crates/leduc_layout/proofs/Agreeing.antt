@@ -23,8 +23,8 @@ use Rattle.leduc_rules.specs.Rules.{public-due, due, key, matched, bet, seated,
 use Rattle.leduc_rules.specs.Stakes.{ante, raise₁, raise₂}
 use Rattle.leduc_tree.specs.Tree.{next, each, below, leducTree}
 use Rattle.leduc_tree.proofs.Facts.{counts}
-use Rattle.leduc_arena.specs.Codes.{numberFrom, codeFrom, codeOf, codes}
-use Rattle.leduc_arena.specs.Layout.{plain, byteFor, endTree, raisedTree, calledTree, roundTree, only, rowTo, showdownFor, secondTree, publicTree, firstTree, dealTree, dealsTree}
+use Rattle.leduc_layout.specs.Codes.{numberFrom, codeFrom, codeOf, codes}
+use Rattle.leduc_layout.specs.Layout.{plain, byteFor, endTree, raisedTree, calledTree, roundTree, only, rowTo, showdownFor, secondTree, publicTree, firstTree, dealTree, dealsTree}
 
 -- ---- two payoffs are the same
 unfoldable equal : ℤ → ℤ → Bool
