@@ -10,13 +10,13 @@ use lib.IntN.{pos, _-ℤ_}
 use lib.ListN.{length, set}
 use mir.Syntax.{w64}
 use mir.Val.{Fits}
-use Rattle.game.specs.Tree.{Key, Tree, end, chance, decide, Trees, nil, cons, fan}
+use Rattle.game.specs.Tree.{Key, Tree, chance, decide, Trees, nil, cons, fan}
 use Rattle.game.specs.Sets.{size, sizes}
 use Rattle.arena.specs.Words.{byteOf, chanceWord, decisionWord}
 use Rattle.arena.specs.Held.{Says}
 use Rattle.arena.specs.Built.{Built, Row, Room}
 use Rattle.arena.proofs.Packing.{kind-of, actor-of, actions-of, set-of, next-of, later-of, chance-kind, chance-next}
-use Rattle.arena.proofs.Building.{join, sizes-join, snoc, row-none, row-one, row-more, row-join, built-chance, built-decide, built-end}
+use Rattle.arena.proofs.Building.{sizes-join, snoc, row-none, row-one, row-more, row-join, built-chance, built-decide, built-end}
 use Rattle.leduc_layout.specs.Layout.{plain, byteFor, endTree, raisedTree, only, rowTo, firstTree, dealTree, Chosen}
 
 -- ---- an end

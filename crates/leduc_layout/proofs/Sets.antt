@@ -6,7 +6,7 @@ use native.Mathlib.Omega.{arith}
 use lib.ListN.{length, getD}
 use borrow.Author.Tests.{eqb-true, ltb-true, leb-true}
 use Rattle.finite.proofs.Tests.{and-left, and-right}
-use Rattle.game.specs.Tree.{Key, Tree, Every}
+use Rattle.game.specs.Tree.{Key, Every}
 use Rattle.game.proofs.Tests.{T-of, same→eq}
 use Rattle.game.proofs.Against.{every-both}
 use Rattle.arena.specs.Held.{Held}

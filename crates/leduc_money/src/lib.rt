@@ -1,15 +1,18 @@
-// The money: contributions and payoffs.
-use crate::Pot;
+// The money of Leduc hold'em: contributions and payoffs.
 use leduc_betting::Public;
 use leduc_betting::betting::has_fold;
+use leduc_rules::ANTE;
+use leduc_rules::Pot;
+use leduc_rules::RAISE_ONE;
+use leduc_rules::RAISE_TWO;
 ghost use mathlib.Core.Path.{_≡_};
 ghost use mathlib.Core.Bool.{cond};
 ghost use lib.IntN.{pos, negℤ};
 ghost use Rattle.finite.specs.Finite.{or};
 ghost use Prim.Native.Nat.{_+_, _-_, _≤_};
 ghost use lib.ListN.{length};
 ghost use Rattle.leduc_rules.specs.Stakes.{ante, raise₁, raise₂};
 ghost use Rattle.leduc_rules.specs.Rules.{matched, seated, after-round, folds, pairs, beats, wins, payoff};
 
 // What the seat to act has paid after an action.
 fn paid_after(acting: usize, other: usize, size: usize, action: u8) -> usize
@@ -61,11 +64,11 @@ pub fn contributions(round1: &[u8], round2: &[u8]) -> Pot
     ensures { λ r. ⌜ r ≡ after-round raise₂ (after-round raise₁ (record { acting = ante; other = ante }) (now (round1 .entry))) (now (round2 .entry)) ⌝ }
 {
     let start = Pot {
-        acting: crate::ANTE,
-        other: crate::ANTE,
+        acting: ANTE,
+        other: ANTE,
     };
-    let middle = round_pot(start, crate::RAISE_ONE, round1);
-    round_pot(middle, crate::RAISE_TWO, round2)
+    let middle = round_pot(start, RAISE_ONE, round1);
+    round_pot(middle, RAISE_TWO, round2)
 }
 
 // Whether a seat has folded in a round.

@@ -11,9 +11,9 @@ use lib.Dec.{eqb}
 use lib.ListN.{length, getD}
 use Rattle.finite.specs.Finite.{some, and}
 use Rattle.finite.proofs.Tests.{some-none, none-more, none-passed, some-here}
 use Rattle.leduc_rules.specs.Rules.{folds}
-use Rattle.leduc_rules.proofs.money.folded_by.Statement.{statement}
-use Rattle.leduc_rules.proofs.money.folded_by.Tie as tie
+use Rattle.leduc_money.proofs.folded_by.Statement.{statement}
+use Rattle.leduc_money.proofs.folded_by.Tie as tie
 
 abbrev Inv-loop : tie.InvT-loop
 Inv-loop h seat i₀ i = (i ≤ length h) × (some i (λ k. and (eqb (k % 2) seat) (eqb (getD h k 0) 0)) ≡ false)

@@ -4,10 +4,10 @@ use mathlib.Core.Path.{_≡_, refl, sym, ap, _∙_}
 use native.Mathlib.Omega.{arith}
 use borrow.Author.Needs.{needs}
 use lib.ListN.{length, getD, drop}
 use Rattle.leduc_rules.specs.Rules.{bet, seated, after-round}
 use Rattle.leduc_rules.proofs.Pots.{pot-of, bet-step, bet-end, matched-bound}
-use Rattle.leduc_rules.proofs.money.round_pot.Statement.{statement}
-use Rattle.leduc_rules.proofs.money.round_pot.Tie as tie
+use Rattle.leduc_money.proofs.round_pot.Statement.{statement}
+use Rattle.leduc_money.proofs.round_pot.Tie as tie
 
 abbrev Inv-loop : tie.InvT-loop
 Inv-loop size h acting₀ other₀ i₀ acting other i = (i ≤ length h) × (acting ≤ 32 + 4 * i) × (other ≤ 32 + 4 * i) × (bet size (pot-of acting other) (drop i h) ≡ bet size (pot-of acting₀ other₀) h)

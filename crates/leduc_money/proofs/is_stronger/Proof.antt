@@ -1,10 +1,10 @@
 -- Whether a seat beats another at the showdown. Assumes nothing.
 use mathlib.Core.Path.{sym, _∙_}
 use Rattle.finite.specs.Finite.{and, or}
 use Rattle.leduc_rules.specs.Rules.{beats}
 use borrow.Author.Needs.{needs}
-use Rattle.leduc_rules.proofs.money.is_stronger.Statement.{statement}
-use Rattle.leduc_rules.proofs.money.is_stronger.Tie as tie
+use Rattle.leduc_money.proofs.is_stronger.Statement.{statement}
+use Rattle.leduc_money.proofs.is_stronger.Tie as tie
 
 is-pair-requires : tie.Need-is-pair-requires
 is-pair-requires c κs = search needs

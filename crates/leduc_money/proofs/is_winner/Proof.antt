@@ -1,10 +1,10 @@
 -- Whether a seat wins against the other. Assumes nothing.
 use mathlib.Core.Path.{sym, _∙_}
 use Rattle.finite.specs.Finite.{or}
 use Rattle.leduc_rules.specs.Rules.{wins}
 use borrow.Author.Needs.{needs}
-use Rattle.leduc_rules.proofs.money.is_winner.Statement.{statement}
-use Rattle.leduc_rules.proofs.money.is_winner.Tie as tie
+use Rattle.leduc_money.proofs.is_winner.Statement.{statement}
+use Rattle.leduc_money.proofs.is_winner.Tie as tie
 
 has-fold-requires : tie.Need-has-fold-requires
 has-fold-requires c κs = search needs

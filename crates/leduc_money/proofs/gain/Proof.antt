@@ -2,8 +2,8 @@
 use native.Mathlib.Omega.{arith}
 use Rattle.finite.proofs.Amounts.{amount, debt-fits, debt}
 use borrow.Author.Needs.{needs}
-use Rattle.leduc_rules.proofs.money.gain.Statement.{statement}
-use Rattle.leduc_rules.proofs.money.gain.Tie as tie
+use Rattle.leduc_money.proofs.gain.Statement.{statement}
+use Rattle.leduc_money.proofs.gain.Tie as tie
 
 cast-result : tie.Need-cast-result
 cast-result c = search needs

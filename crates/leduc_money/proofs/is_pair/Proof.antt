@@ -1,8 +1,8 @@
 -- Whether a seat has a pair with the public card. Assumes nothing.
 use Rattle.leduc_rules.specs.Rules.{pairs}
 use borrow.Author.Needs.{needs}
-use Rattle.leduc_rules.proofs.money.is_pair.Statement.{statement}
-use Rattle.leduc_rules.proofs.money.is_pair.Tie as tie
+use Rattle.leduc_money.proofs.is_pair.Statement.{statement}
+use Rattle.leduc_money.proofs.is_pair.Tie as tie
 
 array-read-mine : tie.Need-array-read-mine
 array-read-mine c = search needs

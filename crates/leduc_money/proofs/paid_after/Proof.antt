@@ -1,9 +1,9 @@
 -- What the seat to act has paid after an action. Assumes nothing.
 use borrow.Author.Tests.{eq-eqb, ne-eqb}
 use Rattle.leduc_rules.specs.Rules.{matched}
 use borrow.Author.Needs.{needs}
-use Rattle.leduc_rules.proofs.money.paid_after.Statement.{statement}
-use Rattle.leduc_rules.proofs.money.paid_after.Tie as tie
+use Rattle.leduc_money.proofs.paid_after.Statement.{statement}
+use Rattle.leduc_money.proofs.paid_after.Tie as tie
 
 returns : tie.Need-returns
 unfolding matched

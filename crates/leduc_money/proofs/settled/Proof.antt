@@ -1,13 +1,13 @@
 -- What each seat gains. Assumes nothing.
 use Prim.Native.Nat.{_≤_}
 use Rattle.leduc_rules.proofs.Gains.{gained-back}
 use Rattle.leduc_rules.proofs.Pots.{payoff-zero, payoff-one}
 use mathlib.Core.Path.{_∙_}
 use native.Mathlib.Omega.{arith}
 use Rattle.leduc_rules.proofs.Pots.{Within, paid-bound}
 use borrow.Author.Needs.{needs}
-use Rattle.leduc_rules.proofs.money.settled.Statement.{statement}
-use Rattle.leduc_rules.proofs.money.settled.Tie as tie
+use Rattle.leduc_money.proofs.settled.Statement.{statement}
+use Rattle.leduc_money.proofs.settled.Tie as tie
 
 contributions-requires : tie.Need-contributions-requires
 contributions-requires c κs = search needs

@@ -2,8 +2,8 @@
 use mathlib.Core.Path.{sym, _∙_}
 use Rattle.finite.specs.Finite.{or}
 use borrow.Author.Needs.{needs}
-use Rattle.leduc_rules.proofs.money.folded_in.Statement.{statement}
-use Rattle.leduc_rules.proofs.money.folded_in.Tie as tie
+use Rattle.leduc_money.proofs.folded_in.Statement.{statement}
+use Rattle.leduc_money.proofs.folded_in.Tie as tie
 
 folded-by-requires : tie.Need-folded-by-requires
 folded-by-requires c κs = search needs
