@@ -15,7 +15,7 @@ use Rattle.game.specs.Sets.{size, entries, firstEntry, SameHeights}
 use Rattle.game.proofs.Entries.{entry-inside}
 use Rattle.game.proofs.Against.{every-both}
 use Rattle.kuhn_tree.proofs.Facts as Kuhn
-use Rattle.leduc_tree.proofs.Facts as Leduc
+use Rattle.leduc_facts.proofs.Facts as Leduc
 use Rattle.tables.specs.declared.Game.{Game}
 use Rattle.tables.specs.Games.{treeOf}
 use Rattle.tables.specs.Facts.{nodesOf, entriesOf}

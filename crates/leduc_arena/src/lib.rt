@@ -1,10 +1,8 @@
 // Leduc's tree, laid out in work memory: the deals, and below each the first round, the public card and the second round.
 mod first;
-mod second;
-mod words;
 
 use arena::words::chance;
-use words::write;
+use leduc_second::words::write;
 ghost use mathlib.Core.Bool.{not};
 ghost use Prim.Native.Nat.{suc, _+_, _<_, _≤_};
 ghost use lib.Dec.{eqb};
@@ -13,8 +11,8 @@ ghost use Rattle.game.specs.Sets.{size, sizes};
 ghost use Rattle.arena.specs.Built.{Built, Row, Room};
 ghost use Rattle.leduc_rules.specs.Stakes.{ante, raise₁, raise₂};
 ghost use Rattle.leduc_tree.specs.Tree.{leducTree};
-ghost use Rattle.leduc_arena.specs.Codes.{codeOf};
-ghost use Rattle.leduc_arena.specs.Layout.{plain, only, dealTree};
+ghost use Rattle.leduc_layout.specs.Codes.{codeOf};
+ghost use Rattle.leduc_layout.specs.Layout.{plain, only, dealTree};
 
 const DECK: usize = 6;
 

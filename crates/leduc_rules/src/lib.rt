@@ -1,5 +1,4 @@
-// Leduc hold'em on cards and histories: what the rules say of them. Positions and the calls on them are in the crate leduc.
-pub mod money;
+// Leduc hold'em on cards and histories: what the rules say of them. The money is computed in the crate leduc_money; positions and the calls on them are in the crate leduc.
 pub mod play;
 pub mod saved;
 

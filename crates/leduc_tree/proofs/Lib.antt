@@ -1,7 +1,7 @@
 -- Proofs of the facts about Leduc's tree.
-pub mod Keys
-pub mod Computed
 pub mod Growth
-pub mod Payoffs
+pub mod Firsts
 pub mod Shape
+pub mod Computed
+pub mod Hands
 pub mod Facts

@@ -1,16 +1,13 @@
--- The facts about Leduc's tree, statement by statement (document 01, "The tree and its sets" and "Whole units"). Each is proved in proofs/Facts.antt, which assumes nothing.
--- Throughout: any ante and raises; table a table with D parts in each set, i a seat, z a rival table.
+-- The facts about Leduc's tree, statement by statement (document 01, "The tree and its sets"). Each is proved in proofs/Facts.antt, which assumes nothing.
+-- Throughout: any ante and raises. What the reply theorem asks of the tree stands in the crate leduc_facts.
 use mathlib.Core.Path.{_≡_}
 use mathlib.Core.Bool.{true}
 use mathlib.Core.List.{[], _∷_, map}
-use Prim.Native.Nat.{ℕ, _+_, _≤_, _<_}
-use lib.Signed.{_≤ℤ_}
-use Rattle.game.specs.Tree.{Key, Tree, U, chance, Splits, Pays, Every}
-use Rattle.game.specs.Recall.{PerfectRecall}
-use Rattle.game.specs.Sets.{size, sets, setCount, setActions, entries, SameActions, SameHeights, Levels}
-use Rattle.game.specs.Table.{Table, ValidTable, RivalTable, tableWorth, tableBest, replyTable}
+use Prim.Native.Nat.{ℕ, _+_}
+use Rattle.game.specs.Tree.{Tree, chance}
+use Rattle.game.specs.Sets.{size, sets, setCount, setActions, entries}
 use Rattle.leduc_betting.specs.Cards.{left}
-use Rattle.leduc_tree.specs.Tree.{start, payoff, afterDeal, next, each, below, fuel, leducTree, C, m, largestPayoff}
+use Rattle.leduc_tree.specs.Tree.{start, payoff, afterDeal, next, each, below, fuel, leducTree}
 use Rattle.leduc_tree.specs.Follows.{Follows}
 use Rattle.leduc_tree.specs.Turns.{firstTurns, decisionAt, actionsInOrder}
 use Rattle.leduc_tree.specs.Shape.{bare, withCards, hand}
@@ -38,50 +35,7 @@ FirstOfSet = (ante raise₁ raise₂ : ℕ) → sets (leducTree ante raise₁ ra
 abbrev pub ActionsInOrder : Type 0
 ActionsInOrder = (ante raise₁ raise₂ : ℕ) → setActions (leducTree ante raise₁ raise₂) ≡ actionsInOrder
 
--- 4. Nodes with equal keys have the same seat, the same number of actions, the same remaining depth.
-abbrev pub SeatByKey : Type 0
-SeatByKey = (ante raise₁ raise₂ : ℕ) → (seat : Key → ℕ) × Every (λ j k n. j ≡ seat k) (leducTree ante raise₁ raise₂)
-
-abbrev pub ActionsByKey : Type 0
-ActionsByKey = (ante raise₁ raise₂ : ℕ) → SameActions (leducTree ante raise₁ raise₂)
-
-abbrev pub DepthByKey : Type 0
-DepthByKey = (ante raise₁ raise₂ : ℕ) → SameHeights (leducTree ante raise₁ raise₂)
-
--- They have the same number of nodes above them: on no path are more than 12 nodes.
-abbrev pub LevelsByKey : Type 0
-LevelsByKey = (ante raise₁ raise₂ : ℕ) → (v : ℕ → Key → ℕ) × Levels v 12 (leducTree ante raise₁ raise₂)
-
--- Every decision has two or three actions.
-abbrev pub TwoOrThreeActions : Type 0
-TwoOrThreeActions = (ante raise₁ raise₂ : ℕ) → Every (λ j k n. (2 ≤ n) × (n ≤ 3)) (leducTree ante raise₁ raise₂)
-
--- 5. Both seats have perfect recall.
-abbrev pub Recalls : Type 0
-Recalls = (ante raise₁ raise₂ i : ℕ) → i < 2 → PerfectRecall i (leducTree ante raise₁ raise₂)
-
--- At most m decisions stand on a path, and the fans along it divide C.
-abbrev pub FansDivide : Type 0
-FansDivide = (ante raise₁ raise₂ : ℕ) → Splits C m (leducTree ante raise₁ raise₂)
-
--- No payoff of a seat is more than the largest in size.
-abbrev pub PayoffsBounded : Type 0
-PayoffsBounded = (ante raise₁ raise₂ i : ℕ) → Pays (largestPayoff ante raise₁ raise₂) i (leducTree ante raise₁ raise₂)
-
--- 6. The reply to a valid table is a rival table, its worth is the best value, and no rival table is worth more.
-abbrev pub units : ℕ → ℕ
-units D = U C D m
-
-abbrev pub BestReply : Tree → ℕ → ℕ → Table → Type 0
-BestReply t D i table = RivalTable t D i table (replyTable t D (units D) table i)
-    × (tableWorth t D (units D) (replyTable t D (units D) table i) i ≡ tableBest t D (units D) table i)
-    × ((z : Table) → RivalTable t D i table z → tableWorth t D (units D) z i ≤ℤ tableBest t D (units D) table i)
-
-abbrev pub ReplyBest : Type 0
-ReplyBest = (ante raise₁ raise₂ D i : ℕ) (table : Table) → i < 2 → 0 < D → ValidTable (leducTree ante raise₁ raise₂) D table
-    → BestReply (leducTree ante raise₁ raise₂) D i table
-
--- 7. The tree is the deal of a card to each seat, and below each deal a hand.
+-- 4. The tree is the deal of a card to each seat, and below each deal a hand.
 abbrev pub DealsFirst : Type 0
 DealsFirst = (ante raise₁ raise₂ : ℕ)
     → leducTree ante raise₁ raise₂ ≡ chance (each (afterDeal start) (λ s. chance (each (afterDeal s) (hand ante raise₁ raise₂))))

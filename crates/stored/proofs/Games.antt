@@ -20,8 +20,8 @@ use Rattle.kuhn_tree.specs.Counts.{dealNodes, kuhnNodes}
 use Rattle.leduc_tree.specs.Tree.{leducTree}
 use Rattle.leduc_tree.proofs.Facts as Leduc-facts
 use Rattle.kuhn_layout.specs.Layout.{codeCount}
-use Rattle.leduc_arena.specs.Codes.{codeOf}
-use Rattle.leduc_arena.proofs.Sets.{leduc-coded}
+use Rattle.leduc_layout.specs.Codes.{codeOf}
+use Rattle.leduc_layout.proofs.Sets.{leduc-coded}
 use Rattle.tables.specs.declared.Game.{Game}
 use Rattle.tables.specs.Games.{treeOf}
 use Rattle.tables.proofs.Facts.{kuhn-out, leduc-out}

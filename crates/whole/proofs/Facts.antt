@@ -16,7 +16,7 @@ use Rattle.kuhn_tree.specs.Counts.{dealNodes, kuhnNodes}
 use Rattle.kuhn_tree.specs.Facts as Kuhn-facts
 use Rattle.kuhn_tree.proofs.Facts as Kuhn-proofs
 use Rattle.leduc_tree.specs.Tree as Leduc
-use Rattle.leduc_tree.proofs.Facts as Leduc-proofs
+use Rattle.leduc_facts.proofs.Facts as Leduc-proofs
 use Rattle.tables.specs.declared.Game.{Game}
 use Rattle.tables.specs.Games.{treeOf, mostParts}
 use Rattle.tables.specs.Facts.{rootUnits}

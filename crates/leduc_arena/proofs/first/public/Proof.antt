@@ -6,8 +6,8 @@ use native.Mathlib.Omega.{arith}
 use borrow.Author.Needs.{needs}
 use Rattle.game.specs.Sets.{size}
 use Rattle.arena.specs.Built.{Row}
-use Rattle.leduc_arena.specs.Layout.{plain, rowTo, other, secondTree, publicTree}
-use Rattle.leduc_arena.proofs.Laying.{place-fits, first-room, row-fits, lays-chance, row-start, row-done, row-on, child-room}
+use Rattle.leduc_layout.specs.Layout.{plain, rowTo, other, secondTree, publicTree}
+use Rattle.leduc_layout.proofs.Laying.{place-fits, first-room, row-fits, lays-chance, row-start, row-done, row-on, child-room}
 use Rattle.leduc_arena.proofs.first.public.Statement.{statement}
 use Rattle.leduc_arena.proofs.first.public.Tie as tie
 

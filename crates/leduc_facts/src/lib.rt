@@ -1,0 +1,1 @@
+// What the reply theorem asks of Leduc's tree, and the best reply: facts, no code.

@@ -1,0 +1,55 @@
+-- What each seat gains. Assumes nothing.
+use Prim.Native.Nat.{_≤_}
+use Rattle.leduc_rules.proofs.Gains.{gained-back}
+use Rattle.leduc_rules.proofs.Pots.{payoff-zero, payoff-one}
+use mathlib.Core.Path.{_∙_}
+use native.Mathlib.Omega.{arith}
+use Rattle.leduc_rules.proofs.Pots.{Within, paid-bound}
+use borrow.Author.Needs.{needs}
+use Rattle.leduc_money.proofs.settled.Statement.{statement}
+use Rattle.leduc_money.proofs.settled.Tie as tie
+
+contributions-requires : tie.Need-contributions-requires
+contributions-requires c κs = search needs
+
+is-winner-requires : tie.Need-is-winner-requires
+is-winner-requires c κs = search needs
+
+is-winner-requires-2 : tie.Need-is-winner-requires-2
+is-winner-requires-2 c κs = search needs
+
+gain-requires : tie.Need-gain-requires
+gain-requires c κs =
+    let w : Within 33 (c .before .before .contributions .result) = rw (c .before .before .contributions .ensures) (paid-bound (c .before .before .before .before .before .args .round1 .now) (c .before .before .before .before .before .args .round2 .now) (search needs) (search needs)) in
+    let x = w .acting-within in
+    let y = w .other-within in
+    (omega arith, omega arith)
+
+gain-requires-2 : tie.Need-gain-requires-2
+gain-requires-2 c κs =
+    let w : Within 33 (c .before .before .before .contributions .result) = rw (c .before .before .before .contributions .ensures) (paid-bound (c .before .before .before .before .before .before .args .round1 .now) (c .before .before .before .before .before .before .args .round2 .now) (search needs) (search needs)) in
+    let x = w .acting-within in
+    let y = w .other-within in
+    (omega arith, omega arith)
+
+returns : tie.Need-returns
+returns c =
+    let w : Within 33 (c .before .before .before .before .contributions .result) = rw (c .before .before .before .before .contributions .ensures) (paid-bound (c .before .before .before .before .before .before .before .args .round1 .now) (c .before .before .before .before .before .before .before .args .round2 .now) (search needs) (search needs)) in
+    let x = w .acting-within in
+    let y = w .other-within in
+    let a : c .before .before .before .before .contributions .result .acting ≤ 64 = omega arith in
+    let o : c .before .before .before .before .contributions .result .other ≤ 64 = omega arith in (
+      gained-back (c .before .before .before .is-winner .result) (c .before .before .is-winner2 .result) (c .before .before .before .before .contributions .result .acting) (c .before .before .before .before .contributions .result .other) a o (c .before .gain .ensures) ∙ payoff-zero _ _ _ _ _ _ _ (c .before .before .before .is-winner .ensures) (c .before .before .is-winner2 .ensures) (c .before .before .before .before .contributions .ensures),
+      gained-back (c .before .before .is-winner2 .result) (c .before .before .before .is-winner .result) (c .before .before .before .before .contributions .result .other) (c .before .before .before .before .contributions .result .acting) o a (c .gain2 .ensures) ∙ payoff-one _ _ _ _ _ _ _ (c .before .before .before .is-winner .ensures) (c .before .before .is-winner2 .ensures) (c .before .before .before .before .contributions .ensures),
+    )
+
+pub settled-spec : {M : Type 1} → statement M
+settled-spec =
+    tie.close
+    (tie.spec
+    contributions-requires
+    is-winner-requires
+    is-winner-requires-2
+    gain-requires
+    gain-requires-2
+    returns)
