@@ -15,12 +15,7 @@ use Rattle.game.proofs.Tests.{Tested, is, isn't, tested, T-of, same→eq, same-
 use Rattle.game.proofs.Counting.{In, in-append, every-in, in-every}
 use Rattle.profiles.specs.Values.{Profile, nought, one, plus, times, weight, edge, value, added, picked, Lead, lead, Member, passed, found, foundAll, summed, actions, setSum, decided, best}
 use Rattle.profiles.specs.Facts.{BestDecides}
-
--- ---- the way of a choice depends on the sums alone
-lead-same : (p q : ℕ → Float) → ((a : ℕ) → p a ≡ q a) → (n : ℕ) → lead p n ≡ lead q n
-unfolding lead
-lead-same p q e zero = refl
-lead-same p q e (suc n) = rw (lead-same p q e n, e n) refl
+use Rattle.profiles.proofs.Leading.{lead-same}
 
 module _ (s : Profile) (i : ℕ) (A d : ℕ → Key → ℕ) where
   abbrev own : ℕ → Bool
@@ -112,7 +107,7 @@ module _ (s : Profile) (i : ℕ) (A d : ℕ → Key → ℕ) where
     -- choices that agree on all deeper sets come to the same action
     led-alike : (c e : Choice) (k : Key) → ((l : Key) → d i l < d i k → c l ≡ e l) → lead (setSum s i T c k) (actions (found s i k one T)) .0 ≡ lead (setSum s i T e k) (actions (found s i k one T)) .0
     unfolding setSum
-    led-alike c e k o = ap (λ x. x .0) (lead-same (setSum s i T c k) (setSum s i T e k) (λ a. summed-agree k c e o a nought (found s i k one T) (alike k)) (actions (found s i k one T)))
+    led-alike c e k o = ap (λ x. x .0) (lead-same (setSum s i T c k) (setSum s i T e k) (actions (found s i k one T)) (λ a l. summed-agree k c e o a nought (found s i k one T) (alike k)))
 
     more-fuel : (n m : ℕ) (k : Key) → d i k ≤ n → d i k ≤ m → decided s i T n k ≡ decided s i T m k
     unfolding decided

@@ -18,13 +18,7 @@ use Rattle.units.specs.Gain.{Member, given, gainPick, found, setGain, topmost}
 use Rattle.units.proofs.Six.{sum-wraps}
 use Rattle.reply.specs.Valued.{Scene, Here, gained, behindAction, Valued, Chosen, Totalled}
 use Rattle.reply.proofs.Scenes.{given-whole, descent, root-here, pick-gain}
-use Rattle.reply.proofs.Valuing.{topmost-few}
-
--- ---- the lowest of the greatest
-topmost-same : (p q : ℕ → ℕ) (n : ℕ) → ((a : ℕ) → a ≤ n → p a ≡ q a) → topmost p n ≡ topmost q n
-unfolding topmost
-topmost-same p q zero h = refl
-topmost-same p q (suc n) h = rw (topmost-same p q n (λ a l. h a (omega arith)), h (topmost q n) (omega (arith, topmost-few q n)), h (suc n) (NatL.le-refl (suc n))) refl
+use Rattle.pick.proofs.Tops.{topmost-same}
 
 module _ (i d h b k e n : ℕ) (old : List ℕ) where
   -- a choice that was found before

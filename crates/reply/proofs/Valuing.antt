@@ -23,6 +23,7 @@ use Rattle.units.specs.Lifted.{lift}
 use Rattle.units.specs.Gain.{given, gain, gainPick, Stocked, topmost}
 use Rattle.units.proofs.Lifting.{lift-back}
 use Rattle.units.proofs.Six.{product, sum-wraps}
+use Rattle.pick.proofs.Tops.{topmost-few}
 use Rattle.reply.specs.Valued.{Walkable, Scene, Here, HereAll, gained, gainedAll, behindAction, Valued, ValuedAll, ValuedOwn, Chosen}
 use Rattle.reply.proofs.Scenes.{kids-chance, kids-decide, first, descent, pick-gain}
 
@@ -139,16 +140,6 @@ module _ (i d h b k a z : ℕ) (old : List ℕ) where
           let G = o S A t (g x) lev le (first S lev c g x t u B) in
           absurd (omega (arith, row-rest (descent S) new (G .0) lev c g x t u B p q .0, y, size-some t))
 
--- ---- the lowest of the greatest
-pub topmost-few : (q : ℕ → ℕ) (n : ℕ) → topmost q n ≤ n
-unfolding topmost
-topmost-few q zero = NatL.le-refl 0
-topmost-few q (suc n) = at (ltb (q (topmost q n)) (q (suc n))) (topmost-few q n)
-  where
-    at : (t : Bool) → topmost q n ≤ n → cond t (suc n) (topmost q n) ≤ suc n
-    at true l = NatL.le-refl (suc n)
-    at false l = omega arith
-
 -- ---- an own node
 -- the choice of a known set is one of its actions
 pub choice-few : {i h b k : ℕ} (S : Scene i h b k) (y : Key) (n : ℕ) → Known (S .stage) i y n → S .stage .choice y < n
@@ -187,9 +178,3 @@ own-is i d h b k a x old mid new c at r p q v S m y u z f le e n g =
 -- ---- numbers in range
 pub walk-at : (a i d h b k : ℕ) → Walkable a i d h b k → (c e : ℕ) → e ≤ d → c + e < 8388608 → Walkable c i e h b k
 walk-at a i d h b k w c e l m = record { place = m; seat = w .seat; shallow = omega (arith, w .shallow); heads = w .heads; units = w .units; kept = w .kept }
-
-pub two-few : (x y : ℕ) → topmost (λ a. getD (x ∷ y ∷ []) a 0) 1 ≤ 1
-two-few x y = topmost-few (λ a. getD (x ∷ y ∷ []) a 0) 1
-
-pub three-few : (x y z : ℕ) → topmost (λ a. getD (x ∷ y ∷ z ∷ []) a 0) 2 ≤ 2
-three-few x y z = topmost-few (λ a. getD (x ∷ y ∷ z ∷ []) a 0) 2

@@ -1,8 +1,6 @@
 // Value and choice call each other: the value of an own node asks its set's choice, and a choice asks the values below all members of its set, which lie deeper.
 // A choice is kept in work memory once it is found. From place heads on stands the first member of each set, from place units on the units of each node, and
 // from place kept on, by a set's first entry, its choice + 1, or 0.
-use crate::pick::of_three;
-use crate::pick::of_two;
 use arena::payoffs::lifted;
 use arena::walk::behind;
 use arena::words::DECISION;
@@ -15,6 +13,8 @@ use arena::words::next;
 use arena::words::put;
 use arena::words::set;
 use arena::words::word;
+use pick::topmost::of_three;
+use pick::topmost::of_two;
 use std::num::wrapping_add_u64;
 use units::UNITS;
 use walks::child;

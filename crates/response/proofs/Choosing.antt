@@ -25,7 +25,7 @@ use Rattle.walks.proofs.Remaining.{Remaining, remaining-start, remaining-more, 
 use Rattle.reach.specs.Reached.{Marked, MarkedAll}
 use Rattle.reach.proofs.Members.{dealt, reached, reached-found}
 use Rattle.response.specs.Valued.{Scene, entries, own, gained, behindAction, Gained, Chosen, Totalled}
-use Rattle.response.proofs.Picking.{lead-same}
+use Rattle.profiles.proofs.Leading.{lead-same}
 use Rattle.response.proofs.Valuing.{picked-nth}
 
 module _ (P : List Float) (i d h b k e n : ℕ) (old : List ℕ) where

@@ -22,7 +22,7 @@ use Rattle.walks.specs.Stage.{Stage, Known, Noted, Stands, StandsAll}
 use Rattle.walks.proofs.Standing.{levels-some, kids-chance, kids-decide, first, rest, known-of, seen, held-in, held-in-all}
 use Rattle.walks.proofs.Descending.{Descent, child-at}
 use Rattle.response.specs.Valued.{Walkable, Scene, entries, own, valued, gained, addedUp, behindAction, Valued, Gained, Dealt, Split, ValuedOwn, Chosen}
-use Rattle.response.proofs.Picking.{lead-few}
+use Rattle.profiles.proofs.Leading.{lead-few}
 
 -- ---- a node by its word
 module _ (P : List Float) (i d h b k a : ℕ) (old : List ℕ) where

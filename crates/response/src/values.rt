@@ -1,8 +1,6 @@
 // Value and choice call each other: the value of an own node asks its set's choice, and a choice asks the values below all members of its set, which lie deeper.
 // A choice is kept in work memory once it is found. From place heads on stands the first member of each set, from place reach on the reach of the seat's own
 // nodes, and from place kept on, by a set's first entry, its choice + 1, or 0.
-use crate::pick::of_three;
-use crate::pick::of_two;
 use arena::walk::behind;
 use arena::walk::fan;
 use arena::words::CHANCE;
@@ -15,10 +13,12 @@ use arena::words::next;
 use arena::words::put;
 use arena::words::set;
 use arena::words::word;
-use floats::float_at;
 use floats::payoff_of;
+use floats::reached;
 use floats::weighed;
 use floats::weight;
+use pick::leading::of_three;
+use pick::leading::of_two;
 use walks::child;
 ghost use Prim.Native.Nat.{_+_};
 ghost use Rattle.response.specs.Valued.{Walkable, Valued, Gained, Dealt, Split, ValuedOwn, Totalled, Chosen};
@@ -234,7 +234,7 @@ fn total(
     while 0 < at {
         let place = child(w, at, action);
         let g = gain(w, profile, place, seat, depth, heads, reach, kept);
-        sum = sum + float_at(w, reach + at) * g;
+        sum = reached(w, reach + at, sum, g);
         let next = later(word(w, at));
         if next <= at {
             return sum;

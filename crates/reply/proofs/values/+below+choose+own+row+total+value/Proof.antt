@@ -11,6 +11,7 @@ use borrow.Fn.Kinds.{In}
 use borrow.Fn.PlainCycle.{Measures, is, falls, and}
 use Rattle.reply.proofs.values.+below+choose+own+row+total+value.{statement}
 use Rattle.reply.proofs.values.+below+choose+own+row+total+value.Tie.{close}
+use Rattle.pick.proofs.Tops.{two-few, three-few}
 use Rattle.reply.proofs.Valuing as valuing
 use Rattle.reply.proofs.Choosing as choosing
 use Rattle.reply.proofs.values.below.Reads as below
@@ -40,8 +41,8 @@ use Rattle.arena.proofs.words.next.Reads as next-reads
 use Rattle.arena.proofs.words.put.Reads as put-reads
 use Rattle.arena.proofs.words.set.Reads as set-reads
 use Rattle.arena.proofs.words.word.Reads as word-reads
-use Rattle.reply.proofs.pick.of_three.Reads as of-three-reads
-use Rattle.reply.proofs.pick.of_two.Reads as of-two-reads
+use Rattle.pick.proofs.topmost.of_three.Reads as of-three-reads
+use Rattle.pick.proofs.topmost.of_two.Reads as of-two-reads
 use Rattle.reply.proofs.values.ended.Reads as ended-reads
 use Rattle.std.proofs.num.wrapping_add_u64.Reads as wrapping-add-u64-reads
 use Rattle.walks.proofs.child.Reads as child-reads
@@ -334,7 +335,7 @@ choose-add-put-2 : (t : ℕ) → choose-lts.Need-add-put-2 (
   of-three-reads.Asked,
   of-three-reads.Learnt,
 ) (choose-at t) choose.Post
-choose-add-put-2 t c = record { fits = omega (arith, valuing.two-few (c .before .before .before .before .before .before .before .before .before .total .result) (c .before .before .before .before .before .total2 .result), c .before .of-two .ensures) }
+choose-add-put-2 t c = record { fits = omega (arith, two-few (c .before .before .before .before .before .before .before .before .before .total .result) (c .before .before .before .before .before .total2 .result), c .before .of-two .ensures) }
 
 choose-put-requires : (t : ℕ) → choose-lts.Need-put-requires (
   word-reads.Asked,
@@ -432,7 +433,7 @@ choose-add-put-4 : (t : ℕ) → choose-lts.Need-add-put-4 (
   of-three-reads.Asked,
   of-three-reads.Learnt,
 ) (choose-at t) choose.Post
-choose-add-put-4 t c = record { fits = omega (arith, valuing.three-few (c .before .before .before .before .before .before .before .before .before .before .before .before .before .total .result) (c .before .before .before .before .before .before .before .before .before .total2 .result) (c .before .before .before .before .total3 .result), c .before .of-three .ensures) }
+choose-add-put-4 t c = record { fits = omega (arith, three-few (c .before .before .before .before .before .before .before .before .before .before .before .before .before .total .result) (c .before .before .before .before .before .before .before .before .before .total2 .result) (c .before .before .before .before .total3 .result), c .before .of-three .ensures) }
 
 choose-put-requires-2 : (t : ℕ) → choose-lts.Need-put-requires-2 (
   word-reads.Asked,

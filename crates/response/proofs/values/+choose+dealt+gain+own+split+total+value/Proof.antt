@@ -9,7 +9,7 @@ use Rattle.arena.specs.Words.{actionsOf, laterOf}
 use Rattle.profiles.specs.Values.{nought, plus, times}
 use Rattle.finite.proofs.Parts.{part-length}
 use Rattle.response.specs.Valued.{Chosen, Dealt}
-use Rattle.response.proofs.Picking.{two-few, three-few}
+use Rattle.pick.proofs.Leads.{two-few, three-few}
 use Rattle.response.proofs.Valuing as valuing
 use Rattle.response.proofs.Choosing as choosing
 use borrow.Fn.Kinds.{In}
@@ -45,12 +45,12 @@ use Rattle.arena.proofs.words.next.Reads as next-reads
 use Rattle.arena.proofs.words.put.Reads as put-reads
 use Rattle.arena.proofs.words.set.Reads as set-reads
 use Rattle.arena.proofs.words.word.Reads as word-reads
-use Rattle.floats.proofs.float_at.Reads as float-at-reads
 use Rattle.floats.proofs.payoff_of.Reads as payoff-of-reads
+use Rattle.floats.proofs.reached.Reads as reached-reads
 use Rattle.floats.proofs.weighed.Reads as weighed-reads
 use Rattle.floats.proofs.weight.Reads as weight-reads
-use Rattle.response.proofs.pick.of_three.Reads as of-three-reads
-use Rattle.response.proofs.pick.of_two.Reads as of-two-reads
+use Rattle.pick.proofs.leading.of_three.Reads as of-three-reads
+use Rattle.pick.proofs.leading.of_two.Reads as of-two-reads
 use Rattle.walks.proofs.child.Reads as child-reads
 use Rattle.response.proofs.values.+choose+dealt+gain+own+split+total+value.{statement}
 use Rattle.response.proofs.values.+choose+dealt+gain+own+split+total+value.Tie.{close}
@@ -1149,8 +1149,8 @@ total-add-word : (t : ℕ) → total-lts.Need-add-word (
   child-reads.Learnt,
   gain-below t,
   gain.Post,
-  float-at-reads.Asked,
-  float-at-reads.Learnt,
+  reached-reads.Asked,
+  reached-reads.Learnt,
   later-reads.Asked,
   later-reads.Learnt,
 ) (total-at t) total.Post total-Inv-loop total-μ-loop
@@ -1163,8 +1163,8 @@ total-word-requires : (t : ℕ) → total-lts.Need-word-requires (
   child-reads.Learnt,
   gain-below t,
   gain.Post,
-  float-at-reads.Asked,
-  float-at-reads.Learnt,
+  reached-reads.Asked,
+  reached-reads.Learnt,
   later-reads.Asked,
   later-reads.Learnt,
 ) (total-at t) total.Post total-Inv-loop total-μ-loop
@@ -1177,8 +1177,8 @@ total-loop-holds : (t : ℕ) → total-lts.Need-loop-holds (
   child-reads.Learnt,
   gain-below t,
   gain.Post,
-  float-at-reads.Asked,
-  float-at-reads.Learnt,
+  reached-reads.Asked,
+  reached-reads.Learnt,
   later-reads.Asked,
   later-reads.Learnt,
 ) (total-at t) total.Post total-Inv-loop total-μ-loop
@@ -1191,8 +1191,8 @@ total-child-requires : (t : ℕ) → total-lts.Need-child-requires (
   child-reads.Learnt,
   gain-below t,
   gain.Post,
-  float-at-reads.Asked,
-  float-at-reads.Learnt,
+  reached-reads.Asked,
+  reached-reads.Learnt,
   later-reads.Asked,
   later-reads.Learnt,
 ) (total-at t) total.Post total-Inv-loop total-μ-loop
@@ -1205,40 +1205,40 @@ total-gain-requires : (t : ℕ) → total-lts.Need-gain-requires (
   child-reads.Learnt,
   gain-below t,
   gain.Post,
-  float-at-reads.Asked,
-  float-at-reads.Learnt,
+  reached-reads.Asked,
+  reached-reads.Learnt,
   later-reads.Asked,
   later-reads.Learnt,
 ) (total-at t) total.Post total-Inv-loop total-μ-loop
 total-gain-requires t c κs = (omega (arith, c .before .before .before .before .before .before .before .before .before .pre .0), valuing.walk-at (c .before .before .before .before .before .before .before .before .before .args .first) (c .before .before .before .before .before .before .before .before .before .args .seat) (c .before .before .before .before .before .before .before .before .before .args .depth) (c .before .before .before .before .before .before .before .before .before .args .heads) (c .before .before .before .before .before .before .before .before .before .args .reach) (c .before .before .before .before .before .before .before .before .before .args .kept) (c .before .before .before .before .before .before .before .before .before .pre .1) (c .before .child .result) (c .before .before .before .before .before .before .before .before .before .args .depth) (omega arith) (omega (arith, c .before .child .ensures .near, c .before .before .before .before .before .before .before .before .before .pre .1 .shallow)))
 
-total-add-float-at : (t : ℕ) → total-lts.Need-add-float-at (
+total-add-reached : (t : ℕ) → total-lts.Need-add-reached (
   word-reads.Asked,
   word-reads.Learnt,
   child-reads.Asked,
   child-reads.Learnt,
   gain-below t,
   gain.Post,
-  float-at-reads.Asked,
-  float-at-reads.Learnt,
+  reached-reads.Asked,
+  reached-reads.Learnt,
   later-reads.Asked,
   later-reads.Learnt,
 ) (total-at t) total.Post total-Inv-loop total-μ-loop
-total-add-float-at t c = record { fits = omega (arith, c .before .before .before .before .before .before .before .before .before .before .before .before .before .pre .1 .reach, c .before .before .before .before .before .before .before .before .loop .inv .1) }
+total-add-reached t c = record { fits = omega (arith, c .before .before .before .before .before .before .before .before .before .before .before .before .before .pre .1 .reach, c .before .before .before .before .before .before .before .before .loop .inv .1) }
 
-total-float-at-requires : (t : ℕ) → total-lts.Need-float-at-requires (
+total-reached-requires : (t : ℕ) → total-lts.Need-reached-requires (
   word-reads.Asked,
   word-reads.Learnt,
   child-reads.Asked,
   child-reads.Learnt,
   gain-below t,
   gain.Post,
-  float-at-reads.Asked,
-  float-at-reads.Learnt,
+  reached-reads.Asked,
+  reached-reads.Learnt,
   later-reads.Asked,
   later-reads.Learnt,
 ) (total-at t) total.Post total-Inv-loop total-μ-loop
-total-float-at-requires t c κs = search needs
+total-reached-requires t c κs = search needs
 
 total-word-requires-2 : (t : ℕ) → total-lts.Need-word-requires-2 (
   word-reads.Asked,
@@ -1247,8 +1247,8 @@ total-word-requires-2 : (t : ℕ) → total-lts.Need-word-requires-2 (
   child-reads.Learnt,
   gain-below t,
   gain.Post,
-  float-at-reads.Asked,
-  float-at-reads.Learnt,
+  reached-reads.Asked,
+  reached-reads.Learnt,
   later-reads.Asked,
   later-reads.Learnt,
 ) (total-at t) total.Post total-Inv-loop total-μ-loop
@@ -1261,8 +1261,8 @@ total-later-requires : (t : ℕ) → total-lts.Need-later-requires (
   child-reads.Learnt,
   gain-below t,
   gain.Post,
-  float-at-reads.Asked,
-  float-at-reads.Learnt,
+  reached-reads.Asked,
+  reached-reads.Learnt,
   later-reads.Asked,
   later-reads.Learnt,
 ) (total-at t) total.Post total-Inv-loop total-μ-loop
@@ -1275,8 +1275,8 @@ total-same-length : (t : ℕ) → total-lts.Need-same-length (
   child-reads.Learnt,
   gain-below t,
   gain.Post,
-  float-at-reads.Asked,
-  float-at-reads.Learnt,
+  reached-reads.Asked,
+  reached-reads.Learnt,
   later-reads.Asked,
   later-reads.Learnt,
 ) (total-at t) total.Post total-Inv-loop total-μ-loop
@@ -1289,12 +1289,12 @@ total-returns : (t : ℕ) → total-lts.Need-returns (
   child-reads.Learnt,
   gain-below t,
   gain.Post,
-  float-at-reads.Asked,
-  float-at-reads.Learnt,
+  reached-reads.Asked,
+  reached-reads.Learnt,
   later-reads.Asked,
   later-reads.Learnt,
 ) (total-at t) total.Post total-Inv-loop total-μ-loop
-total-returns t c = choosing.summed-stuck (now (c .before .before .before .before .before .before .before .before .before .before .before .before .before .before .before .before .before .before .args .profile)) (c .before .before .before .before .before .before .before .before .before .before .before .before .before .before .before .before .before .before .args .seat) (c .before .before .before .before .before .before .before .before .before .before .before .before .before .before .before .before .before .before .args .depth) (c .before .before .before .before .before .before .before .before .before .before .before .before .before .before .before .before .before .before .args .heads) (c .before .before .before .before .before .before .before .before .before .before .before .before .before .before .before .before .before .before .args .reach) (c .before .before .before .before .before .before .before .before .before .before .before .before .before .before .before .before .before .before .args .kept) (c .before .before .before .before .before .before .before .before .before .before .before .before .before .before .before .before .before .before .args .first) (c .before .before .before .before .before .before .before .before .before .before .before .before .before .before .before .before .before .before .args .action) (now (c .before .before .before .before .before .before .before .before .before .before .before .before .before .before .before .before .before .before .args .w)) (c .before .before .before .before .before .before .before .before .before .before .before .before .before .loop .w) (c .before .before .before .before .before .before .before .before .gain .last .0) (c .before .before .before .before .before .before .before .before .before .before .before .before .before .loop .at) (c .before .before .before .before .before .before .before .before .before .before .before .before .before .loop .sum) (c .before .before .before .before .before .before .before .before .before .before .child .result) (c .before .before .before .before .before .before .before .before .gain .result) _ (c .before .later .result) (c .before .before .before .before .before .before .before .before .before .before .before .before .before .loop .inv .0) (c .before .before .before .before .before .before .before .before .before .before .before .before .loop-test .taken) (c .before .before .before .before .before .before .before .before .before .before .child .ensures) (c .before .before .before .before .before .before .before .before .gain .ensures) (ap (λ j. plus (c .before .before .before .before .before .before .before .before .before .before .before .before .before .loop .sum) (times j (c .before .before .before .before .before .before .before .before .gain .result))) (c .before .before .before .before .float-at .ensures)) (c .before .later .ensures ∙ ap laterOf (c .before .before .word2 .ensures)) (c .if1 .taken)
+total-returns t c = choosing.summed-stuck (now (c .before .before .before .before .before .before .before .before .before .before .before .before .before .before .before .before .before .before .args .profile)) (c .before .before .before .before .before .before .before .before .before .before .before .before .before .before .before .before .before .before .args .seat) (c .before .before .before .before .before .before .before .before .before .before .before .before .before .before .before .before .before .before .args .depth) (c .before .before .before .before .before .before .before .before .before .before .before .before .before .before .before .before .before .before .args .heads) (c .before .before .before .before .before .before .before .before .before .before .before .before .before .before .before .before .before .before .args .reach) (c .before .before .before .before .before .before .before .before .before .before .before .before .before .before .before .before .before .before .args .kept) (c .before .before .before .before .before .before .before .before .before .before .before .before .before .before .before .before .before .before .args .first) (c .before .before .before .before .before .before .before .before .before .before .before .before .before .before .before .before .before .before .args .action) (now (c .before .before .before .before .before .before .before .before .before .before .before .before .before .before .before .before .before .before .args .w)) (c .before .before .before .before .before .before .before .before .before .before .before .before .before .loop .w) (c .before .before .before .before .before .before .before .before .gain .last .0) (c .before .before .before .before .before .before .before .before .before .before .before .before .before .loop .at) (c .before .before .before .before .before .before .before .before .before .before .before .before .before .loop .sum) (c .before .before .before .before .before .before .before .before .before .before .child .result) (c .before .before .before .before .before .before .before .before .gain .result) _ (c .before .later .result) (c .before .before .before .before .before .before .before .before .before .before .before .before .before .loop .inv .0) (c .before .before .before .before .before .before .before .before .before .before .before .before .loop-test .taken) (c .before .before .before .before .before .before .before .before .before .before .child .ensures) (c .before .before .before .before .before .before .before .before .gain .ensures) (c .before .before .before .before .reached .ensures) (c .before .later .ensures ∙ ap laterOf (c .before .before .word2 .ensures)) (c .if1 .taken)
 
 total-loop-less : (t : ℕ) → total-lts.Need-loop-less (
   word-reads.Asked,
@@ -1303,8 +1303,8 @@ total-loop-less : (t : ℕ) → total-lts.Need-loop-less (
   child-reads.Learnt,
   gain-below t,
   gain.Post,
-  float-at-reads.Asked,
-  float-at-reads.Learnt,
+  reached-reads.Asked,
+  reached-reads.Learnt,
   later-reads.Asked,
   later-reads.Learnt,
 ) (total-at t) total.Post total-Inv-loop total-μ-loop
@@ -1317,12 +1317,12 @@ total-loop-again : (t : ℕ) → total-lts.Need-loop-again (
   child-reads.Learnt,
   gain-below t,
   gain.Post,
-  float-at-reads.Asked,
-  float-at-reads.Learnt,
+  reached-reads.Asked,
+  reached-reads.Learnt,
   later-reads.Asked,
   later-reads.Learnt,
 ) (total-at t) total.Post total-Inv-loop total-μ-loop
-total-loop-again t c = (choosing.summed-more (now (c .before .before .before .before .before .before .before .before .before .before .before .before .before .before .before .before .before .before .args .profile)) (c .before .before .before .before .before .before .before .before .before .before .before .before .before .before .before .before .before .before .args .seat) (c .before .before .before .before .before .before .before .before .before .before .before .before .before .before .before .before .before .before .args .depth) (c .before .before .before .before .before .before .before .before .before .before .before .before .before .before .before .before .before .before .args .heads) (c .before .before .before .before .before .before .before .before .before .before .before .before .before .before .before .before .before .before .args .reach) (c .before .before .before .before .before .before .before .before .before .before .before .before .before .before .before .before .before .before .args .kept) (c .before .before .before .before .before .before .before .before .before .before .before .before .before .before .before .before .before .before .args .first) (c .before .before .before .before .before .before .before .before .before .before .before .before .before .before .before .before .before .before .args .action) (now (c .before .before .before .before .before .before .before .before .before .before .before .before .before .before .before .before .before .before .args .w)) (c .before .before .before .before .before .before .before .before .before .before .before .before .before .loop .w) (c .before .before .before .before .before .before .before .before .gain .last .0) (c .before .before .before .before .before .before .before .before .before .before .before .before .before .loop .at) (c .before .before .before .before .before .before .before .before .before .before .before .before .before .loop .sum) (c .before .before .before .before .before .before .before .before .before .before .child .result) (c .before .before .before .before .before .before .before .before .gain .result) _ (c .before .later .result) (c .before .before .before .before .before .before .before .before .before .before .before .before .before .loop .inv .0) (c .before .before .before .before .before .before .before .before .before .before .before .before .loop-test .taken) (c .before .before .before .before .before .before .before .before .before .before .child .ensures) (c .before .before .before .before .before .before .before .before .gain .ensures) (ap (λ j. plus (c .before .before .before .before .before .before .before .before .before .before .before .before .before .loop .sum) (times j (c .before .before .before .before .before .before .before .before .gain .result))) (c .before .before .before .before .float-at .ensures)) (c .before .later .ensures ∙ ap laterOf (c .before .before .word2 .ensures)), omega (arith, c .before .later .ensures), omega (arith, c .before .before .before .before .before .before .before .before .gain .kept .0, c .before .before .before .before .before .before .before .before .before .before .before .before .before .loop .inv .2))
+total-loop-again t c = (choosing.summed-more (now (c .before .before .before .before .before .before .before .before .before .before .before .before .before .before .before .before .before .before .args .profile)) (c .before .before .before .before .before .before .before .before .before .before .before .before .before .before .before .before .before .before .args .seat) (c .before .before .before .before .before .before .before .before .before .before .before .before .before .before .before .before .before .before .args .depth) (c .before .before .before .before .before .before .before .before .before .before .before .before .before .before .before .before .before .before .args .heads) (c .before .before .before .before .before .before .before .before .before .before .before .before .before .before .before .before .before .before .args .reach) (c .before .before .before .before .before .before .before .before .before .before .before .before .before .before .before .before .before .before .args .kept) (c .before .before .before .before .before .before .before .before .before .before .before .before .before .before .before .before .before .before .args .first) (c .before .before .before .before .before .before .before .before .before .before .before .before .before .before .before .before .before .before .args .action) (now (c .before .before .before .before .before .before .before .before .before .before .before .before .before .before .before .before .before .before .args .w)) (c .before .before .before .before .before .before .before .before .before .before .before .before .before .loop .w) (c .before .before .before .before .before .before .before .before .gain .last .0) (c .before .before .before .before .before .before .before .before .before .before .before .before .before .loop .at) (c .before .before .before .before .before .before .before .before .before .before .before .before .before .loop .sum) (c .before .before .before .before .before .before .before .before .before .before .child .result) (c .before .before .before .before .before .before .before .before .gain .result) _ (c .before .later .result) (c .before .before .before .before .before .before .before .before .before .before .before .before .before .loop .inv .0) (c .before .before .before .before .before .before .before .before .before .before .before .before .loop-test .taken) (c .before .before .before .before .before .before .before .before .before .before .child .ensures) (c .before .before .before .before .before .before .before .before .gain .ensures) (c .before .before .before .before .reached .ensures) (c .before .later .ensures ∙ ap laterOf (c .before .before .word2 .ensures)), omega (arith, c .before .later .ensures), omega (arith, c .before .before .before .before .before .before .before .before .gain .kept .0, c .before .before .before .before .before .before .before .before .before .before .before .before .before .loop .inv .2))
 
 total-same-length-2 : (t : ℕ) → total-lts.Need-same-length-2 (
   word-reads.Asked,
@@ -1331,8 +1331,8 @@ total-same-length-2 : (t : ℕ) → total-lts.Need-same-length-2 (
   child-reads.Learnt,
   gain-below t,
   gain.Post,
-  float-at-reads.Asked,
-  float-at-reads.Learnt,
+  reached-reads.Asked,
+  reached-reads.Learnt,
   later-reads.Asked,
   later-reads.Learnt,
 ) (total-at t) total.Post total-Inv-loop total-μ-loop
@@ -1345,8 +1345,8 @@ total-returns-2 : (t : ℕ) → total-lts.Need-returns-2 (
   child-reads.Learnt,
   gain-below t,
   gain.Post,
-  float-at-reads.Asked,
-  float-at-reads.Learnt,
+  reached-reads.Asked,
+  reached-reads.Learnt,
   later-reads.Asked,
   later-reads.Learnt,
 ) (total-at t) total.Post total-Inv-loop total-μ-loop
@@ -1882,8 +1882,8 @@ pub +choose+dealt+gain+own+split+total+value-spec : {M : Type 1} → statement M
       child-reads.Learnt,
       gain-below t,
       gain.Post,
-      float-at-reads.Asked,
-      float-at-reads.Learnt,
+      reached-reads.Asked,
+      reached-reads.Learnt,
       later-reads.Asked,
       later-reads.Learnt,
     )
@@ -1896,8 +1896,8 @@ pub +choose+dealt+gain+own+split+total+value-spec : {M : Type 1} → statement M
     (total-loop-holds t)
     (total-child-requires t)
     (total-gain-requires t)
-    (total-add-float-at t)
-    (total-float-at-requires t)
+    (total-add-reached t)
+    (total-reached-requires t)
     (total-word-requires-2 t)
     (total-later-requires t)
     (total-same-length t)

@@ -1,8 +1,8 @@
 use mathlib.Core.Path.{_∙_}
-use Rattle.response.proofs.Picking.{two-up, two-stays}
+use Rattle.pick.proofs.Leads.{two-up, two-stays}
 use borrow.Author.Needs.{needs}
-use Rattle.response.proofs.pick.of_two.Statement.{statement}
-use Rattle.response.proofs.pick.of_two.Tie as tie
+use Rattle.pick.proofs.leading.of_two.Statement.{statement}
+use Rattle.pick.proofs.leading.of_two.Tie as tie
 
 lowest-requires : tie.Need-lowest-requires
 lowest-requires c κs = search needs

@@ -1,14 +1,14 @@
--- The action that a choice comes to, of two or three. Assumes nothing.
-use mathlib.Core.Path.{_≡_, refl, sym, ap, _∙_, subst}
+-- The action that a choice comes to by two or three sums in f64. Assumes nothing.
+use mathlib.Core.Path.{_≡_, refl, sym, ap, _∙_}
 use mathlib.Core.Bool.{Bool, true, false, not, cond}
 use lib.Dec.{T}
 use mathlib.Core.List.{[], _∷_}
-use Prim.Native.Nat.{ℕ, zero, suc, _≤_, _<_}
-use native.Mathlib.Nat as NatL
+use Prim.Native.Nat.{_<_}
 use native.Mathlib.Omega.{arith}
 use lib.Ieee.{Float, nan, inf, binary64, ofBits, nanBits, lt}
 use lib.ListN.{getD}
 use Rattle.profiles.specs.Values.{Lead, lead}
+use Rattle.profiles.proofs.Leading.{lead-few}
 
 pub lowest-bits : ofBits binary64 18442240474082181120 ≡ inf true
 unfolding ofBits
@@ -52,28 +52,9 @@ module _ (x y low top : Float) (o : low ≡ inf true) (q : top ≡ cond (lt low 
     unfolding lead
     three-stays l m = rw (first-lead (lt (inf true) x) x, sym e, l, m) refl
 
--- ---- it is one of the actions, and depends on their sums alone
-pub lead-few : (q : ℕ → Float) (n : ℕ) → 1 ≤ n → lead q n .0 < n
-unfolding lead
-lead-few q zero l = absurd (omega arith)
-lead-few q (suc zero) l = at (lt (inf true) (q 0))
-  where
-    at : (b : Bool) → cond {A = Lead} b (0, q 0) (0, inf true) .0 < 1
-    at true = omega arith
-    at false = omega arith
-lead-few q (suc (suc n)) l = at (lt (lead q (suc n) .1) (q (suc n))) (lead-few q (suc n) (omega arith))
-  where
-    at : (b : Bool) → lead q (suc n) .0 < suc n → cond {A = Lead} b (suc n, q (suc n)) (lead q (suc n)) .0 < suc (suc n)
-    at true m = omega arith
-    at false m = omega arith
-
+-- ---- it is one of the actions
 pub two-few : (x y : Float) → lead (λ a. getD (x ∷ y ∷ []) a nan) 2 .0 < 2
 two-few x y = lead-few (λ a. getD (x ∷ y ∷ []) a nan) 2 (omega arith)
 
 pub three-few : (x y z : Float) → lead (λ a. getD (x ∷ y ∷ z ∷ []) a nan) 3 .0 < 3
 three-few x y z = lead-few (λ a. getD (x ∷ y ∷ z ∷ []) a nan) 3 (omega arith)
-
-pub lead-same : (p q : ℕ → Float) (n : ℕ) → ((a : ℕ) → a < n → p a ≡ q a) → lead p n ≡ lead q n
-unfolding lead
-lead-same p q zero e = refl
-lead-same p q (suc n) e = rw (lead-same p q n (λ a l. e a (omega arith)), e n (omega arith)) refl

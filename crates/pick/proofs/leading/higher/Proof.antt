@@ -1,6 +1,6 @@
 use mathlib.Core.Path.{refl}
-use Rattle.response.proofs.pick.higher.Statement.{statement}
-use Rattle.response.proofs.pick.higher.Tie as tie
+use Rattle.pick.proofs.leading.higher.Statement.{statement}
+use Rattle.pick.proofs.leading.higher.Tie as tie
 
 returns : tie.Need-returns
 returns c = rw (c .if1 .taken) refl

@@ -1,6 +1,6 @@
-use Rattle.response.proofs.Picking.{lowest-bits, lowest-is}
-use Rattle.response.proofs.pick.lowest.Statement.{statement}
-use Rattle.response.proofs.pick.lowest.Tie as tie
+use Rattle.pick.proofs.Leads.{lowest-bits, lowest-is}
+use Rattle.pick.proofs.leading.lowest.Statement.{statement}
+use Rattle.pick.proofs.leading.lowest.Tie as tie
 
 float-from-bits-result : tie.Need-float-from-bits-result
 float-from-bits-result c = lowest-is

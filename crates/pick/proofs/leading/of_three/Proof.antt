@@ -1,11 +1,11 @@
-use Rattle.response.proofs.Picking.{three-last, three-middle, three-up, three-stays}
+use Rattle.pick.proofs.Leads.{three-last, three-middle, three-up, three-stays}
 use borrow.Author.Needs.{needs}
-use Rattle.response.proofs.pick.of_three.Statement.{statement}
-use Rattle.response.proofs.pick.of_three.Tie as tie
-use Rattle.response.proofs.pick.of_three.Reads as reads
-use Rattle.response.proofs.pick.of_three.Lts as lts
-use Rattle.response.proofs.pick.higher.Reads as higher-reads
-use Rattle.response.proofs.pick.lowest.Reads as lowest-reads
+use Rattle.pick.proofs.leading.of_three.Statement.{statement}
+use Rattle.pick.proofs.leading.of_three.Tie as tie
+use Rattle.pick.proofs.leading.of_three.Reads as reads
+use Rattle.pick.proofs.leading.of_three.Lts as lts
+use Rattle.pick.proofs.leading.higher.Reads as higher-reads
+use Rattle.pick.proofs.leading.lowest.Reads as lowest-reads
 
 lowest-requires : tie.Need-lowest-requires
 lowest-requires c κs = search needs

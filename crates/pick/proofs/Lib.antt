@@ -1,0 +1,3 @@
+-- Lemmas on the action that a choice takes.
+pub mod Leads
+pub mod Tops
