@@ -1,3 +1,3 @@
--- Lemmas on the action that a choice takes.
-pub mod Leads
-pub mod Tops
+-- Lemmas on the way of a choice.
+pub mod Lowest
+pub mod Past

@@ -1,3 +1,3 @@
-// The action that a choice takes by the sums behind the actions, of two or three: in f64, and in whole units.
+// The way of a choice through the actions by the sums behind them: in f64, and in whole units.
 pub mod leading;
 pub mod topmost;

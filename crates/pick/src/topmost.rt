@@ -1,28 +1,30 @@
-// The lowest action with the greatest sum.
+// The way of a choice through the actions in whole units: it starts at action 0 with 0, below which no sum is, and moves only to a greater sum.
 ghost use mathlib.Core.Path.{_≡_};
-ghost use mathlib.Core.List.{[], _∷_};
-ghost use lib.ListN.{getD};
-ghost use Rattle.units.specs.Gain.{topmost};
+ghost use mathlib.Core.Bool.{cond};
+ghost use lib.Dec.{ltb};
 
-// Which of two sums is the greater one, the first if they are equal.
-pub fn of_two(x: u64, y: u64) -> usize
-    ensures { λ r. ⌜ r ≡ topmost (λ a. getD (x ∷ y ∷ []) a 0) 1 ⌝ }
-{
-    if x < y { 1 } else { 0 }
+// Where a choice is: the action, and its sum.
+pub struct Top {
+    pub action: usize,
+    pub sum: u64,
 }
 
-// The same of three.
-pub fn of_three(x: u64, y: u64, z: u64) -> usize
-    ensures { λ r. ⌜ r ≡ topmost (λ a. getD (x ∷ y ∷ z ∷ []) a 0) 2 ⌝ }
+// Before the first action.
+pub fn start() -> Top
+    ensures { λ r. ⌜ (r .action ≡ 0) × (r .sum ≡ 0) ⌝ }
 {
-    if x < y {
-        if y < z {
-            return 2;
-        }
-        return 1;
+    Top { action: 0, sum: 0 }
+}
+
+// Past one more action, with its sum.
+pub fn past(top: Top, action: usize, sum: u64) -> Top
+    ensures { λ r. ⌜ (r .action ≡ cond (ltb (top .sum) sum) action (top .action)) × (r .sum ≡ cond (ltb (top .sum) sum) sum (top .sum)) ⌝ }
+{
+    if top.sum < sum {
+        return Top {
+            action: action,
+            sum: sum,
+        };
     }
-    if x < z {
-        return 2;
-    }
-    0
+    top
 }

@@ -1,5 +1,5 @@
--- The way of a choice through the actions: it ends at one of them, and depends on their sums alone. Assumes nothing.
-use mathlib.Core.Path.{_≡_, refl}
+-- The way of a choice through the actions, one after the other: it ends at one of them, and depends on their sums alone. Assumes nothing.
+use mathlib.Core.Path.{_≡_, refl, sym, ap, _∙_}
 use mathlib.Core.Bool.{Bool, true, false, cond}
 use Prim.Native.Nat.{ℕ, zero, suc, _≤_, _<_}
 use native.Mathlib.Omega.{arith}
@@ -24,3 +24,21 @@ pub lead-same : (p q : ℕ → Float) (n : ℕ) → ((a : ℕ) → a < n → p a
 unfolding lead
 lead-same p q zero e = refl
 lead-same p q (suc n) e = rw (lead-same p q n (λ a l. e a (omega arith)), e n (omega arith)) refl
+
+-- ---- past one more action
+cond-action : (t : Bool) (u v : Lead) → cond t u v .0 ≡ cond t (u .0) (v .0)
+cond-action true u v = refl
+cond-action false u v = refl
+
+cond-sum : (t : Bool) (u v : Lead) → cond t u v .1 ≡ cond t (u .1) (v .1)
+cond-sum true u v = refl
+cond-sum false u v = refl
+
+module _ (q : ℕ → Float) (n a : ℕ) (s v : Float) (at-action : a ≡ lead q n .0) (at-sum : s ≡ lead q n .1) (is : v ≡ q n) where
+  pub past-action : (b : ℕ) → b ≡ cond (lt s v) n a → b ≡ lead q (suc n) .0
+  unfolding lead
+  past-action b e = e ∙ ap (λ x. cond (lt x v) n a) at-sum ∙ ap (λ x. cond (lt (lead q n .1) x) n a) is ∙ ap (cond (lt (lead q n .1) (q n)) n) at-action ∙ sym (cond-action (lt (lead q n .1) (q n)) (n, q n) (lead q n))
+
+  pub past-sum : (r : Float) → r ≡ cond (lt s v) v s → r ≡ lead q (suc n) .1
+  unfolding lead
+  past-sum r e = e ∙ ap (λ x. cond (lt x v) v x) at-sum ∙ ap (λ x. cond (lt (lead q n .1) x) x (lead q n .1)) is ∙ sym (cond-sum (lt (lead q n .1) (q n)) (n, q n) (lead q n))

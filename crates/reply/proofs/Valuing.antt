@@ -1,7 +1,7 @@
 -- The value of a node from those of its children. Assumes nothing.
 use mathlib.Core.Path.{_≡_, refl, sym, ap, _∙_, subst}
 use mathlib.Core.Bool.{Bool, true, false, cond}
-use mathlib.Core.List.{List, [], _∷_}
+use mathlib.Core.List.{List}
 use Prim.Native.Nat.{ℕ, zero, suc, pred, _+_, _-_, _*_, _/_, _%_, _^_, _≤_, _<_}
 use native.Mathlib.Nat as NatL
 use native.Mathlib.Omega.{arith}
@@ -23,7 +23,6 @@ use Rattle.units.specs.Lifted.{lift}
 use Rattle.units.specs.Gain.{given, gain, gainPick, Stocked, topmost}
 use Rattle.units.proofs.Lifting.{lift-back}
 use Rattle.units.proofs.Six.{product, sum-wraps}
-use Rattle.pick.proofs.Tops.{topmost-few}
 use Rattle.reply.specs.Valued.{Walkable, Scene, Here, HereAll, gained, gainedAll, behindAction, Valued, ValuedAll, ValuedOwn, Chosen}
 use Rattle.reply.proofs.Scenes.{kids-chance, kids-decide, first, descent, pick-gain}
 
@@ -139,6 +138,16 @@ module _ (i d h b k a z : ℕ) (old : List ℕ) where
       at (A, cons t u, x, B, C, j, E, F) =
           let G = o S A t (g x) lev le (first S lev c g x t u B) in
           absurd (omega (arith, row-rest (descent S) new (G .0) lev c g x t u B p q .0, y, size-some t))
+
+-- ---- the lowest of the greatest
+topmost-few : (q : ℕ → ℕ) (n : ℕ) → topmost q n ≤ n
+unfolding topmost
+topmost-few q zero = NatL.le-refl 0
+topmost-few q (suc n) = at (ltb (q (topmost q n)) (q (suc n))) (topmost-few q n)
+  where
+    at : (t : Bool) → topmost q n ≤ n → cond t (suc n) (topmost q n) ≤ suc n
+    at true l = NatL.le-refl (suc n)
+    at false l = omega arith
 
 -- ---- an own node
 -- the choice of a known set is one of its actions

@@ -13,8 +13,8 @@ use arena::words::next;
 use arena::words::put;
 use arena::words::set;
 use arena::words::word;
-use pick::topmost::of_three;
-use pick::topmost::of_two;
+use pick::topmost::past;
+use pick::topmost::start;
 use std::num::wrapping_add_u64;
 use units::UNITS;
 use walks::child;
@@ -147,17 +147,15 @@ pub fn choose(
     if known != 0 {
         return known as usize - 1;
     }
-    let zero = total(w, first, 0, seat, depth, heads, units, kept);
-    let one = total(w, first, 1, seat, depth, heads, units, kept);
-    if count != 3 {
-        let choice = of_two(zero, one);
-        put(w, kept + first, choice as u64 + 1);
-        return choice;
+    let mut top = start();
+    let mut action = 0;
+    while action < count {
+        let sum = total(w, first, action, seat, depth, heads, units, kept);
+        top = past(top, action, sum);
+        action += 1;
     }
-    let two = total(w, first, 2, seat, depth, heads, units, kept);
-    let choice = of_three(zero, one, two);
-    put(w, kept + first, choice as u64 + 1);
-    choice
+    put(w, kept + first, top.action as u64 + 1);
+    top.action
 }
 
 // The sum over the set's members of the values behind an action.

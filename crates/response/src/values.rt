@@ -17,8 +17,8 @@ use floats::payoff_of;
 use floats::reached;
 use floats::weighed;
 use floats::weight;
-use pick::leading::of_three;
-use pick::leading::of_two;
+use pick::leading::past;
+use pick::leading::start;
 use walks::child;
 ghost use Prim.Native.Nat.{_+_};
 ghost use Rattle.response.specs.Valued.{Walkable, Valued, Gained, Dealt, Split, ValuedOwn, Totalled, Chosen};
@@ -131,25 +131,21 @@ fn split(
     ensures { λ r. ⌜ Split (now (profile .entry)) seat depth heads reach kept a x (now (w .entry)) (now (w .exit)) r ⌝ }
 {
     let first = set(x);
-    let count = actions(x);
-    let end = first + count;
-    if count < 2 {
-        return 0.0;
-    }
+    let end = first + actions(x);
     if profile.len() < end {
         return 0.0;
     }
-    let zero = gain(w, profile, a, seat, depth, heads, reach, kept);
-    let front = weighed(&profile[first..end], 0, 0.0, zero);
-    let second = behind(w, a);
-    let one = gain(w, profile, second, seat, depth, heads, reach, kept);
-    let both = weighed(&profile[first..end], 1, front, one);
-    if count == 2 {
-        return both;
+    let part = &profile[first..end];
+    let mut sum = 0.0;
+    let mut at = a;
+    let mut action = 0;
+    while action < part.len() {
+        let g = gain(w, profile, at, seat, depth, heads, reach, kept);
+        sum = weighed(part, action, sum, g);
+        at = behind(w, at);
+        action += 1;
     }
-    let third = behind(w, second);
-    let two = gain(w, profile, third, seat, depth, heads, reach, kept);
-    weighed(&profile[first..end], 2, both, two)
+    sum
 }
 
 // The value of an own node at place a with word x: what its child gives, at the set's choice.
@@ -201,17 +197,15 @@ fn choose(
     if known != 0 {
         return known as usize - 1;
     }
-    let zero = total(w, profile, first, 0, seat, depth, heads, reach, kept);
-    let one = total(w, profile, first, 1, seat, depth, heads, reach, kept);
-    if count != 3 {
-        let choice = of_two(zero, one);
-        put(w, kept + first, choice as u64 + 1);
-        return choice;
+    let mut lead = start();
+    let mut action = 0;
+    while action < count {
+        let sum = total(w, profile, first, action, seat, depth, heads, reach, kept);
+        lead = past(lead, action, sum);
+        action += 1;
     }
-    let two = total(w, profile, first, 2, seat, depth, heads, reach, kept);
-    let choice = of_three(zero, one, two);
-    put(w, kept + first, choice as u64 + 1);
-    choice
+    put(w, kept + first, lead.action as u64 + 1);
+    lead.action
 }
 
 // The sum over the set's members, in their order, of reach × what the child behind an action gives.
