@@ -76,3 +76,10 @@ pub fn weighed(part: &[f64], action: usize, sum: f64, gain: f64) -> f64
 {
     sum + entry(part, action) * gain
 }
+
+// The sum so far, and the reach at a place × what is given behind it.
+pub fn reached(w: &[u64], place: usize, sum: f64, gain: f64) -> f64
+    ensures { λ r. ⌜ r ≡ plus sum (times (ofBits binary64 (getD (now (w .entry)) place 0)) gain) ⌝ }
+{
+    sum + float_at(w, place) * gain
+}

@@ -1,3 +1,4 @@
 -- Lemmas on f64 values.
+pub mod Leading
 pub mod Deciding
 pub mod Signs

@@ -1,11 +1,15 @@
 -- The choice of a set from the sums over its members. Assumes nothing.
-use mathlib.Core.Path.{_≡_, refl, sym, ap, _∙_, subst}
+use mathlib.Core.Path.{_≡_, refl, sym, ap, ap₂, _∙_, subst}
+use mathlib.Core.Bool.{cond}
 use mathlib.Core.List.{List, [], _∷_}
 use Prim.Native.Nat.{ℕ, zero, suc, pred, _+_, _-_, _%_, _^_, _≤_, _<_}
 use native.Mathlib.Nat as NatL
 use native.Mathlib.Omega.{arith}
+use lib.Dec.{ltb}
 use lib.ListN.{getD, set}
+use borrow.Author.Tests.{ltb-false}
 use Rattle.game.specs.Sums.{sumℕ}
+use Rattle.game.proofs.Tests.{Tested, is, isn't, tested}
 use Rattle.game.specs.Tree.{Key, fan}
 use Rattle.game.specs.Sets.{firstEntry}
 use Rattle.arena.specs.Words.{laterOf}
@@ -18,53 +22,63 @@ use Rattle.units.specs.Gain.{Member, given, gainPick, found, setGain, topmost}
 use Rattle.units.proofs.Six.{sum-wraps}
 use Rattle.reply.specs.Valued.{Scene, Here, gained, behindAction, Valued, Chosen, Totalled}
 use Rattle.reply.proofs.Scenes.{given-whole, descent, root-here, pick-gain}
-use Rattle.reply.proofs.Valuing.{topmost-few}
 
--- ---- the lowest of the greatest
-topmost-same : (p q : ℕ → ℕ) (n : ℕ) → ((a : ℕ) → a ≤ n → p a ≡ q a) → topmost p n ≡ topmost q n
-unfolding topmost
-topmost-same p q zero h = refl
-topmost-same p q (suc n) h = rw (topmost-same p q n (λ a l. h a (omega arith)), h (topmost q n) (omega (arith, topmost-few q n)), h (suc n) (NatL.le-refl (suc n))) refl
+-- ---- a choice on its way through the actions
+-- past the first x of them: at action c, with the sum s
+unfoldable pub Passed : (ℕ → ℕ) → (c s x : ℕ) → Type 0
+Passed q c s zero = (c ≡ 0) × (s ≡ 0)
+Passed q c s (suc x) = (c ≡ topmost q x) × (s ≡ q (topmost q x))
+
+passed-more : (q : ℕ → ℕ) (c s x v a r : ℕ) → Passed q c s x → v ≡ q x → a ≡ cond (ltb s v) x c → r ≡ cond (ltb s v) v s → Passed q a r (suc x)
+unfolding Passed topmost
+passed-more q c s zero v a r p e f g = at (tested (ltb s v)) f g
+  where
+    at : Tested (ltb s v) → a ≡ cond (ltb s v) 0 c → r ≡ cond (ltb s v) v s → (a ≡ 0) × (r ≡ q 0)
+    at (is w) f g = (rw w at f, (rw w at g) ∙ e)
+    at (isn't w) f g = ((rw w at f) ∙ p .0, (rw w at g) ∙ omega (arith, ltb-false s v w, p .1) ∙ e)
+passed-more q c s (suc x) v a r p e f g = at (tested (ltb s v)) f g
+  where
+    b : ℕ
+    b = topmost q x
+
+    same : ltb s v ≡ ltb (q b) (q (suc x))
+    same = ap₂ ltb (p .1) e
+
+    at : Tested (ltb s v) → a ≡ cond (ltb s v) (suc x) c → r ≡ cond (ltb s v) v s → (a ≡ cond (ltb (q b) (q (suc x))) (suc x) b) × (r ≡ q (cond (ltb (q b) (q (suc x))) (suc x) b))
+    at (is w) f g = rw (sym same ∙ w) (rw w at f, (rw w at g) ∙ e)
+    at (isn't w) f g = rw (sym same ∙ w) ((rw w at f) ∙ p .0, (rw w at g) ∙ p .1)
 
 module _ (i d h b k e n : ℕ) (old : List ℕ) where
   -- a choice that was found before
   pub chosen-known : (v r : ℕ) → v ≡ getD old (k + e) 0 → (v ≡ 0 → ⊥) → r ≡ v - 1 → Chosen i d h b k e n old old r
   chosen-known v r q z p S m y g l x = (m, Noting.chosen-known (S .stage) old m y n g e l v r q z p)
 
-  -- the choice of a set of two actions
-  pub chosen-two : (u v new : List ℕ) (x y c : ℕ) → Totalled i d h b k e 0 old u x → Totalled i d h b k e 1 u v y → (n ≡ 3 → ⊥) → c ≡ topmost (λ a. getD (x ∷ y ∷ []) a 0) 1
-      → new ≡ set v (k + e) (c + 1) → Chosen i d h b k e n old new c
-  chosen-two u v new x y c s t z q o S m key g l w =
-      let few : (2 ≤ n) × (n ≤ 3) = known-of (S .stage) (λ j y n. (2 ≤ n) × (n ≤ 3)) (S .stage .few) i key n g in
-      let two : pred n ≡ 1 = omega (arith, few, z) in
-      let A : Noted (S .stage) u × (x ≡ behindAction S key 0) = s S m key n g l w (omega (arith, few)) in
-      let B : Noted (S .stage) v × (y ≡ behindAction S key 1) = t S (A .0) key n g l w (omega (arith, few)) in
-      let top : c ≡ S .stage .choice key = q ∙ topmost-same (λ a. getD (x ∷ y ∷ []) a 0) (behindAction S key) 1 (same x y (behindAction S key) (A .1) (B .1)) ∙ ap (topmost (behindAction S key)) (sym two)
-      ∙ sym (known-of (S .stage) (λ j y n. j ≡ i → S .stage .choice y ≡ topmost (behindAction S y) (pred n)) (S .decided) i key n g refl) in
-      (Noting.noted-more (S .stage) v (B .0) key n g e l new c top o, top)
-    where
-      same : (x y : ℕ) (q : ℕ → ℕ) → x ≡ q 0 → y ≡ q 1 → (a : ℕ) → a ≤ 1 → getD (x ∷ y ∷ []) a 0 ≡ q a
-      same x y q A B zero j = A
-      same x y q A B (suc zero) j = B
-      same x y q A B (suc (suc a)) j = absurd (omega arith)
+  -- with the words w: a choice past the first x actions is at action c, with the sum s
+  abbrev pub Led : List ℕ → (c s x : ℕ) → Type 0
+  Led w c s x = (S : Scene i h b k) → Noted (S .stage) old → (y : Key) → Known (S .stage) i y n → e ≡ firstEntry (S .stage .tree) i y → S .stage .levels i y ≤ d
+      → Noted (S .stage) w × (x ≤ n) × Passed (behindAction S y) c s x
 
-  -- of three
-  pub chosen-three : (u v w new : List ℕ) (x y z c : ℕ) → Totalled i d h b k e 0 old u x → Totalled i d h b k e 1 u v y → Totalled i d h b k e 2 v w z → n ≡ 3
-      → c ≡ topmost (λ a. getD (x ∷ y ∷ z ∷ []) a 0) 2 → new ≡ set w (k + e) (c + 1) → Chosen i d h b k e n old new c
-  chosen-three u v w new x y z c s t r three q o S m key g l f =
-      let two : pred n ≡ 2 = omega (arith, three) in
-      let A : Noted (S .stage) u × (x ≡ behindAction S key 0) = s S m key n g l f (omega (arith, three)) in
-      let B : Noted (S .stage) v × (y ≡ behindAction S key 1) = t S (A .0) key n g l f (omega (arith, three)) in
-      let C : Noted (S .stage) w × (z ≡ behindAction S key 2) = r S (B .0) key n g l f (omega (arith, three)) in
-      let top : c ≡ S .stage .choice key = q ∙ topmost-same (λ a. getD (x ∷ y ∷ z ∷ []) a 0) (behindAction S key) 2 (same x y z (behindAction S key) (A .1) (B .1) (C .1)) ∙ ap (topmost (behindAction S key)) (sym two)
-      ∙ sym (known-of (S .stage) (λ j y n. j ≡ i → S .stage .choice y ≡ topmost (behindAction S y) (pred n)) (S .decided) i key n g refl) in
-      (Noting.noted-more (S .stage) w (C .0) key n g e l new c top o, top)
-    where
-      same : (x y z : ℕ) (q : ℕ → ℕ) → x ≡ q 0 → y ≡ q 1 → z ≡ q 2 → (a : ℕ) → a ≤ 2 → getD (x ∷ y ∷ z ∷ []) a 0 ≡ q a
-      same x y z q A B C zero j = A
-      same x y z q A B C (suc zero) j = B
-      same x y z q A B C (suc (suc zero)) j = C
-      same x y z q A B C (suc (suc (suc a))) j = absurd (omega arith)
+  pub led-start : (c s : ℕ) → c ≡ 0 → s ≡ 0 → Led old c s 0
+  unfolding Passed
+  led-start c s p q S m y g l f = (m, omega arith, (p, q))
+
+  pub led-more : (w new : List ℕ) (c s x v a r : ℕ) → Led w c s x → x < n → Totalled i d h b k e x w new v → a ≡ cond (ltb s v) x c → r ≡ cond (ltb s v) v s → Led new a r (x + 1)
+  led-more w new c s x v a r before more t p q S m y g l f =
+      let A = before S m y g l f in
+      let B : Noted (S .stage) new × (v ≡ behindAction S y x) = t S (A .0) y n g l f more in
+      let next : suc x ≡ x + 1 = omega arith in
+      (B .0, omega (arith, more), subst (Passed (behindAction S y) a r) next (passed-more (behindAction S y) c s x v a r (A .2) (B .1) p q))
+
+  -- past all actions it is the set's choice
+  pub led-end : (w new : List ℕ) (c s x : ℕ) → Led w c s x → n ≤ x → new ≡ set w (k + e) (c + 1) → Chosen i d h b k e n old new c
+  unfolding Passed
+  led-end w new c s x before none o S m y g l f =
+      let A = before S m y g l f in
+      let few : (2 ≤ n) × (n ≤ 3) = known-of (S .stage) (λ j y n. (2 ≤ n) × (n ≤ 3)) (S .stage .few) i y n g in
+      let all : x ≡ suc (pred n) = omega (arith, A .1, none, few .0) in
+      let past : Passed (behindAction S y) c s (suc (pred n)) = subst (Passed (behindAction S y) c s) all (A .2) in
+      let top : c ≡ S .stage .choice y = past .0 ∙ sym (known-of (S .stage) (λ j y n. j ≡ i → S .stage .choice y ≡ topmost (behindAction S y) (pred n)) (S .decided) i y n g refl) in
+      (Noting.noted-more (S .stage) w (A .0) y n g e l new c top o, top)
 
 -- ---- the members one after the other
 module _ {i h b k : ℕ} (S : Scene i h b k) (y : Key) (a : ℕ) where

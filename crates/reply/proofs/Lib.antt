@@ -2,4 +2,3 @@
 pub mod Scenes
 pub mod Valuing
 pub mod Choosing
-pub mod Picking

@@ -1,7 +1,7 @@
 -- The value of a node from those of its children. Assumes nothing.
 use mathlib.Core.Path.{_≡_, refl, sym, ap, _∙_, subst}
 use mathlib.Core.Bool.{Bool, true, false, cond}
-use mathlib.Core.List.{List, [], _∷_}
+use mathlib.Core.List.{List}
 use Prim.Native.Nat.{ℕ, zero, suc, pred, _+_, _-_, _*_, _/_, _%_, _^_, _≤_, _<_}
 use native.Mathlib.Nat as NatL
 use native.Mathlib.Omega.{arith}
@@ -140,7 +140,7 @@ module _ (i d h b k a z : ℕ) (old : List ℕ) where
           absurd (omega (arith, row-rest (descent S) new (G .0) lev c g x t u B p q .0, y, size-some t))
 
 -- ---- the lowest of the greatest
-pub topmost-few : (q : ℕ → ℕ) (n : ℕ) → topmost q n ≤ n
+topmost-few : (q : ℕ → ℕ) (n : ℕ) → topmost q n ≤ n
 unfolding topmost
 topmost-few q zero = NatL.le-refl 0
 topmost-few q (suc n) = at (ltb (q (topmost q n)) (q (suc n))) (topmost-few q n)
@@ -187,9 +187,3 @@ own-is i d h b k a x old mid new c at r p q v S m y u z f le e n g =
 -- ---- numbers in range
 pub walk-at : (a i d h b k : ℕ) → Walkable a i d h b k → (c e : ℕ) → e ≤ d → c + e < 8388608 → Walkable c i e h b k
 walk-at a i d h b k w c e l m = record { place = m; seat = w .seat; shallow = omega (arith, w .shallow); heads = w .heads; units = w .units; kept = w .kept }
-
-pub two-few : (x y : ℕ) → topmost (λ a. getD (x ∷ y ∷ []) a 0) 1 ≤ 1
-two-few x y = topmost-few (λ a. getD (x ∷ y ∷ []) a 0) 1
-
-pub three-few : (x y z : ℕ) → topmost (λ a. getD (x ∷ y ∷ z ∷ []) a 0) 2 ≤ 2
-three-few x y z = topmost-few (λ a. getD (x ∷ y ∷ z ∷ []) a 0) 2

@@ -1,8 +1,6 @@
 // Value and choice call each other: the value of an own node asks its set's choice, and a choice asks the values below all members of its set, which lie deeper.
 // A choice is kept in work memory once it is found. From place heads on stands the first member of each set, from place units on the units of each node, and
 // from place kept on, by a set's first entry, its choice + 1, or 0.
-use crate::pick::of_three;
-use crate::pick::of_two;
 use arena::payoffs::lifted;
 use arena::walk::behind;
 use arena::words::DECISION;
@@ -15,6 +13,8 @@ use arena::words::next;
 use arena::words::put;
 use arena::words::set;
 use arena::words::word;
+use pick::topmost::past;
+use pick::topmost::start;
 use std::num::wrapping_add_u64;
 use units::UNITS;
 use walks::child;
@@ -147,17 +147,15 @@ pub fn choose(
     if known != 0 {
         return known as usize - 1;
     }
-    let zero = total(w, first, 0, seat, depth, heads, units, kept);
-    let one = total(w, first, 1, seat, depth, heads, units, kept);
-    if count != 3 {
-        let choice = of_two(zero, one);
-        put(w, kept + first, choice as u64 + 1);
-        return choice;
+    let mut top = start();
+    let mut action = 0;
+    while action < count {
+        let sum = total(w, first, action, seat, depth, heads, units, kept);
+        top = past(top, action, sum);
+        action += 1;
     }
-    let two = total(w, first, 2, seat, depth, heads, units, kept);
-    let choice = of_three(zero, one, two);
-    put(w, kept + first, choice as u64 + 1);
-    choice
+    put(w, kept + first, top.action as u64 + 1);
+    top.action
 }
 
 // The sum over the set's members of the values behind an action.

@@ -1,19 +1,16 @@
 -- The choice of a set from the sums over its members. Assumes nothing.
-use mathlib.Core.Path.{_≡_, refl, sym, ap, ap₂, _∙_, subst}
-use mathlib.Core.Bool.{Bool, true, false, cond}
-use mathlib.Core.List.{List, [], _∷_, _++_, map}
-use Prim.Native.Nat.{ℕ, zero, suc, _+_, _-_, _%_, _≤_, _<_}
-use native.Mathlib.Nat as NatL
+use mathlib.Core.Path.{_≡_, refl, sym, ap, _∙_}
+use mathlib.Core.Bool.{true, cond}
+use mathlib.Core.List.{List, [], _∷_, map}
+use Prim.Native.Nat.{ℕ, suc, _+_, _-_, _%_, _≤_, _<_}
 use native.Mathlib.Omega.{arith}
-use lib.Dec.{eqb}
-use lib.Ieee.{Float, nan, binary64, ofBits}
+use lib.Ieee.{Float, inf, binary64, ofBits, lt}
 use lib.ListN.{getD, set}
-use borrow.Author.Tests.{eq-eqb}
-use Rattle.game.specs.Tree.{Key, Tree, end, chance, decide, Trees, nil, cons, fan}
+use Rattle.game.specs.Tree.{Key, Tree, chance, decide, Trees, cons, fan}
 use Rattle.game.specs.Sets.{size, firstEntry}
 use Rattle.arena.specs.Words.{laterOf}
 use Rattle.arena.specs.Index.{firstOf}
-use Rattle.profiles.specs.Values.{Profile, one, nought, plus, times, weight, picked, passed, lead, summed, setSum}
+use Rattle.profiles.specs.Values.{one, nought, plus, times, weight, picked, passed, lead, summed, setSum}
 use Rattle.walks.specs.Child.{nth, Child}
 use Rattle.walks.specs.Stage.{Known, Noted, Stands, StandsAll}
 use Rattle.walks.specs.Found.{Member, found}
@@ -24,49 +21,43 @@ use Rattle.walks.proofs.Descending.{Descent}
 use Rattle.walks.proofs.Remaining.{Remaining, remaining-start, remaining-more, remaining-child, remaining-none, remaining-some, remaining-rises}
 use Rattle.reach.specs.Reached.{Marked, MarkedAll}
 use Rattle.reach.proofs.Members.{dealt, reached, reached-found}
-use Rattle.response.specs.Valued.{Scene, entries, own, gained, behindAction, Gained, Chosen, Totalled}
-use Rattle.response.proofs.Picking.{lead-same}
+use Rattle.response.specs.Valued.{Scene, entries, own, behindAction, Gained, Chosen, Totalled}
+use Rattle.profiles.proofs.Leading.{past-action, past-sum}
 use Rattle.response.proofs.Valuing.{picked-nth}
 
+-- ---- a choice on its way through the actions
 module _ (P : List Float) (i d h b k e n : ℕ) (old : List ℕ) where
   -- a choice that was found before
   pub chosen-known : (v r : ℕ) → v ≡ getD old (k + e) 0 → (v ≡ 0 → ⊥) → r ≡ v - 1 → Chosen P i d h b k e n old old r
   chosen-known v r q z p S m y g l x = (m, noting.chosen-known (S .stage) old m y n g e l v r q z p)
 
-  -- by the sums behind all actions
-  chosen-by : (S : Scene P i h b k) (w new : List ℕ) → Noted (S .stage) w → (y : Key) → Known (S .stage) i y n → e ≡ firstEntry (S .stage .tree) i y → (q : ℕ → Float) (c : ℕ)
-      → ((a : ℕ) → a < n → q a ≡ behindAction S y a) → c ≡ lead q n .0 → new ≡ set w (k + e) (c + 1) → Noted (S .stage) new × (c ≡ S .stage .choice y)
-  chosen-by S w new m y g l q c s p o =
-      let top : c ≡ S .stage .choice y = p ∙ ap (λ x. x .0) (lead-same q (behindAction S y) n s) ∙ sym (known-of (S .stage) (λ j y n. j ≡ i → S .stage .choice y ≡ lead (behindAction S y) n .0) (S .decided) i y n g refl) in
-      (noting.noted-more (S .stage) w m y n g e l new c top o, top)
+  -- with the words w: a choice past the first x actions is at action c, with the sum s
+  abbrev pub Led : List ℕ → (c : ℕ) → Float → (x : ℕ) → Type 0
+  Led w c s x = (S : Scene P i h b k) → Noted (S .stage) old → (y : Key) → Known (S .stage) i y n → e ≡ firstEntry (S .stage .tree) i y → S .stage .levels i y ≤ d
+      → Noted (S .stage) w × (x ≤ n) × (c ≡ lead (behindAction S y) x .0) × (s ≡ lead (behindAction S y) x .1)
 
-  pub chosen-two : (u v new : List ℕ) (x y : Float) (c : ℕ) → Totalled P i d h b k e 0 old u x → Totalled P i d h b k e 1 u v y → (n ≡ 3 → ⊥) → c ≡ lead (λ a. getD (x ∷ y ∷ []) a nan) 2 .0
-      → new ≡ set v (k + e) (c + 1) → Chosen P i d h b k e n old new c
-  chosen-two u v new x y c s t z q o S m key g l w =
-      let few : (2 ≤ n) × (n ≤ 3) = known-of (S .stage) (λ j y n. (2 ≤ n) × (n ≤ 3)) (S .stage .few) i key n g in
-      let two : n ≡ 2 = omega (arith, few, z) in
-      let A : Noted (S .stage) u × (x ≡ behindAction S key 0) = s S m key n g l w (omega (arith, two)) in
-      let B : Noted (S .stage) v × (y ≡ behindAction S key 1) = t S (A .0) key n g l w (omega (arith, two)) in
-      chosen-by S v new (B .0) key g l (λ a. getD (x ∷ y ∷ []) a nan) c (λ a f. same (behindAction S key) (A .1) (B .1) a (omega (arith, f, two))) (q ∙ ap (λ a. lead (λ a. getD (x ∷ y ∷ []) a nan) a .0) (sym two)) o
-    where
-      same : (q : ℕ → Float) → x ≡ q 0 → y ≡ q 1 → (a : ℕ) → a < 2 → getD (x ∷ y ∷ []) a nan ≡ q a
-      same q A B zero j = A
-      same q A B (suc zero) j = B
-      same q A B (suc (suc a)) j = absurd (omega arith)
+  pub led-start : (c : ℕ) (s : Float) → c ≡ 0 → s ≡ inf true → Led old c s 0
+  unfolding lead
+  led-start c s p q S m y g l f = (m, omega arith, p, q)
 
-  pub chosen-three : (u v w new : List ℕ) (x y z : Float) (c : ℕ) → Totalled P i d h b k e 0 old u x → Totalled P i d h b k e 1 u v y → Totalled P i d h b k e 2 v w z → n ≡ 3
-      → c ≡ lead (λ a. getD (x ∷ y ∷ z ∷ []) a nan) 3 .0 → new ≡ set w (k + e) (c + 1) → Chosen P i d h b k e n old new c
-  chosen-three u v w new x y z c s t r three q o S m key g l f =
-      let A : Noted (S .stage) u × (x ≡ behindAction S key 0) = s S m key n g l f (omega (arith, three)) in
-      let B : Noted (S .stage) v × (y ≡ behindAction S key 1) = t S (A .0) key n g l f (omega (arith, three)) in
-      let C : Noted (S .stage) w × (z ≡ behindAction S key 2) = r S (B .0) key n g l f (omega (arith, three)) in
-      chosen-by S w new (C .0) key g l (λ a. getD (x ∷ y ∷ z ∷ []) a nan) c (λ a j. same (behindAction S key) (A .1) (B .1) (C .1) a (omega (arith, j, three))) (q ∙ ap (λ a. lead (λ a. getD (x ∷ y ∷ z ∷ []) a nan) a .0) (sym three)) o
-    where
-      same : (q : ℕ → Float) → x ≡ q 0 → y ≡ q 1 → z ≡ q 2 → (a : ℕ) → a < 3 → getD (x ∷ y ∷ z ∷ []) a nan ≡ q a
-      same q A B C zero j = A
-      same q A B C (suc zero) j = B
-      same q A B C (suc (suc zero)) j = C
-      same q A B C (suc (suc (suc a))) j = absurd (omega arith)
+  pub led-more : (w new : List ℕ) (c : ℕ) (s : Float) (x : ℕ) (v : Float) (a : ℕ) (r : Float) → Led w c s x → x < n → Totalled P i d h b k e x w new v → a ≡ cond (lt s v) x c → r ≡ cond (lt s v) v s → Led new a r (x + 1)
+  led-more w new c s x v a r before more t p q S m y g l f =
+      let A = before S m y g l f in
+      let B : Noted (S .stage) new × (v ≡ behindAction S y x) = t S (A .0) y n g l f more in
+      let next : suc x ≡ x + 1 = omega arith in (
+        B .0,
+        omega (arith, more),
+        past-action (behindAction S y) x c s v (A .2) (A .3) (B .1) a p ∙ ap (λ z. lead (behindAction S y) z .0) next,
+        past-sum (behindAction S y) x c s v (A .2) (A .3) (B .1) r q ∙ ap (λ z. lead (behindAction S y) z .1) next,
+      )
+
+  -- past all actions it is the set's choice
+  pub led-end : (w new : List ℕ) (c : ℕ) (s : Float) (x : ℕ) → Led w c s x → n ≤ x → new ≡ set w (k + e) (c + 1) → Chosen P i d h b k e n old new c
+  led-end w new c s x before none o S m y g l f =
+      let A = before S m y g l f in
+      let all : x ≡ n = omega (arith, A .1, none) in
+      let top : c ≡ S .stage .choice y = A .2 ∙ ap (λ z. lead (behindAction S y) z .0) all ∙ sym (known-of (S .stage) (λ j y n. j ≡ i → S .stage .choice y ≡ lead (behindAction S y) n .0) (S .decided) i y n g refl) in
+      (noting.noted-more (S .stage) w (A .0) y n g e l new c top o, top)
 
 -- ---- the way down with reaches
 module _ {P : List Float} {i h b k : ℕ} (S : Scene P i h b k) where

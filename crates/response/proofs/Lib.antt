@@ -1,4 +1,3 @@
 -- Lemmas on value and choice in f64 over a stored tree.
-pub mod Picking
 pub mod Valuing
 pub mod Choosing

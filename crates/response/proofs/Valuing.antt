@@ -1,6 +1,6 @@
 -- The value of a node from what its children give. Assumes nothing.
 use mathlib.Core.Path.{_≡_, refl, sym, ap, _∙_, subst}
-use mathlib.Core.Bool.{Bool, cond}
+use mathlib.Core.Bool.{cond}
 use mathlib.Core.List.{List}
 use Prim.Native.Nat.{ℕ, zero, suc, pred, _+_, _-_, _≤_, _<_}
 use native.Mathlib.Nat as NatL
@@ -10,19 +10,19 @@ use lib.ListN.{length, getD, take, drop}
 use borrow.Author.Tests.{eq-eqb, ne-eqb}
 use Rattle.game.specs.Tree.{Key, Tree, end, chance, decide, Trees, nil, cons, fan, Every}
 use Rattle.game.specs.Sets.{Levels, size, sizes, firstEntry}
-use Rattle.arena.specs.Words.{END, CHANCE, DECISION, kindOf, actorOf, actionsOf, setOf, nextOf, payoffOf}
+use Rattle.arena.specs.Words.{END, CHANCE, kindOf, actorOf, actionsOf, setOf, nextOf, payoffOf}
 use Rattle.arena.specs.Held.{Says, Held}
 use Rattle.arena.specs.Index.{laterIn}
 use Rattle.arena.specs.Walk.{Behind, Fan}
 use Rattle.arena.proofs.Building.{size-some, fan-few}
 use Rattle.profiles.specs.Values.{profileOf, nought, plus, times, weight, edge, value, picked, lead}
-use Rattle.finite.proofs.Parts.{part-at}
+use Rattle.finite.proofs.Parts.{part-length, part-at}
 use Rattle.walks.specs.Child.{nth, Child}
 use Rattle.walks.specs.Stage.{Stage, Known, Noted, Stands, StandsAll}
 use Rattle.walks.proofs.Standing.{levels-some, kids-chance, kids-decide, first, rest, known-of, seen, held-in, held-in-all}
 use Rattle.walks.proofs.Descending.{Descent, child-at}
 use Rattle.response.specs.Valued.{Walkable, Scene, entries, own, valued, gained, addedUp, behindAction, Valued, Gained, Dealt, Split, ValuedOwn, Chosen}
-use Rattle.response.proofs.Picking.{lead-few}
+use Rattle.profiles.proofs.Leading.{lead-few}
 
 -- ---- a node by its word
 module _ (P : List Float) (i d h b k a : ℕ) (old : List ℕ) where
@@ -89,6 +89,11 @@ module _ (P : List Float) (i d h b k a : ℕ) (old : List ℕ) where
               (v S m n (pred y) f (omega arith) (ap setOf (says S m (decide i n f) y o) ∙ o .held .0 .3) (ap actionsOf (says S m (decide i n f) y o) ∙ o .held .0 .2) (subst (λ w. Stands (S .stage) w a (decide i n f)) p o))
 
 -- ---- the children of a chance node, one after the other
+-- where the next child stands
+behind-is : {P : List Float} {i h b k : ℕ} (S : Scene P i h b k) (w : List ℕ) → Noted (S .stage) w → (lev c p : ℕ) (t : Tree) (u : Trees) → StandsAll (S .stage) lev c (cons t u) → Behind w c p → p ≡ c + size t
+behind-is S w m lev c p t u B q = let o = first (S .stage) lev c t u B in
+    q .place (S .stage .seats) (firstEntry (S .stage .tree)) (laterIn (S .stage .tree)) t (held-in (S .stage) w m lev c t o) (omega (arith, o .room, S .stage .room))
+
 module _ (P : List Float) (i d h b k a z : ℕ) (old : List ℕ) (each : Float) where
   -- place c is reached with the words w: a row is to come, and its sum from here on is the sum of all
   abbrev pub Along : List ℕ → ℕ → Float → Type 0
@@ -103,10 +108,6 @@ module _ (P : List Float) (i d h b k a z : ℕ) (old : List ℕ) (each : Float) 
 
       few : count < 4294967296
       few = omega (arith, is, fan-few f, r .room, S .stage .room)
-
-  behind-is : (S : Scene P i h b k) (w : List ℕ) → Noted (S .stage) w → (lev c p : ℕ) (t : Tree) (u : Trees) → StandsAll (S .stage) lev c (cons t u) → Behind w c p → p ≡ c + size t
-  behind-is S w m lev c p t u B q = let o = first (S .stage) lev c t u B in
-      q .place (S .stage .seats) (firstEntry (S .stage .tree)) (laterIn (S .stage .tree)) t (held-in (S .stage) w m lev c t o) (omega (arith, o .room, S .stage .room))
 
   pub along-more : (w new : List ℕ) (c : ℕ) (sum g s : Float) (p : ℕ) → Along w c sum → c < z → Gained P i d h b k c w new g → s ≡ plus sum (times each g) → Behind new c p → Along new p s
   unfolding size value
@@ -142,60 +143,64 @@ module _ (P : List Float) (i d h b k a z : ℕ) (old : List ℕ) (each : Float) 
           let Q : p ≡ c + size t = behind-is S new (G .0) lev c p t u B q in
           absurd (omega (arith, Q, y, size-some t))
 
--- ---- the children of another seat's decision: two or three, with the set's own part of the profile
+-- ---- the children of another seat's decision, with the set's own part of the profile
 module _ (P : List Float) (i d h b k a x : ℕ) (old : List ℕ) where
-  pub split-few : (r : Float) → actionsOf x < 2 → Split P i d h b k a x old old r
-  split-few r l S m j y f lev le e n g o = absurd (omega (arith, l, n, known-of (S .stage) (λ j y n. (2 ≤ n) × (n ≤ 3)) (S .stage .few) j y (fan f) g .0))
-
   pub split-short : (r : Float) → length P < setOf x + actionsOf x → Split P i d h b k a x old old r
   split-short r l S m j y f lev le e n g o = absurd (omega (arith, l, e, n, known-of (S .stage) (λ j y n. firstEntry (S .stage .tree) j y + n ≤ length P) (S .inside) j y (fan f) g))
 
+  -- place c is reached with the words w: the children from number v on are to come, and their sum from here on is the sum of all
+  abbrev pub Halfway : List ℕ → (c v : ℕ) → Float → Type 0
+  Halfway w c v sum = (S : Scene P i h b k) → Noted (S .stage) old → (j : ℕ) (y : Key) (f : Trees) (lev : ℕ) → lev ≤ d → setOf x ≡ firstEntry (S .stage .tree) j y → actionsOf x ≡ fan f
+      → Known (S .stage) j y (fan f) → StandsAll (S .stage) lev a f
+      → Noted (S .stage) w × (u : Trees) × StandsAll (S .stage) lev c u × (fan f ≡ v + fan u) × (addedUp S (entries S j y) 0 nought f ≡ addedUp S (entries S j y) v sum u)
+
+  pub halfway-start : Halfway old a 0 nought
+  halfway-start S m j y f lev le e n g r = (m, f, r, omega arith, refl)
+
   module _ (e₀ n₀ : ℕ) (is-first : e₀ ≡ setOf x) (is-count : n₀ ≡ actionsOf x) (room : e₀ + n₀ ≤ length P) where
-    -- the entries of the part are the set's
     abbrev pub part : List Float
     part = take (e₀ + n₀ - e₀) (drop e₀ P)
 
+    part-count : length part ≡ actionsOf x
+    part-count = part-length P e₀ (e₀ + n₀) room ∙ omega (arith, is-count)
+
+    -- the entries of the part are the set's
     part-is : (S : Scene P i h b k) (j : ℕ) (y : Key) → setOf x ≡ firstEntry (S .stage .tree) j y → (c : ℕ) → c < actionsOf x → getD part c nan ≡ entries S j y c
     unfolding profileOf
     part-is S j y e c l = part-at P e₀ (e₀ + n₀) c nan (omega (arith, is-count)) ∙ ap (λ n. getD P (n + c) nan) (is-first ∙ e)
 
-    module _ (u v : List ℕ) (g₀ g₁ s₀ s₁ : Float) (p : ℕ) (G : Gained P i d h b k a old u g₀) (B : Behind u a p) (H : Gained P i d h b k p u v g₁)
-        (q₀ : s₀ ≡ plus nought (times (getD part 0 nan) g₀)) (q₁ : s₁ ≡ plus s₀ (times (getD part 1 nan) g₁)) where
-      -- after the first two: the third is next, if there is one
-      both : (S : Scene P i h b k) → Noted (S .stage) old → (j : ℕ) (y : Key) (t₀ t₁ : Tree) (f : Trees) (lev : ℕ) → lev ≤ d → setOf x ≡ firstEntry (S .stage .tree) j y → 2 ≤ actionsOf x
-          → StandsAll (S .stage) lev a (cons t₀ (cons t₁ f))
-          → Noted (S .stage) v × StandsAll (S .stage) lev p (cons t₁ f) × (addedUp S (entries S j y) 0 nought (cons t₀ (cons t₁ f)) ≡ addedUp S (entries S j y) 2 s₁ f)
-      unfolding value
-      both S m j y t₀ t₁ f lev le e n r =
-          let A = G S m t₀ lev le (first (S .stage) lev a t₀ (cons t₁ f) r) in
-          let Q : p ≡ a + size t₀ = behind-is P i d h b k a (a + sizes (cons t₀ (cons t₁ f))) old nought S u (A .0) lev a p t₀ (cons t₁ f) r B in
-          let R : StandsAll (S .stage) lev p (cons t₁ f) = subst (λ w. StandsAll (S .stage) lev w (cons t₁ f)) (sym Q) (rest (S .stage) lev a t₀ (cons t₁ f) r) in
-          let C = H S (A .0) t₁ lev le (first (S .stage) lev p t₁ f R) in
-          let E₀ : s₀ ≡ plus nought (times (entries S j y 0) (gained S t₀)) = q₀ ∙ ap (λ w. plus nought (times w g₀)) (part-is S j y e 0 (omega arith)) ∙ ap (λ w. plus nought (times (entries S j y 0) w)) (A .1) in
-          let E₁ : s₁ ≡ plus s₀ (times (entries S j y 1) (gained S t₁)) = q₁ ∙ ap (λ w. plus s₀ (times w g₁)) (part-is S j y e 1 (omega arith)) ∙ ap (λ w. plus s₀ (times (entries S j y 1) w)) (C .1) in
-          (C .0, R, ap (λ w. addedUp S (entries S j y) 2 w f) (sym (E₁ ∙ ap (λ w. plus w (times (entries S j y 1) (gained S t₁))) E₀)))
+    pub halfway-more : (w new : List ℕ) (c v : ℕ) (sum g s : Float) (p : ℕ) → Halfway w c v sum → v < length part → Gained P i d h b k c w new g → s ≡ plus sum (times (getD part v nan) g) → Behind new c p → Halfway new p (v + 1) s
+    unfolding fan value
+    halfway-more w new c v sum g s p before more o q next S m j y f lev le e n known r = at (before S m j y f lev le e n known r)
+      where
+        few : v < actionsOf x
+        few = omega (arith, more, part-count)
 
-      pub split-two : actionsOf x ≡ 2 → Split P i d h b k a x old v s₁
-      unfolding fan value
-      split-two z S m j y nil lev le e n g r = absurd (omega arith)
-      split-two z S m j y (cons t₀ nil) lev le e n g r = absurd (omega arith)
-      split-two z S m j y (cons t₀ (cons t₁ nil)) lev le e n g r = let A = both S m j y t₀ t₁ nil lev le e (omega arith) r in (A .0, sym (A .2))
-      split-two z S m j y (cons t₀ (cons t₁ (cons t₂ f))) lev le e n g r = absurd (omega arith)
+        one : suc v ≡ v + 1
+        one = omega arith
 
-      pub split-three : (o : List ℕ) (g₂ s₂ : Float) (q : ℕ) → Behind v p q → Gained P i d h b k q v o g₂ → s₂ ≡ plus s₁ (times (getD part 2 nan) g₂) → (actionsOf x < 2 → ⊥) → (actionsOf x ≡ 2 → ⊥)
-          → Split P i d h b k a x old o s₂
-      unfolding fan value
-      split-three o g₂ s₂ q D K e₂ few two S m j y nil lev le e n g r = absurd (few (omega arith))
-      split-three o g₂ s₂ q D K e₂ few two S m j y (cons t₀ nil) lev le e n g r = absurd (few (omega arith))
-      split-three o g₂ s₂ q D K e₂ few two S m j y (cons t₀ (cons t₁ nil)) lev le e n g r = absurd (two (omega arith))
-      split-three o g₂ s₂ q D K e₂ few two S m j y (cons t₀ (cons t₁ (cons t₂ nil))) lev le e n g r =
-          let A = both S m j y t₀ t₁ (cons t₂ nil) lev le e (omega arith) r in
-          let Q : q ≡ p + size t₁ = behind-is P i d h b k a a old nought S v (A .0) lev p q t₁ (cons t₂ nil) (A .1) D in
-          let R : StandsAll (S .stage) lev q (cons t₂ nil) = subst (λ w. StandsAll (S .stage) lev w (cons t₂ nil)) (sym Q) (rest (S .stage) lev p t₁ (cons t₂ nil) (A .1)) in
-          let C = K S (A .0) t₂ lev le (first (S .stage) lev q t₂ nil R) in
-          (C .0, e₂ ∙ ap (λ w. plus s₁ (times w g₂)) (part-is S j y e 2 (omega arith)) ∙ ap (λ w. plus s₁ (times (entries S j y 2) w)) (C .1) ∙ sym (A .2))
-      split-three o g₂ s₂ q D K e₂ few two S m j y (cons t₀ (cons t₁ (cons t₂ (cons t₃ f)))) lev le e n g r =
-          absurd (omega (arith, known-of (S .stage) (λ j y n. (2 ≤ n) × (n ≤ 3)) (S .stage .few) j y (fan (cons t₀ (cons t₁ (cons t₂ (cons t₃ f))))) g .1))
+        at : Noted (S .stage) w × (u : Trees) × StandsAll (S .stage) lev c u × (fan f ≡ v + fan u) × (addedUp S (entries S j y) 0 nought f ≡ addedUp S (entries S j y) v sum u)
+            → Noted (S .stage) new × (u : Trees) × StandsAll (S .stage) lev p u × (fan f ≡ v + 1 + fan u) × (addedUp S (entries S j y) 0 nought f ≡ addedUp S (entries S j y) (v + 1) s u)
+        at (A, nil, B, C, E) = absurd (omega (arith, few, n, C))
+        at (A, cons t u, B, C, E) =
+            let G = o S A t lev le (first (S .stage) lev c t u B) in
+            let Q : p ≡ c + size t = behind-is S new (G .0) lev c p t u B next in
+            let more : s ≡ plus sum (times (entries S j y v) (gained S t)) = q ∙ ap (λ z. plus sum (times z g)) (part-is S j y e v few) ∙ ap (λ z. plus sum (times (entries S j y v) z)) (G .1) in (
+              G .0,
+              u,
+              subst (λ z. StandsAll (S .stage) lev z u) (sym Q) (rest (S .stage) lev c t u B),
+              omega (arith, C),
+              E ∙ ap (λ z. addedUp S (entries S j y) (suc v) z u) (sym more) ∙ ap (λ z. addedUp S (entries S j y) z s u) one,
+            )
+
+    pub halfway-end : (w : List ℕ) (c v : ℕ) (sum : Float) → Halfway w c v sum → length part ≤ v → Split P i d h b k a x old w sum
+    unfolding fan value
+    halfway-end w c v sum before none S m j y f lev le e n known r = at (before S m j y f lev le e n known r)
+      where
+        at : Noted (S .stage) w × (u : Trees) × StandsAll (S .stage) lev c u × (fan f ≡ v + fan u) × (addedUp S (entries S j y) 0 nought f ≡ addedUp S (entries S j y) v sum u)
+            → Noted (S .stage) w × (sum ≡ addedUp S (entries S j y) 0 nought f)
+        at (A, nil, B, C, E) = (A, sym E)
+        at (A, cons t u, B, C, E) = absurd (omega (arith, none, part-count, n, C))
 
 -- ---- an own node
 -- what stands goes down to the children

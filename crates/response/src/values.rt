@@ -1,8 +1,6 @@
 // Value and choice call each other: the value of an own node asks its set's choice, and a choice asks the values below all members of its set, which lie deeper.
 // A choice is kept in work memory once it is found. From place heads on stands the first member of each set, from place reach on the reach of the seat's own
 // nodes, and from place kept on, by a set's first entry, its choice + 1, or 0.
-use crate::pick::of_three;
-use crate::pick::of_two;
 use arena::walk::behind;
 use arena::walk::fan;
 use arena::words::CHANCE;
@@ -15,10 +13,12 @@ use arena::words::next;
 use arena::words::put;
 use arena::words::set;
 use arena::words::word;
-use floats::float_at;
 use floats::payoff_of;
+use floats::reached;
 use floats::weighed;
 use floats::weight;
+use pick::leading::past;
+use pick::leading::start;
 use walks::child;
 ghost use Prim.Native.Nat.{_+_};
 ghost use Rattle.response.specs.Valued.{Walkable, Valued, Gained, Dealt, Split, ValuedOwn, Totalled, Chosen};
@@ -131,25 +131,21 @@ fn split(
     ensures { λ r. ⌜ Split (now (profile .entry)) seat depth heads reach kept a x (now (w .entry)) (now (w .exit)) r ⌝ }
 {
     let first = set(x);
-    let count = actions(x);
-    let end = first + count;
-    if count < 2 {
-        return 0.0;
-    }
+    let end = first + actions(x);
     if profile.len() < end {
         return 0.0;
     }
-    let zero = gain(w, profile, a, seat, depth, heads, reach, kept);
-    let front = weighed(&profile[first..end], 0, 0.0, zero);
-    let second = behind(w, a);
-    let one = gain(w, profile, second, seat, depth, heads, reach, kept);
-    let both = weighed(&profile[first..end], 1, front, one);
-    if count == 2 {
-        return both;
+    let part = &profile[first..end];
+    let mut sum = 0.0;
+    let mut at = a;
+    let mut action = 0;
+    while action < part.len() {
+        let g = gain(w, profile, at, seat, depth, heads, reach, kept);
+        sum = weighed(part, action, sum, g);
+        at = behind(w, at);
+        action += 1;
     }
-    let third = behind(w, second);
-    let two = gain(w, profile, third, seat, depth, heads, reach, kept);
-    weighed(&profile[first..end], 2, both, two)
+    sum
 }
 
 // The value of an own node at place a with word x: what its child gives, at the set's choice.
@@ -201,17 +197,15 @@ fn choose(
     if known != 0 {
         return known as usize - 1;
     }
-    let zero = total(w, profile, first, 0, seat, depth, heads, reach, kept);
-    let one = total(w, profile, first, 1, seat, depth, heads, reach, kept);
-    if count != 3 {
-        let choice = of_two(zero, one);
-        put(w, kept + first, choice as u64 + 1);
-        return choice;
+    let mut lead = start();
+    let mut action = 0;
+    while action < count {
+        let sum = total(w, profile, first, action, seat, depth, heads, reach, kept);
+        lead = past(lead, action, sum);
+        action += 1;
     }
-    let two = total(w, profile, first, 2, seat, depth, heads, reach, kept);
-    let choice = of_three(zero, one, two);
-    put(w, kept + first, choice as u64 + 1);
-    choice
+    put(w, kept + first, lead.action as u64 + 1);
+    lead.action
 }
 
 // The sum over the set's members, in their order, of reach × what the child behind an action gives.
@@ -234,7 +228,7 @@ fn total(
     while 0 < at {
         let place = child(w, at, action);
         let g = gain(w, profile, place, seat, depth, heads, reach, kept);
-        sum = sum + float_at(w, reach + at) * g;
+        sum = reached(w, reach + at, sum, g);
         let next = later(word(w, at));
         if next <= at {
             return sum;

@@ -1,18 +1,18 @@
 -- Value and choice, which call each other: the remaining depth falls. Assumes nothing.
-use lib.ListN.{length}
-use Rattle.reply.specs.Valued.{Chosen, ValuedAll}
-use denote.Ref.{now}
 use mathlib.Core.Path.{_≡_, refl, sym, ap, _∙_, subst}
-use Prim.Native.Nat.{_%_, _+_, _*_, _-_, ℕ, _<_}
-use Rattle.arena.specs.Words.{laterOf, actionsOf}
+use Prim.Native.Nat.{ℕ, _+_, _-_, _*_, _%_, _≤_, _<_}
 use native.Mathlib.Omega.{arith}
+use lib.Dec.{ltb}
+use lib.ListN.{length}
+use denote.Ref.{now}
 use borrow.Author.Needs.{needs}
-use borrow.Fn.Kinds.{In}
-use borrow.Fn.PlainCycle.{Measures, is, falls, and}
-use Rattle.reply.proofs.values.+below+choose+own+row+total+value.{statement}
-use Rattle.reply.proofs.values.+below+choose+own+row+total+value.Tie.{close}
+use Rattle.arena.specs.Words.{actionsOf, laterOf}
+use Rattle.pick.proofs.Past.{past-few}
+use Rattle.reply.specs.Valued.{Chosen, ValuedAll}
 use Rattle.reply.proofs.Valuing as valuing
 use Rattle.reply.proofs.Choosing as choosing
+use borrow.Fn.Kinds.{In}
+use borrow.Fn.PlainCycle.{Measures, is, falls, and}
 use Rattle.reply.proofs.values.below.Reads as below
 use Rattle.reply.proofs.values.below.Kinds as below-kinds
 use Rattle.reply.proofs.values.+below+choose+own+row+total+value.Lts-below as below-lts
@@ -40,11 +40,13 @@ use Rattle.arena.proofs.words.next.Reads as next-reads
 use Rattle.arena.proofs.words.put.Reads as put-reads
 use Rattle.arena.proofs.words.set.Reads as set-reads
 use Rattle.arena.proofs.words.word.Reads as word-reads
-use Rattle.reply.proofs.pick.of_three.Reads as of-three-reads
-use Rattle.reply.proofs.pick.of_two.Reads as of-two-reads
+use Rattle.pick.proofs.topmost.past.Reads as past-reads
+use Rattle.pick.proofs.topmost.start.Reads as start-reads
 use Rattle.reply.proofs.values.ended.Reads as ended-reads
 use Rattle.std.proofs.num.wrapping_add_u64.Reads as wrapping-add-u64-reads
 use Rattle.walks.proofs.child.Reads as child-reads
+use Rattle.reply.proofs.values.+below+choose+own+row+total+value.{statement}
+use Rattle.reply.proofs.values.+below+choose+own+row+total+value.Tie.{close}
 
 abbrev μ-below : Measures 1 below-kinds.ps ℕ
 μ-below κs a = 5 * a .1 .1 .1 .0 + 1
@@ -196,285 +198,249 @@ below-returns-2 : (t : ℕ) → below-lts.Need-returns-2 (
 ) (below-at t) below.Post
 below-returns-2 t c = c .before .before .value .ensures
 
+abbrev choose-Inv-loop : choose-lts.InvT-loop
+choose-Inv-loop w₀ first count seat depth heads units kept known top₀ action₀ w top action = choosing.Led seat depth heads units kept first count w₀ w (top .action) (top .sum) action × (top .action ≤ action - 1) × (action ≤ count) × (length w ≡ length w₀)
+
+abbrev choose-μ-loop : choose-lts.MeasureT-loop
+choose-μ-loop w₀ first count seat depth heads units kept known top₀ action₀ w top action = count - action
+
 choose-add-word : (t : ℕ) → choose-lts.Need-add-word (
   word-reads.Asked,
   word-reads.Learnt,
+  start-reads.Asked,
+  start-reads.Learnt,
   total-below t,
   total.Post,
-  of-two-reads.Asked,
-  of-two-reads.Learnt,
+  past-reads.Asked,
+  past-reads.Learnt,
   put-reads.Asked,
   put-reads.Learnt,
-  of-three-reads.Asked,
-  of-three-reads.Learnt,
-) (choose-at t) choose.Post
+) (choose-at t) choose.Post choose-Inv-loop choose-μ-loop
 choose-add-word t c = record { fits = omega (arith, c .before .before .pre .1 .kept, c .before .before .pre .1 .place) }
 
 choose-word-requires : (t : ℕ) → choose-lts.Need-word-requires (
   word-reads.Asked,
   word-reads.Learnt,
+  start-reads.Asked,
+  start-reads.Learnt,
   total-below t,
   total.Post,
-  of-two-reads.Asked,
-  of-two-reads.Learnt,
+  past-reads.Asked,
+  past-reads.Learnt,
   put-reads.Asked,
   put-reads.Learnt,
-  of-three-reads.Asked,
-  of-three-reads.Learnt,
-) (choose-at t) choose.Post
+) (choose-at t) choose.Post choose-Inv-loop choose-μ-loop
 choose-word-requires t c κs = search needs
 
 choose-sub-result : (t : ℕ) → choose-lts.Need-sub-result (
   word-reads.Asked,
   word-reads.Learnt,
+  start-reads.Asked,
+  start-reads.Learnt,
   total-below t,
   total.Post,
-  of-two-reads.Asked,
-  of-two-reads.Learnt,
+  past-reads.Asked,
+  past-reads.Learnt,
   put-reads.Asked,
   put-reads.Learnt,
-  of-three-reads.Asked,
-  of-three-reads.Learnt,
-) (choose-at t) choose.Post
+) (choose-at t) choose.Post choose-Inv-loop choose-μ-loop
 choose-sub-result t c = omega (arith, c .if1 .taken)
 
 choose-same-length : (t : ℕ) → choose-lts.Need-same-length (
   word-reads.Asked,
   word-reads.Learnt,
+  start-reads.Asked,
+  start-reads.Learnt,
   total-below t,
   total.Post,
-  of-two-reads.Asked,
-  of-two-reads.Learnt,
+  past-reads.Asked,
+  past-reads.Learnt,
   put-reads.Asked,
   put-reads.Learnt,
-  of-three-reads.Asked,
-  of-three-reads.Learnt,
-) (choose-at t) choose.Post
+) (choose-at t) choose.Post choose-Inv-loop choose-μ-loop
 choose-same-length t c = search needs
 
 choose-returns : (t : ℕ) → choose-lts.Need-returns (
   word-reads.Asked,
   word-reads.Learnt,
+  start-reads.Asked,
+  start-reads.Learnt,
   total-below t,
   total.Post,
-  of-two-reads.Asked,
-  of-two-reads.Learnt,
+  past-reads.Asked,
+  past-reads.Learnt,
   put-reads.Asked,
   put-reads.Learnt,
-  of-three-reads.Asked,
-  of-three-reads.Learnt,
-) (choose-at t) choose.Post
+) (choose-at t) choose.Post choose-Inv-loop choose-μ-loop
 choose-returns t c = choosing.chosen-known (c .before .before .before .before .args .seat) (c .before .before .before .before .args .depth) (c .before .before .before .before .args .heads) (c .before .before .before .before .args .units) (c .before .before .before .before .args .kept) (c .before .before .before .before .args .first) (c .before .before .before .before .args .count) (now (c .before .before .before .before .args .w)) (c .before .word .result) _ (c .before .word .ensures) (c .if1 .taken) refl
+
+choose-start-requires : (t : ℕ) → choose-lts.Need-start-requires (
+  word-reads.Asked,
+  word-reads.Learnt,
+  start-reads.Asked,
+  start-reads.Learnt,
+  total-below t,
+  total.Post,
+  past-reads.Asked,
+  past-reads.Learnt,
+  put-reads.Asked,
+  put-reads.Learnt,
+) (choose-at t) choose.Post choose-Inv-loop choose-μ-loop
+choose-start-requires t c κs = search needs
+
+choose-loop-holds : (t : ℕ) → choose-lts.Need-loop-holds (
+  word-reads.Asked,
+  word-reads.Learnt,
+  start-reads.Asked,
+  start-reads.Learnt,
+  total-below t,
+  total.Post,
+  past-reads.Asked,
+  past-reads.Learnt,
+  put-reads.Asked,
+  put-reads.Learnt,
+) (choose-at t) choose.Post choose-Inv-loop choose-μ-loop
+choose-loop-holds t c = (choosing.led-start (c .before .before .before .before .before .args .seat) (c .before .before .before .before .before .args .depth) (c .before .before .before .before .before .args .heads) (c .before .before .before .before .before .args .units) (c .before .before .before .before .before .args .kept) (c .before .before .before .before .before .args .first) (c .before .before .before .before .before .args .count) (now (c .before .before .before .before .before .args .w)) _ _ (c .start .ensures .0) (c .start .ensures .1), omega (arith, c .start .ensures .0), omega arith, refl)
 
 choose-total-requires : (t : ℕ) → choose-lts.Need-total-requires (
   word-reads.Asked,
   word-reads.Learnt,
+  start-reads.Asked,
+  start-reads.Learnt,
   total-below t,
   total.Post,
-  of-two-reads.Asked,
-  of-two-reads.Learnt,
+  past-reads.Asked,
+  past-reads.Learnt,
   put-reads.Asked,
   put-reads.Learnt,
-  of-three-reads.Asked,
-  of-three-reads.Learnt,
-) (choose-at t) choose.Post
-choose-total-requires t c κs = (omega (arith, c .before .before .before .before .before .pre .0), c .before .before .before .before .before .pre .1)
+) (choose-at t) choose.Post choose-Inv-loop choose-μ-loop
+choose-total-requires t c κs = (omega (arith, c .before .before .before .before .before .before .before .before .pre .0), c .before .before .before .before .before .before .before .before .pre .1)
 
-choose-total-requires-2 : (t : ℕ) → choose-lts.Need-total-requires-2 (
+choose-past-requires : (t : ℕ) → choose-lts.Need-past-requires (
   word-reads.Asked,
   word-reads.Learnt,
+  start-reads.Asked,
+  start-reads.Learnt,
   total-below t,
   total.Post,
-  of-two-reads.Asked,
-  of-two-reads.Learnt,
+  past-reads.Asked,
+  past-reads.Learnt,
   put-reads.Asked,
   put-reads.Learnt,
-  of-three-reads.Asked,
-  of-three-reads.Learnt,
-) (choose-at t) choose.Post
-choose-total-requires-2 t c κs = (omega (arith, c .before .before .before .before .before .before .before .before .before .pre .0), c .before .before .before .before .before .before .before .before .before .pre .1)
+) (choose-at t) choose.Post choose-Inv-loop choose-μ-loop
+choose-past-requires t c κs = search needs
 
-choose-of-two-requires : (t : ℕ) → choose-lts.Need-of-two-requires (
+choose-add-action : (t : ℕ) → choose-lts.Need-add-action (
   word-reads.Asked,
   word-reads.Learnt,
+  start-reads.Asked,
+  start-reads.Learnt,
   total-below t,
   total.Post,
-  of-two-reads.Asked,
-  of-two-reads.Learnt,
+  past-reads.Asked,
+  past-reads.Learnt,
   put-reads.Asked,
   put-reads.Learnt,
-  of-three-reads.Asked,
-  of-three-reads.Learnt,
-) (choose-at t) choose.Post
-choose-of-two-requires t c κs = search needs
+) (choose-at t) choose.Post choose-Inv-loop choose-μ-loop
+choose-add-action t c = record { fits = omega (arith, c .before .before .before .before .before .loop-test .taken) }
+
+choose-loop-less : (t : ℕ) → choose-lts.Need-loop-less (
+  word-reads.Asked,
+  word-reads.Learnt,
+  start-reads.Asked,
+  start-reads.Learnt,
+  total-below t,
+  total.Post,
+  past-reads.Asked,
+  past-reads.Learnt,
+  put-reads.Asked,
+  put-reads.Learnt,
+) (choose-at t) choose.Post choose-Inv-loop choose-μ-loop
+choose-loop-less t c = omega (arith, c .before .before .before .before .before .loop-test .taken)
+
+choose-loop-again : (t : ℕ) → choose-lts.Need-loop-again (
+  word-reads.Asked,
+  word-reads.Learnt,
+  start-reads.Asked,
+  start-reads.Learnt,
+  total-below t,
+  total.Post,
+  past-reads.Asked,
+  past-reads.Learnt,
+  put-reads.Asked,
+  put-reads.Learnt,
+) (choose-at t) choose.Post choose-Inv-loop choose-μ-loop
+choose-loop-again t c = (choosing.led-more (c .before .before .before .before .before .before .before .before .before .before .before .before .args .seat) (c .before .before .before .before .before .before .before .before .before .before .before .before .args .depth) (c .before .before .before .before .before .before .before .before .before .before .before .before .args .heads) (c .before .before .before .before .before .before .before .before .before .before .before .before .args .units) (c .before .before .before .before .before .before .before .before .before .before .before .before .args .kept) (c .before .before .before .before .before .before .before .before .before .before .before .before .args .first) (c .before .before .before .before .before .before .before .before .before .before .before .before .args .count) (now (c .before .before .before .before .before .before .before .before .before .before .before .before .args .w)) (c .before .before .before .before .before .before .loop .w) (c .before .before .before .total .last .0) (c .before .before .before .before .before .before .loop .top .action) (c .before .before .before .before .before .before .loop .top .sum) (c .before .before .before .before .before .before .loop .action) (c .before .before .before .total .result) (c .past .result .action) (c .past .result .sum) (c .before .before .before .before .before .before .loop .inv .0) (c .before .before .before .before .before .loop-test .taken) (c .before .before .before .total .ensures) (c .past .ensures .0) (c .past .ensures .1), omega (arith, c .past .ensures .0, past-few (ltb (c .before .before .before .before .before .before .loop .top .sum) (c .before .before .before .total .result)) (c .before .before .before .before .before .before .loop .action) (c .before .before .before .before .before .before .loop .top .action) (c .before .before .before .before .before .before .loop .inv .1)), omega (arith, c .before .before .before .before .before .loop-test .taken), omega (arith, c .before .before .before .total .kept .0, c .before .before .before .before .before .before .loop .inv .3))
 
 choose-add-put : (t : ℕ) → choose-lts.Need-add-put (
   word-reads.Asked,
   word-reads.Learnt,
+  start-reads.Asked,
+  start-reads.Learnt,
   total-below t,
   total.Post,
-  of-two-reads.Asked,
-  of-two-reads.Learnt,
+  past-reads.Asked,
+  past-reads.Learnt,
   put-reads.Asked,
   put-reads.Learnt,
-  of-three-reads.Asked,
-  of-three-reads.Learnt,
-) (choose-at t) choose.Post
-choose-add-put t c = record { fits = omega (arith, c .before .before .before .before .before .before .before .before .before .before .before .before .before .before .before .pre .1 .kept, c .before .before .before .before .before .before .before .before .before .before .before .before .before .before .before .pre .1 .place) }
+) (choose-at t) choose.Post choose-Inv-loop choose-μ-loop
+choose-add-put t c = record { fits = omega (arith, c .before .before .before .before .before .before .before .before .pre .1 .kept, c .before .before .before .before .before .before .before .before .pre .1 .place) }
 
 choose-add-put-2 : (t : ℕ) → choose-lts.Need-add-put-2 (
   word-reads.Asked,
   word-reads.Learnt,
+  start-reads.Asked,
+  start-reads.Learnt,
   total-below t,
   total.Post,
-  of-two-reads.Asked,
-  of-two-reads.Learnt,
+  past-reads.Asked,
+  past-reads.Learnt,
   put-reads.Asked,
   put-reads.Learnt,
-  of-three-reads.Asked,
-  of-three-reads.Learnt,
-) (choose-at t) choose.Post
-choose-add-put-2 t c = record { fits = omega (arith, valuing.two-few (c .before .before .before .before .before .before .before .before .before .total .result) (c .before .before .before .before .before .total2 .result), c .before .of-two .ensures) }
+) (choose-at t) choose.Post choose-Inv-loop choose-μ-loop
+choose-add-put-2 t c = record { fits = omega (arith, c .before .before .loop .inv .1, c .before .before .loop .inv .2, c .before .loop-test .left) }
 
 choose-put-requires : (t : ℕ) → choose-lts.Need-put-requires (
   word-reads.Asked,
   word-reads.Learnt,
+  start-reads.Asked,
+  start-reads.Learnt,
   total-below t,
   total.Post,
-  of-two-reads.Asked,
-  of-two-reads.Learnt,
+  past-reads.Asked,
+  past-reads.Learnt,
   put-reads.Asked,
   put-reads.Learnt,
-  of-three-reads.Asked,
-  of-three-reads.Learnt,
-) (choose-at t) choose.Post
+) (choose-at t) choose.Post choose-Inv-loop choose-μ-loop
 choose-put-requires t c κs = search needs
 
 choose-same-length-2 : (t : ℕ) → choose-lts.Need-same-length-2 (
   word-reads.Asked,
   word-reads.Learnt,
+  start-reads.Asked,
+  start-reads.Learnt,
   total-below t,
   total.Post,
-  of-two-reads.Asked,
-  of-two-reads.Learnt,
+  past-reads.Asked,
+  past-reads.Learnt,
   put-reads.Asked,
   put-reads.Learnt,
-  of-three-reads.Asked,
-  of-three-reads.Learnt,
-) (choose-at t) choose.Post
+) (choose-at t) choose.Post choose-Inv-loop choose-μ-loop
 choose-same-length-2 t c = search needs
 
 choose-returns-2 : (t : ℕ) → choose-lts.Need-returns-2 (
   word-reads.Asked,
   word-reads.Learnt,
+  start-reads.Asked,
+  start-reads.Learnt,
   total-below t,
   total.Post,
-  of-two-reads.Asked,
-  of-two-reads.Learnt,
+  past-reads.Asked,
+  past-reads.Learnt,
   put-reads.Asked,
   put-reads.Learnt,
-  of-three-reads.Asked,
-  of-three-reads.Learnt,
-) (choose-at t) choose.Post
-choose-returns-2 t c = choosing.chosen-two (c .before .before .before .before .before .before .before .before .before .before .before .before .before .before .before .before .before .before .args .seat) (c .before .before .before .before .before .before .before .before .before .before .before .before .before .before .before .before .before .before .args .depth) (c .before .before .before .before .before .before .before .before .before .before .before .before .before .before .before .before .before .before .args .heads) (c .before .before .before .before .before .before .before .before .before .before .before .before .before .before .before .before .before .before .args .units) (c .before .before .before .before .before .before .before .before .before .before .before .before .before .before .before .before .before .before .args .kept) (c .before .before .before .before .before .before .before .before .before .before .before .before .before .before .before .before .before .before .args .first) (c .before .before .before .before .before .before .before .before .before .before .before .before .before .before .before .before .before .before .args .count) (now (c .before .before .before .before .before .before .before .before .before .before .before .before .before .before .before .before .before .before .args .w)) (c .before .before .before .before .before .before .before .before .before .before .before .before .total .last .0) (c .before .before .before .before .before .before .before .before .total2 .last .0) (c .before .before .put .last .0) (c .before .before .before .before .before .before .before .before .before .before .before .before .total .result) (c .before .before .before .before .before .before .before .before .total2 .result) (c .before .before .before .before .of-two .result) (c .before .before .before .before .before .before .before .before .before .before .before .before .total .ensures) (c .before .before .before .before .before .before .before .before .total2 .ensures) (c .before .before .before .before .before .if2 .taken) (c .before .before .before .before .of-two .ensures) (c .before .before .put .ensures)
-
-choose-total-requires-3 : (t : ℕ) → choose-lts.Need-total-requires-3 (
-  word-reads.Asked,
-  word-reads.Learnt,
-  total-below t,
-  total.Post,
-  of-two-reads.Asked,
-  of-two-reads.Learnt,
-  put-reads.Asked,
-  put-reads.Learnt,
-  of-three-reads.Asked,
-  of-three-reads.Learnt,
-) (choose-at t) choose.Post
-choose-total-requires-3 t c κs = (omega (arith, c .before .before .before .before .before .before .before .before .before .before .before .before .before .before .pre .0), c .before .before .before .before .before .before .before .before .before .before .before .before .before .before .pre .1)
-
-choose-of-three-requires : (t : ℕ) → choose-lts.Need-of-three-requires (
-  word-reads.Asked,
-  word-reads.Learnt,
-  total-below t,
-  total.Post,
-  of-two-reads.Asked,
-  of-two-reads.Learnt,
-  put-reads.Asked,
-  put-reads.Learnt,
-  of-three-reads.Asked,
-  of-three-reads.Learnt,
-) (choose-at t) choose.Post
-choose-of-three-requires t c κs = search needs
-
-choose-add-put-3 : (t : ℕ) → choose-lts.Need-add-put-3 (
-  word-reads.Asked,
-  word-reads.Learnt,
-  total-below t,
-  total.Post,
-  of-two-reads.Asked,
-  of-two-reads.Learnt,
-  put-reads.Asked,
-  put-reads.Learnt,
-  of-three-reads.Asked,
-  of-three-reads.Learnt,
-) (choose-at t) choose.Post
-choose-add-put-3 t c = record { fits = omega (arith, c .before .before .before .before .before .before .before .before .before .before .before .before .before .before .before .before .before .before .before .pre .1 .kept, c .before .before .before .before .before .before .before .before .before .before .before .before .before .before .before .before .before .before .before .pre .1 .place) }
-
-choose-add-put-4 : (t : ℕ) → choose-lts.Need-add-put-4 (
-  word-reads.Asked,
-  word-reads.Learnt,
-  total-below t,
-  total.Post,
-  of-two-reads.Asked,
-  of-two-reads.Learnt,
-  put-reads.Asked,
-  put-reads.Learnt,
-  of-three-reads.Asked,
-  of-three-reads.Learnt,
-) (choose-at t) choose.Post
-choose-add-put-4 t c = record { fits = omega (arith, valuing.three-few (c .before .before .before .before .before .before .before .before .before .before .before .before .before .total .result) (c .before .before .before .before .before .before .before .before .before .total2 .result) (c .before .before .before .before .total3 .result), c .before .of-three .ensures) }
-
-choose-put-requires-2 : (t : ℕ) → choose-lts.Need-put-requires-2 (
-  word-reads.Asked,
-  word-reads.Learnt,
-  total-below t,
-  total.Post,
-  of-two-reads.Asked,
-  of-two-reads.Learnt,
-  put-reads.Asked,
-  put-reads.Learnt,
-  of-three-reads.Asked,
-  of-three-reads.Learnt,
-) (choose-at t) choose.Post
-choose-put-requires-2 t c κs = search needs
-
-choose-same-length-3 : (t : ℕ) → choose-lts.Need-same-length-3 (
-  word-reads.Asked,
-  word-reads.Learnt,
-  total-below t,
-  total.Post,
-  of-two-reads.Asked,
-  of-two-reads.Learnt,
-  put-reads.Asked,
-  put-reads.Learnt,
-  of-three-reads.Asked,
-  of-three-reads.Learnt,
-) (choose-at t) choose.Post
-choose-same-length-3 t c = search needs
-
-choose-returns-3 : (t : ℕ) → choose-lts.Need-returns-3 (
-  word-reads.Asked,
-  word-reads.Learnt,
-  total-below t,
-  total.Post,
-  of-two-reads.Asked,
-  of-two-reads.Learnt,
-  put-reads.Asked,
-  put-reads.Learnt,
-  of-three-reads.Asked,
-  of-three-reads.Learnt,
-) (choose-at t) choose.Post
-choose-returns-3 t c = choosing.chosen-three (c .before .before .before .before .before .before .before .before .before .before .before .before .before .before .before .before .before .before .before .before .before .before .args .seat) (c .before .before .before .before .before .before .before .before .before .before .before .before .before .before .before .before .before .before .before .before .before .before .args .depth) (c .before .before .before .before .before .before .before .before .before .before .before .before .before .before .before .before .before .before .before .before .before .before .args .heads) (c .before .before .before .before .before .before .before .before .before .before .before .before .before .before .before .before .before .before .before .before .before .before .args .units) (c .before .before .before .before .before .before .before .before .before .before .before .before .before .before .before .before .before .before .before .before .before .before .args .kept) (c .before .before .before .before .before .before .before .before .before .before .before .before .before .before .before .before .before .before .before .before .before .before .args .first) (c .before .before .before .before .before .before .before .before .before .before .before .before .before .before .before .before .before .before .before .before .before .before .args .count) (now (c .before .before .before .before .before .before .before .before .before .before .before .before .before .before .before .before .before .before .before .before .before .before .args .w)) (c .before .before .before .before .before .before .before .before .before .before .before .before .before .before .before .before .total .last .0) (c .before .before .before .before .before .before .before .before .before .before .before .before .total2 .last .0) (c .before .before .before .before .before .before .before .total3 .last .0) (c .before .before .put2 .last .0) (c .before .before .before .before .before .before .before .before .before .before .before .before .before .before .before .before .total .result) (c .before .before .before .before .before .before .before .before .before .before .before .before .total2 .result) (c .before .before .before .before .before .before .before .total3 .result) (c .before .before .before .before .of-three .result) (c .before .before .before .before .before .before .before .before .before .before .before .before .before .before .before .before .total .ensures) (c .before .before .before .before .before .before .before .before .before .before .before .before .total2 .ensures) (c .before .before .before .before .before .before .before .total3 .ensures) (c .before .before .before .before .before .before .before .before .before .if2 .left) (c .before .before .before .before .of-three .ensures) (c .before .before .put2 .ensures)
+) (choose-at t) choose.Post choose-Inv-loop choose-μ-loop
+choose-returns-2 t c = choosing.led-end (c .before .before .before .before .before .before .before .before .before .before .before .args .seat) (c .before .before .before .before .before .before .before .before .before .before .before .args .depth) (c .before .before .before .before .before .before .before .before .before .before .before .args .heads) (c .before .before .before .before .before .before .before .before .before .before .before .args .units) (c .before .before .before .before .before .before .before .before .before .before .before .args .kept) (c .before .before .before .before .before .before .before .before .before .before .before .args .first) (c .before .before .before .before .before .before .before .before .before .before .before .args .count) (now (c .before .before .before .before .before .before .before .before .before .before .before .args .w)) (c .before .before .before .before .before .loop .w) (c .before .before .put .last .0) (c .before .before .before .before .before .loop .top .action) (c .before .before .before .before .before .loop .top .sum) (c .before .before .before .before .before .loop .action) (c .before .before .before .before .before .loop .inv .0) (omega (arith, c .before .before .before .before .loop-test .left)) (c .before .before .put .ensures)
 
 own-set-requires : (t : ℕ) → own-lts.Need-set-requires (
   set-reads.Asked,
@@ -1321,37 +1287,36 @@ pub +below+choose+own+row+total+value-spec : {M : Type 1} → statement M
     (λ t. choose-lts.spec (
       word-reads.Asked,
       word-reads.Learnt,
+      start-reads.Asked,
+      start-reads.Learnt,
       total-below t,
       total.Post,
-      of-two-reads.Asked,
-      of-two-reads.Learnt,
+      past-reads.Asked,
+      past-reads.Learnt,
       put-reads.Asked,
       put-reads.Learnt,
-      of-three-reads.Asked,
-      of-three-reads.Learnt,
     )
     (choose-at t)
     choose.Post
+    choose-Inv-loop
+    choose-μ-loop
     (choose-add-word t)
     (choose-word-requires t)
     (choose-sub-result t)
     (choose-same-length t)
     (choose-returns t)
+    (choose-start-requires t)
+    (choose-loop-holds t)
     (choose-total-requires t)
-    (choose-total-requires-2 t)
-    (choose-of-two-requires t)
+    (choose-past-requires t)
+    (choose-add-action t)
+    (choose-loop-less t)
+    (choose-loop-again t)
     (choose-add-put t)
     (choose-add-put-2 t)
     (choose-put-requires t)
     (choose-same-length-2 t)
-    (choose-returns-2 t)
-    (choose-total-requires-3 t)
-    (choose-of-three-requires t)
-    (choose-add-put-3 t)
-    (choose-add-put-4 t)
-    (choose-put-requires-2 t)
-    (choose-same-length-3 t)
-    (choose-returns-3 t))
+    (choose-returns-2 t))
     (λ t. own-lts.spec (
       set-reads.Asked,
       set-reads.Learnt,

@@ -1,15 +1,15 @@
 -- Value and choice, which call each other: the remaining depth falls. Assumes nothing.
 use mathlib.Core.Path.{_≡_, refl, sym, ap, _∙_, subst}
-use Prim.Native.Nat.{ℕ, _+_, _-_, _*_, _%_, _<_}
+use Prim.Native.Nat.{ℕ, _+_, _-_, _*_, _%_, _≤_, _<_}
 use native.Mathlib.Omega.{arith}
+use lib.Ieee.{lt}
 use lib.ListN.{length}
 use denote.Ref.{now}
 use borrow.Author.Needs.{needs}
 use Rattle.arena.specs.Words.{actionsOf, laterOf}
-use Rattle.profiles.specs.Values.{nought, plus, times}
-use Rattle.finite.proofs.Parts.{part-length}
+use Rattle.profiles.specs.Values.{nought, plus}
 use Rattle.response.specs.Valued.{Chosen, Dealt}
-use Rattle.response.proofs.Picking.{two-few, three-few}
+use Rattle.pick.proofs.Past.{past-few}
 use Rattle.response.proofs.Valuing as valuing
 use Rattle.response.proofs.Choosing as choosing
 use borrow.Fn.Kinds.{In}
@@ -45,12 +45,12 @@ use Rattle.arena.proofs.words.next.Reads as next-reads
 use Rattle.arena.proofs.words.put.Reads as put-reads
 use Rattle.arena.proofs.words.set.Reads as set-reads
 use Rattle.arena.proofs.words.word.Reads as word-reads
-use Rattle.floats.proofs.float_at.Reads as float-at-reads
 use Rattle.floats.proofs.payoff_of.Reads as payoff-of-reads
+use Rattle.floats.proofs.reached.Reads as reached-reads
 use Rattle.floats.proofs.weighed.Reads as weighed-reads
 use Rattle.floats.proofs.weight.Reads as weight-reads
-use Rattle.response.proofs.pick.of_three.Reads as of-three-reads
-use Rattle.response.proofs.pick.of_two.Reads as of-two-reads
+use Rattle.pick.proofs.leading.past.Reads as past-reads
+use Rattle.pick.proofs.leading.start.Reads as start-reads
 use Rattle.walks.proofs.child.Reads as child-reads
 use Rattle.response.proofs.values.+choose+dealt+gain+own+split+total+value.{statement}
 use Rattle.response.proofs.values.+choose+dealt+gain+own+split+total+value.Tie.{close}
@@ -118,285 +118,249 @@ value-at t = and 2 value-kinds.ps (is 2 value-kinds.ps μ-value t) value.Pre
 abbrev value-below : ℕ → In 2 value-kinds.ps
 value-below t = and 2 value-kinds.ps (falls 2 value-kinds.ps _<_ μ-value t) value.Pre
 
+abbrev choose-Inv-loop : choose-lts.InvT-loop
+choose-Inv-loop w₀ profile first count seat depth heads reach kept known lead₀ action₀ w lead action = choosing.Led profile seat depth heads reach kept first count w₀ w (lead .action) (lead .sum) action × (lead .action ≤ action - 1) × (action ≤ count) × (length w ≡ length w₀)
+
+abbrev choose-μ-loop : choose-lts.MeasureT-loop
+choose-μ-loop w₀ profile first count seat depth heads reach kept known lead₀ action₀ w lead action = count - action
+
 choose-add-word : (t : ℕ) → choose-lts.Need-add-word (
   word-reads.Asked,
   word-reads.Learnt,
+  start-reads.Asked,
+  start-reads.Learnt,
   total-below t,
   total.Post,
-  of-two-reads.Asked,
-  of-two-reads.Learnt,
+  past-reads.Asked,
+  past-reads.Learnt,
   put-reads.Asked,
   put-reads.Learnt,
-  of-three-reads.Asked,
-  of-three-reads.Learnt,
-) (choose-at t) choose.Post
+) (choose-at t) choose.Post choose-Inv-loop choose-μ-loop
 choose-add-word t c = record { fits = omega (arith, c .before .before .before .pre .1 .kept, c .before .before .before .pre .1 .place) }
 
 choose-word-requires : (t : ℕ) → choose-lts.Need-word-requires (
   word-reads.Asked,
   word-reads.Learnt,
+  start-reads.Asked,
+  start-reads.Learnt,
   total-below t,
   total.Post,
-  of-two-reads.Asked,
-  of-two-reads.Learnt,
+  past-reads.Asked,
+  past-reads.Learnt,
   put-reads.Asked,
   put-reads.Learnt,
-  of-three-reads.Asked,
-  of-three-reads.Learnt,
-) (choose-at t) choose.Post
+) (choose-at t) choose.Post choose-Inv-loop choose-μ-loop
 choose-word-requires t c κs = search needs
 
 choose-sub-result : (t : ℕ) → choose-lts.Need-sub-result (
   word-reads.Asked,
   word-reads.Learnt,
+  start-reads.Asked,
+  start-reads.Learnt,
   total-below t,
   total.Post,
-  of-two-reads.Asked,
-  of-two-reads.Learnt,
+  past-reads.Asked,
+  past-reads.Learnt,
   put-reads.Asked,
   put-reads.Learnt,
-  of-three-reads.Asked,
-  of-three-reads.Learnt,
-) (choose-at t) choose.Post
+) (choose-at t) choose.Post choose-Inv-loop choose-μ-loop
 choose-sub-result t c = omega (arith, c .if1 .taken)
 
 choose-same-length : (t : ℕ) → choose-lts.Need-same-length (
   word-reads.Asked,
   word-reads.Learnt,
+  start-reads.Asked,
+  start-reads.Learnt,
   total-below t,
   total.Post,
-  of-two-reads.Asked,
-  of-two-reads.Learnt,
+  past-reads.Asked,
+  past-reads.Learnt,
   put-reads.Asked,
   put-reads.Learnt,
-  of-three-reads.Asked,
-  of-three-reads.Learnt,
-) (choose-at t) choose.Post
+) (choose-at t) choose.Post choose-Inv-loop choose-μ-loop
 choose-same-length t c = search needs
 
 choose-returns : (t : ℕ) → choose-lts.Need-returns (
   word-reads.Asked,
   word-reads.Learnt,
+  start-reads.Asked,
+  start-reads.Learnt,
   total-below t,
   total.Post,
-  of-two-reads.Asked,
-  of-two-reads.Learnt,
+  past-reads.Asked,
+  past-reads.Learnt,
   put-reads.Asked,
   put-reads.Learnt,
-  of-three-reads.Asked,
-  of-three-reads.Learnt,
-) (choose-at t) choose.Post
+) (choose-at t) choose.Post choose-Inv-loop choose-μ-loop
 choose-returns t c = choosing.chosen-known (now (c .before .before .before .before .before .args .profile)) (c .before .before .before .before .before .args .seat) (c .before .before .before .before .before .args .depth) (c .before .before .before .before .before .args .heads) (c .before .before .before .before .before .args .reach) (c .before .before .before .before .before .args .kept) (c .before .before .before .before .before .args .first) (c .before .before .before .before .before .args .count) (now (c .before .before .before .before .before .args .w)) (c .before .word .result) _ (c .before .word .ensures) (c .if1 .taken) refl
+
+choose-start-requires : (t : ℕ) → choose-lts.Need-start-requires (
+  word-reads.Asked,
+  word-reads.Learnt,
+  start-reads.Asked,
+  start-reads.Learnt,
+  total-below t,
+  total.Post,
+  past-reads.Asked,
+  past-reads.Learnt,
+  put-reads.Asked,
+  put-reads.Learnt,
+) (choose-at t) choose.Post choose-Inv-loop choose-μ-loop
+choose-start-requires t c κs = search needs
+
+choose-loop-holds : (t : ℕ) → choose-lts.Need-loop-holds (
+  word-reads.Asked,
+  word-reads.Learnt,
+  start-reads.Asked,
+  start-reads.Learnt,
+  total-below t,
+  total.Post,
+  past-reads.Asked,
+  past-reads.Learnt,
+  put-reads.Asked,
+  put-reads.Learnt,
+) (choose-at t) choose.Post choose-Inv-loop choose-μ-loop
+choose-loop-holds t c = (choosing.led-start (now (c .before .before .before .before .before .before .args .profile)) (c .before .before .before .before .before .before .args .seat) (c .before .before .before .before .before .before .args .depth) (c .before .before .before .before .before .before .args .heads) (c .before .before .before .before .before .before .args .reach) (c .before .before .before .before .before .before .args .kept) (c .before .before .before .before .before .before .args .first) (c .before .before .before .before .before .before .args .count) (now (c .before .before .before .before .before .before .args .w)) _ _ (c .start .ensures .0) (c .start .ensures .1), omega (arith, c .start .ensures .0), omega arith, refl)
 
 choose-total-requires : (t : ℕ) → choose-lts.Need-total-requires (
   word-reads.Asked,
   word-reads.Learnt,
+  start-reads.Asked,
+  start-reads.Learnt,
   total-below t,
   total.Post,
-  of-two-reads.Asked,
-  of-two-reads.Learnt,
+  past-reads.Asked,
+  past-reads.Learnt,
   put-reads.Asked,
   put-reads.Learnt,
-  of-three-reads.Asked,
-  of-three-reads.Learnt,
-) (choose-at t) choose.Post
-choose-total-requires t c κs = (omega (arith, c .before .before .before .before .before .before .pre .0), c .before .before .before .before .before .before .pre .1)
+) (choose-at t) choose.Post choose-Inv-loop choose-μ-loop
+choose-total-requires t c κs = (omega (arith, c .before .before .before .before .before .before .before .before .before .pre .0), c .before .before .before .before .before .before .before .before .before .pre .1)
 
-choose-total-requires-2 : (t : ℕ) → choose-lts.Need-total-requires-2 (
+choose-past-requires : (t : ℕ) → choose-lts.Need-past-requires (
   word-reads.Asked,
   word-reads.Learnt,
+  start-reads.Asked,
+  start-reads.Learnt,
   total-below t,
   total.Post,
-  of-two-reads.Asked,
-  of-two-reads.Learnt,
+  past-reads.Asked,
+  past-reads.Learnt,
   put-reads.Asked,
   put-reads.Learnt,
-  of-three-reads.Asked,
-  of-three-reads.Learnt,
-) (choose-at t) choose.Post
-choose-total-requires-2 t c κs = (omega (arith, c .before .before .before .before .before .before .before .before .before .before .pre .0), c .before .before .before .before .before .before .before .before .before .before .pre .1)
+) (choose-at t) choose.Post choose-Inv-loop choose-μ-loop
+choose-past-requires t c κs = search needs
 
-choose-of-two-requires : (t : ℕ) → choose-lts.Need-of-two-requires (
+choose-add-action : (t : ℕ) → choose-lts.Need-add-action (
   word-reads.Asked,
   word-reads.Learnt,
+  start-reads.Asked,
+  start-reads.Learnt,
   total-below t,
   total.Post,
-  of-two-reads.Asked,
-  of-two-reads.Learnt,
+  past-reads.Asked,
+  past-reads.Learnt,
   put-reads.Asked,
   put-reads.Learnt,
-  of-three-reads.Asked,
-  of-three-reads.Learnt,
-) (choose-at t) choose.Post
-choose-of-two-requires t c κs = search needs
+) (choose-at t) choose.Post choose-Inv-loop choose-μ-loop
+choose-add-action t c = record { fits = omega (arith, c .before .before .before .before .before .loop-test .taken) }
+
+choose-loop-less : (t : ℕ) → choose-lts.Need-loop-less (
+  word-reads.Asked,
+  word-reads.Learnt,
+  start-reads.Asked,
+  start-reads.Learnt,
+  total-below t,
+  total.Post,
+  past-reads.Asked,
+  past-reads.Learnt,
+  put-reads.Asked,
+  put-reads.Learnt,
+) (choose-at t) choose.Post choose-Inv-loop choose-μ-loop
+choose-loop-less t c = omega (arith, c .before .before .before .before .before .loop-test .taken)
+
+choose-loop-again : (t : ℕ) → choose-lts.Need-loop-again (
+  word-reads.Asked,
+  word-reads.Learnt,
+  start-reads.Asked,
+  start-reads.Learnt,
+  total-below t,
+  total.Post,
+  past-reads.Asked,
+  past-reads.Learnt,
+  put-reads.Asked,
+  put-reads.Learnt,
+) (choose-at t) choose.Post choose-Inv-loop choose-μ-loop
+choose-loop-again t c = (choosing.led-more (now (c .before .before .before .before .before .before .before .before .before .before .before .before .before .args .profile)) (c .before .before .before .before .before .before .before .before .before .before .before .before .before .args .seat) (c .before .before .before .before .before .before .before .before .before .before .before .before .before .args .depth) (c .before .before .before .before .before .before .before .before .before .before .before .before .before .args .heads) (c .before .before .before .before .before .before .before .before .before .before .before .before .before .args .reach) (c .before .before .before .before .before .before .before .before .before .before .before .before .before .args .kept) (c .before .before .before .before .before .before .before .before .before .before .before .before .before .args .first) (c .before .before .before .before .before .before .before .before .before .before .before .before .before .args .count) (now (c .before .before .before .before .before .before .before .before .before .before .before .before .before .args .w)) (c .before .before .before .before .before .before .loop .w) (c .before .before .before .total .last .0) (c .before .before .before .before .before .before .loop .lead .action) (c .before .before .before .before .before .before .loop .lead .sum) (c .before .before .before .before .before .before .loop .action) (c .before .before .before .total .result) (c .past .result .action) (c .past .result .sum) (c .before .before .before .before .before .before .loop .inv .0) (c .before .before .before .before .before .loop-test .taken) (c .before .before .before .total .ensures) (c .past .ensures .0) (c .past .ensures .1), omega (arith, c .past .ensures .0, past-few (lt (c .before .before .before .before .before .before .loop .lead .sum) (c .before .before .before .total .result)) (c .before .before .before .before .before .before .loop .action) (c .before .before .before .before .before .before .loop .lead .action) (c .before .before .before .before .before .before .loop .inv .1)), omega (arith, c .before .before .before .before .before .loop-test .taken), omega (arith, c .before .before .before .total .kept .0, c .before .before .before .before .before .before .loop .inv .3))
 
 choose-add-put : (t : ℕ) → choose-lts.Need-add-put (
   word-reads.Asked,
   word-reads.Learnt,
+  start-reads.Asked,
+  start-reads.Learnt,
   total-below t,
   total.Post,
-  of-two-reads.Asked,
-  of-two-reads.Learnt,
+  past-reads.Asked,
+  past-reads.Learnt,
   put-reads.Asked,
   put-reads.Learnt,
-  of-three-reads.Asked,
-  of-three-reads.Learnt,
-) (choose-at t) choose.Post
-choose-add-put t c = record { fits = omega (arith, c .before .before .before .before .before .before .before .before .before .before .before .before .before .before .before .before .pre .1 .kept, c .before .before .before .before .before .before .before .before .before .before .before .before .before .before .before .before .pre .1 .place) }
+) (choose-at t) choose.Post choose-Inv-loop choose-μ-loop
+choose-add-put t c = record { fits = omega (arith, c .before .before .before .before .before .before .before .before .before .pre .1 .kept, c .before .before .before .before .before .before .before .before .before .pre .1 .place) }
 
 choose-add-put-2 : (t : ℕ) → choose-lts.Need-add-put-2 (
   word-reads.Asked,
   word-reads.Learnt,
+  start-reads.Asked,
+  start-reads.Learnt,
   total-below t,
   total.Post,
-  of-two-reads.Asked,
-  of-two-reads.Learnt,
+  past-reads.Asked,
+  past-reads.Learnt,
   put-reads.Asked,
   put-reads.Learnt,
-  of-three-reads.Asked,
-  of-three-reads.Learnt,
-) (choose-at t) choose.Post
-choose-add-put-2 t c = record { fits = omega (arith, two-few (c .before .before .before .before .before .before .before .before .before .total .result) (c .before .before .before .before .before .total2 .result), c .before .of-two .ensures) }
+) (choose-at t) choose.Post choose-Inv-loop choose-μ-loop
+choose-add-put-2 t c = record { fits = omega (arith, c .before .before .loop .inv .1, c .before .before .loop .inv .2, c .before .loop-test .left) }
 
 choose-put-requires : (t : ℕ) → choose-lts.Need-put-requires (
   word-reads.Asked,
   word-reads.Learnt,
+  start-reads.Asked,
+  start-reads.Learnt,
   total-below t,
   total.Post,
-  of-two-reads.Asked,
-  of-two-reads.Learnt,
+  past-reads.Asked,
+  past-reads.Learnt,
   put-reads.Asked,
   put-reads.Learnt,
-  of-three-reads.Asked,
-  of-three-reads.Learnt,
-) (choose-at t) choose.Post
+) (choose-at t) choose.Post choose-Inv-loop choose-μ-loop
 choose-put-requires t c κs = search needs
 
 choose-same-length-2 : (t : ℕ) → choose-lts.Need-same-length-2 (
   word-reads.Asked,
   word-reads.Learnt,
+  start-reads.Asked,
+  start-reads.Learnt,
   total-below t,
   total.Post,
-  of-two-reads.Asked,
-  of-two-reads.Learnt,
+  past-reads.Asked,
+  past-reads.Learnt,
   put-reads.Asked,
   put-reads.Learnt,
-  of-three-reads.Asked,
-  of-three-reads.Learnt,
-) (choose-at t) choose.Post
+) (choose-at t) choose.Post choose-Inv-loop choose-μ-loop
 choose-same-length-2 t c = search needs
 
 choose-returns-2 : (t : ℕ) → choose-lts.Need-returns-2 (
   word-reads.Asked,
   word-reads.Learnt,
+  start-reads.Asked,
+  start-reads.Learnt,
   total-below t,
   total.Post,
-  of-two-reads.Asked,
-  of-two-reads.Learnt,
+  past-reads.Asked,
+  past-reads.Learnt,
   put-reads.Asked,
   put-reads.Learnt,
-  of-three-reads.Asked,
-  of-three-reads.Learnt,
-) (choose-at t) choose.Post
-choose-returns-2 t c = choosing.chosen-two (now (c .before .before .before .before .before .before .before .before .before .before .before .before .before .before .before .before .before .before .before .args .profile)) (c .before .before .before .before .before .before .before .before .before .before .before .before .before .before .before .before .before .before .before .args .seat) (c .before .before .before .before .before .before .before .before .before .before .before .before .before .before .before .before .before .before .before .args .depth) (c .before .before .before .before .before .before .before .before .before .before .before .before .before .before .before .before .before .before .before .args .heads) (c .before .before .before .before .before .before .before .before .before .before .before .before .before .before .before .before .before .before .before .args .reach) (c .before .before .before .before .before .before .before .before .before .before .before .before .before .before .before .before .before .before .before .args .kept) (c .before .before .before .before .before .before .before .before .before .before .before .before .before .before .before .before .before .before .before .args .first) (c .before .before .before .before .before .before .before .before .before .before .before .before .before .before .before .before .before .before .before .args .count) (now (c .before .before .before .before .before .before .before .before .before .before .before .before .before .before .before .before .before .before .before .args .w)) (c .before .before .before .before .before .before .before .before .before .before .before .before .total .last .0) (c .before .before .before .before .before .before .before .before .total2 .last .0) (c .before .before .put .last .0) (c .before .before .before .before .before .before .before .before .before .before .before .before .total .result) (c .before .before .before .before .before .before .before .before .total2 .result) (c .before .before .before .before .of-two .result) (c .before .before .before .before .before .before .before .before .before .before .before .before .total .ensures) (c .before .before .before .before .before .before .before .before .total2 .ensures) (c .before .before .before .before .before .if2 .taken) (c .before .before .before .before .of-two .ensures) (c .before .before .put .ensures)
-
-choose-total-requires-3 : (t : ℕ) → choose-lts.Need-total-requires-3 (
-  word-reads.Asked,
-  word-reads.Learnt,
-  total-below t,
-  total.Post,
-  of-two-reads.Asked,
-  of-two-reads.Learnt,
-  put-reads.Asked,
-  put-reads.Learnt,
-  of-three-reads.Asked,
-  of-three-reads.Learnt,
-) (choose-at t) choose.Post
-choose-total-requires-3 t c κs = (omega (arith, c .before .before .before .before .before .before .before .before .before .before .before .before .before .before .before .pre .0), c .before .before .before .before .before .before .before .before .before .before .before .before .before .before .before .pre .1)
-
-choose-of-three-requires : (t : ℕ) → choose-lts.Need-of-three-requires (
-  word-reads.Asked,
-  word-reads.Learnt,
-  total-below t,
-  total.Post,
-  of-two-reads.Asked,
-  of-two-reads.Learnt,
-  put-reads.Asked,
-  put-reads.Learnt,
-  of-three-reads.Asked,
-  of-three-reads.Learnt,
-) (choose-at t) choose.Post
-choose-of-three-requires t c κs = search needs
-
-choose-add-put-3 : (t : ℕ) → choose-lts.Need-add-put-3 (
-  word-reads.Asked,
-  word-reads.Learnt,
-  total-below t,
-  total.Post,
-  of-two-reads.Asked,
-  of-two-reads.Learnt,
-  put-reads.Asked,
-  put-reads.Learnt,
-  of-three-reads.Asked,
-  of-three-reads.Learnt,
-) (choose-at t) choose.Post
-choose-add-put-3 t c = record { fits = omega (arith, c .before .before .before .before .before .before .before .before .before .before .before .before .before .before .before .before .before .before .before .before .pre .1 .kept, c .before .before .before .before .before .before .before .before .before .before .before .before .before .before .before .before .before .before .before .before .pre .1 .place) }
-
-choose-add-put-4 : (t : ℕ) → choose-lts.Need-add-put-4 (
-  word-reads.Asked,
-  word-reads.Learnt,
-  total-below t,
-  total.Post,
-  of-two-reads.Asked,
-  of-two-reads.Learnt,
-  put-reads.Asked,
-  put-reads.Learnt,
-  of-three-reads.Asked,
-  of-three-reads.Learnt,
-) (choose-at t) choose.Post
-choose-add-put-4 t c = record { fits = omega (arith, three-few (c .before .before .before .before .before .before .before .before .before .before .before .before .before .total .result) (c .before .before .before .before .before .before .before .before .before .total2 .result) (c .before .before .before .before .total3 .result), c .before .of-three .ensures) }
-
-choose-put-requires-2 : (t : ℕ) → choose-lts.Need-put-requires-2 (
-  word-reads.Asked,
-  word-reads.Learnt,
-  total-below t,
-  total.Post,
-  of-two-reads.Asked,
-  of-two-reads.Learnt,
-  put-reads.Asked,
-  put-reads.Learnt,
-  of-three-reads.Asked,
-  of-three-reads.Learnt,
-) (choose-at t) choose.Post
-choose-put-requires-2 t c κs = search needs
-
-choose-same-length-3 : (t : ℕ) → choose-lts.Need-same-length-3 (
-  word-reads.Asked,
-  word-reads.Learnt,
-  total-below t,
-  total.Post,
-  of-two-reads.Asked,
-  of-two-reads.Learnt,
-  put-reads.Asked,
-  put-reads.Learnt,
-  of-three-reads.Asked,
-  of-three-reads.Learnt,
-) (choose-at t) choose.Post
-choose-same-length-3 t c = search needs
-
-choose-returns-3 : (t : ℕ) → choose-lts.Need-returns-3 (
-  word-reads.Asked,
-  word-reads.Learnt,
-  total-below t,
-  total.Post,
-  of-two-reads.Asked,
-  of-two-reads.Learnt,
-  put-reads.Asked,
-  put-reads.Learnt,
-  of-three-reads.Asked,
-  of-three-reads.Learnt,
-) (choose-at t) choose.Post
-choose-returns-3 t c = choosing.chosen-three (now (c .before .before .before .before .before .before .before .before .before .before .before .before .before .before .before .before .before .before .before .before .before .before .before .args .profile)) (c .before .before .before .before .before .before .before .before .before .before .before .before .before .before .before .before .before .before .before .before .before .before .before .args .seat) (c .before .before .before .before .before .before .before .before .before .before .before .before .before .before .before .before .before .before .before .before .before .before .before .args .depth) (c .before .before .before .before .before .before .before .before .before .before .before .before .before .before .before .before .before .before .before .before .before .before .before .args .heads) (c .before .before .before .before .before .before .before .before .before .before .before .before .before .before .before .before .before .before .before .before .before .before .before .args .reach) (c .before .before .before .before .before .before .before .before .before .before .before .before .before .before .before .before .before .before .before .before .before .before .before .args .kept) (c .before .before .before .before .before .before .before .before .before .before .before .before .before .before .before .before .before .before .before .before .before .before .before .args .first) (c .before .before .before .before .before .before .before .before .before .before .before .before .before .before .before .before .before .before .before .before .before .before .before .args .count) (now (c .before .before .before .before .before .before .before .before .before .before .before .before .before .before .before .before .before .before .before .before .before .before .before .args .w)) (c .before .before .before .before .before .before .before .before .before .before .before .before .before .before .before .before .total .last .0) (c .before .before .before .before .before .before .before .before .before .before .before .before .total2 .last .0) (c .before .before .before .before .before .before .before .total3 .last .0) (c .before .before .put2 .last .0) (c .before .before .before .before .before .before .before .before .before .before .before .before .before .before .before .before .total .result) (c .before .before .before .before .before .before .before .before .before .before .before .before .total2 .result) (c .before .before .before .before .before .before .before .total3 .result) (c .before .before .before .before .of-three .result) (c .before .before .before .before .before .before .before .before .before .before .before .before .before .before .before .before .total .ensures) (c .before .before .before .before .before .before .before .before .before .before .before .before .total2 .ensures) (c .before .before .before .before .before .before .before .total3 .ensures) (c .before .before .before .before .before .before .before .before .before .if2 .left) (c .before .before .before .before .of-three .ensures) (c .before .before .put2 .ensures)
+) (choose-at t) choose.Post choose-Inv-loop choose-μ-loop
+choose-returns-2 t c = choosing.led-end (now (c .before .before .before .before .before .before .before .before .before .before .before .before .args .profile)) (c .before .before .before .before .before .before .before .before .before .before .before .before .args .seat) (c .before .before .before .before .before .before .before .before .before .before .before .before .args .depth) (c .before .before .before .before .before .before .before .before .before .before .before .before .args .heads) (c .before .before .before .before .before .before .before .before .before .before .before .before .args .reach) (c .before .before .before .before .before .before .before .before .before .before .before .before .args .kept) (c .before .before .before .before .before .before .before .before .before .before .before .before .args .first) (c .before .before .before .before .before .before .before .before .before .before .before .before .args .count) (now (c .before .before .before .before .before .before .before .before .before .before .before .before .args .w)) (c .before .before .before .before .before .loop .w) (c .before .before .put .last .0) (c .before .before .before .before .before .loop .lead .action) (c .before .before .before .before .before .loop .lead .sum) (c .before .before .before .before .before .loop .action) (c .before .before .before .before .before .loop .inv .0) (omega (arith, c .before .before .before .before .loop-test .left)) (c .before .before .put .ensures)
 
 abbrev dealt-Inv-loop : dealt-lts.InvT-loop
 dealt-Inv-loop w₀ profile a end seat depth heads reach kept each sum₀ at₀ w sum at = valuing.Along profile seat depth heads reach kept a end w₀ each w at sum × (at + depth < 8388608) × (length w ≡ length w₀)
@@ -730,6 +694,12 @@ own-returns : (t : ℕ) → own-lts.Need-returns (
 ) (own-at t) own.Post
 own-returns t c = valuing.own-is (now (c .before .before .before .before .before .before .before .before .before .before .before .before .before .before .args .profile)) (c .before .before .before .before .before .before .before .before .before .before .before .before .before .before .args .seat) (c .before .before .before .before .before .before .before .before .before .before .before .before .before .before .args .depth) (c .before .before .before .before .before .before .before .before .before .before .before .before .before .before .args .heads) (c .before .before .before .before .before .before .before .before .before .before .before .before .before .before .args .reach) (c .before .before .before .before .before .before .before .before .before .before .before .before .before .before .args .kept) (c .before .before .before .before .before .before .before .before .before .before .before .before .before .before .args .a) (c .before .before .before .before .before .before .before .before .before .before .before .before .before .before .args .x) (now (c .before .before .before .before .before .before .before .before .before .before .before .before .before .before .args .w)) (c .before .before .before .before .before .before .before .before .choose .last .0) (c .before .before .gain .last .0) (c .before .before .before .before .before .before .before .before .choose .result) (c .before .before .before .before .child .result) (c .before .before .gain .result) (subst (λ e. Chosen (now (c .before .before .before .before .before .before .before .before .before .before .before .before .before .before .args .profile)) (c .before .before .before .before .before .before .before .before .before .before .before .before .before .before .args .seat) (c .before .before .before .before .before .before .before .before .before .before .before .before .before .before .args .depth) (c .before .before .before .before .before .before .before .before .before .before .before .before .before .before .args .heads) (c .before .before .before .before .before .before .before .before .before .before .before .before .before .before .args .reach) (c .before .before .before .before .before .before .before .before .before .before .before .before .before .before .args .kept) e (actionsOf (c .before .before .before .before .before .before .before .before .before .before .before .before .before .before .args .x)) (now (c .before .before .before .before .before .before .before .before .before .before .before .before .before .before .args .w)) (c .before .before .before .before .before .before .before .before .choose .last .0) (c .before .before .before .before .before .before .before .before .choose .result)) (c .before .before .before .before .before .before .before .before .before .before .set .ensures) (subst (λ n. Chosen (now (c .before .before .before .before .before .before .before .before .before .before .before .before .before .before .args .profile)) (c .before .before .before .before .before .before .before .before .before .before .before .before .before .before .args .seat) (c .before .before .before .before .before .before .before .before .before .before .before .before .before .before .args .depth) (c .before .before .before .before .before .before .before .before .before .before .before .before .before .before .args .heads) (c .before .before .before .before .before .before .before .before .before .before .before .before .before .before .args .reach) (c .before .before .before .before .before .before .before .before .before .before .before .before .before .before .args .kept) (c .before .before .before .before .before .before .before .before .before .before .set .result) n (now (c .before .before .before .before .before .before .before .before .before .before .before .before .before .before .args .w)) (c .before .before .before .before .before .before .before .before .choose .last .0) (c .before .before .before .before .before .before .before .before .choose .result)) (c .before .before .before .before .before .before .before .before .before .actions .ensures) (c .before .before .before .before .before .before .before .before .choose .ensures))) (c .before .before .before .before .child .ensures) (c .before .before .gain .ensures)
 
+abbrev split-Inv-loop : split-lts.InvT-loop
+split-Inv-loop w₀ profile a x seat depth heads reach kept first end part sum₀ at₀ action₀ w sum at action = valuing.Halfway profile seat depth heads reach kept a x w₀ w at action sum × (at + depth < 8388608) × (length w ≡ length w₀)
+
+abbrev split-μ-loop : split-lts.MeasureT-loop
+split-μ-loop w₀ profile a x seat depth heads reach kept first end part sum₀ at₀ action₀ w sum at action = length part - action
+
 split-set-requires : (t : ℕ) → split-lts.Need-set-requires (
   set-reads.Asked,
   set-reads.Learnt,
@@ -741,7 +711,7 @@ split-set-requires : (t : ℕ) → split-lts.Need-set-requires (
   weighed-reads.Learnt,
   behind-reads.Asked,
   behind-reads.Learnt,
-) (split-at t) split.Post
+) (split-at t) split.Post split-Inv-loop split-μ-loop
 split-set-requires t c κs = search needs
 
 split-actions-requires : (t : ℕ) → split-lts.Need-actions-requires (
@@ -755,7 +725,7 @@ split-actions-requires : (t : ℕ) → split-lts.Need-actions-requires (
   weighed-reads.Learnt,
   behind-reads.Asked,
   behind-reads.Learnt,
-) (split-at t) split.Post
+) (split-at t) split.Post split-Inv-loop split-μ-loop
 split-actions-requires t c κs = search needs
 
 split-add-end : (t : ℕ) → split-lts.Need-add-end (
@@ -769,7 +739,7 @@ split-add-end : (t : ℕ) → split-lts.Need-add-end (
   weighed-reads.Learnt,
   behind-reads.Asked,
   behind-reads.Learnt,
-) (split-at t) split.Post
+) (split-at t) split.Post split-Inv-loop split-μ-loop
 split-add-end t c = record { fits = omega (arith, c .before .set .ensures, c .actions .ensures) }
 
 split-returns : (t : ℕ) → split-lts.Need-returns (
@@ -783,10 +753,10 @@ split-returns : (t : ℕ) → split-lts.Need-returns (
   weighed-reads.Learnt,
   behind-reads.Asked,
   behind-reads.Learnt,
-) (split-at t) split.Post
-split-returns t c = valuing.split-few (now (c .before .before .before .before .before .args .profile)) (c .before .before .before .before .before .args .seat) (c .before .before .before .before .before .args .depth) (c .before .before .before .before .before .args .heads) (c .before .before .before .before .before .args .reach) (c .before .before .before .before .before .args .kept) (c .before .before .before .before .before .args .a) (c .before .before .before .before .before .args .x) (now (c .before .before .before .before .before .args .w)) _ (subst (λ n. n < 2) (c .before .actions .ensures) (c .if1 .taken))
+) (split-at t) split.Post split-Inv-loop split-μ-loop
+split-returns t c = valuing.split-short (now (c .before .before .before .before .before .args .profile)) (c .before .before .before .before .before .args .seat) (c .before .before .before .before .before .args .depth) (c .before .before .before .before .before .args .heads) (c .before .before .before .before .before .args .reach) (c .before .before .before .before .before .args .kept) (c .before .before .before .before .before .args .a) (c .before .before .before .before .before .args .x) (now (c .before .before .before .before .before .args .w)) _ (omega (arith, c .if1 .taken, c .before .before .set .ensures, c .before .actions .ensures))
 
-split-returns-2 : (t : ℕ) → split-lts.Need-returns-2 (
+split-mul-part : (t : ℕ) → split-lts.Need-mul-part (
   set-reads.Asked,
   set-reads.Learnt,
   actions-reads.Asked,
@@ -797,8 +767,64 @@ split-returns-2 : (t : ℕ) → split-lts.Need-returns-2 (
   weighed-reads.Learnt,
   behind-reads.Asked,
   behind-reads.Learnt,
-) (split-at t) split.Post
-split-returns-2 t c = valuing.split-short (now (c .before .before .before .before .before .before .args .profile)) (c .before .before .before .before .before .before .args .seat) (c .before .before .before .before .before .before .args .depth) (c .before .before .before .before .before .before .args .heads) (c .before .before .before .before .before .before .args .reach) (c .before .before .before .before .before .before .args .kept) (c .before .before .before .before .before .before .args .a) (c .before .before .before .before .before .before .args .x) (now (c .before .before .before .before .before .before .args .w)) _ (omega (arith, c .if2 .taken, c .before .before .before .set .ensures, c .before .before .actions .ensures))
+) (split-at t) split.Post split-Inv-loop split-μ-loop
+split-mul-part t c = search needs
+
+split-sub-part : (t : ℕ) → split-lts.Need-sub-part (
+  set-reads.Asked,
+  set-reads.Learnt,
+  actions-reads.Asked,
+  actions-reads.Learnt,
+  gain-below t,
+  gain.Post,
+  weighed-reads.Asked,
+  weighed-reads.Learnt,
+  behind-reads.Asked,
+  behind-reads.Learnt,
+) (split-at t) split.Post split-Inv-loop split-μ-loop
+split-sub-part t c = search needs
+
+split-part-part-start : (t : ℕ) → split-lts.Need-part-part-start (
+  set-reads.Asked,
+  set-reads.Learnt,
+  actions-reads.Asked,
+  actions-reads.Learnt,
+  gain-below t,
+  gain.Post,
+  weighed-reads.Asked,
+  weighed-reads.Learnt,
+  behind-reads.Asked,
+  behind-reads.Learnt,
+) (split-at t) split.Post split-Inv-loop split-μ-loop
+split-part-part-start t c = search needs
+
+split-part-part-end : (t : ℕ) → split-lts.Need-part-part-end (
+  set-reads.Asked,
+  set-reads.Learnt,
+  actions-reads.Asked,
+  actions-reads.Learnt,
+  gain-below t,
+  gain.Post,
+  weighed-reads.Asked,
+  weighed-reads.Learnt,
+  behind-reads.Asked,
+  behind-reads.Learnt,
+) (split-at t) split.Post split-Inv-loop split-μ-loop
+split-part-part-end t c = search needs
+
+split-loop-holds : (t : ℕ) → split-lts.Need-loop-holds (
+  set-reads.Asked,
+  set-reads.Learnt,
+  actions-reads.Asked,
+  actions-reads.Learnt,
+  gain-below t,
+  gain.Post,
+  weighed-reads.Asked,
+  weighed-reads.Learnt,
+  behind-reads.Asked,
+  behind-reads.Learnt,
+) (split-at t) split.Post split-Inv-loop split-μ-loop
+split-loop-holds t c = (valuing.halfway-start (now (c .before .before .before .before .before .before .args .profile)) (c .before .before .before .before .before .before .args .seat) (c .before .before .before .before .before .before .args .depth) (c .before .before .before .before .before .before .args .heads) (c .before .before .before .before .before .before .args .reach) (c .before .before .before .before .before .before .args .kept) (c .before .before .before .before .before .before .args .a) (c .before .before .before .before .before .before .args .x) (now (c .before .before .before .before .before .before .args .w)), c .before .before .before .before .before .before .pre .1 .place, refl)
 
 split-gain-requires : (t : ℕ) → split-lts.Need-gain-requires (
   set-reads.Asked,
@@ -811,64 +837,8 @@ split-gain-requires : (t : ℕ) → split-lts.Need-gain-requires (
   weighed-reads.Learnt,
   behind-reads.Asked,
   behind-reads.Learnt,
-) (split-at t) split.Post
-split-gain-requires t c κs = (omega (arith, c .before .before .before .before .before .before .before .pre .0), c .before .before .before .before .before .before .before .pre .1)
-
-split-mul-weighed : (t : ℕ) → split-lts.Need-mul-weighed (
-  set-reads.Asked,
-  set-reads.Learnt,
-  actions-reads.Asked,
-  actions-reads.Learnt,
-  gain-below t,
-  gain.Post,
-  weighed-reads.Asked,
-  weighed-reads.Learnt,
-  behind-reads.Asked,
-  behind-reads.Learnt,
-) (split-at t) split.Post
-split-mul-weighed t c = search needs
-
-split-sub-weighed : (t : ℕ) → split-lts.Need-sub-weighed (
-  set-reads.Asked,
-  set-reads.Learnt,
-  actions-reads.Asked,
-  actions-reads.Learnt,
-  gain-below t,
-  gain.Post,
-  weighed-reads.Asked,
-  weighed-reads.Learnt,
-  behind-reads.Asked,
-  behind-reads.Learnt,
-) (split-at t) split.Post
-split-sub-weighed t c = search needs
-
-split-part-weighed-start : (t : ℕ) → split-lts.Need-part-weighed-start (
-  set-reads.Asked,
-  set-reads.Learnt,
-  actions-reads.Asked,
-  actions-reads.Learnt,
-  gain-below t,
-  gain.Post,
-  weighed-reads.Asked,
-  weighed-reads.Learnt,
-  behind-reads.Asked,
-  behind-reads.Learnt,
-) (split-at t) split.Post
-split-part-weighed-start t c = search needs
-
-split-part-weighed-end : (t : ℕ) → split-lts.Need-part-weighed-end (
-  set-reads.Asked,
-  set-reads.Learnt,
-  actions-reads.Asked,
-  actions-reads.Learnt,
-  gain-below t,
-  gain.Post,
-  weighed-reads.Asked,
-  weighed-reads.Learnt,
-  behind-reads.Asked,
-  behind-reads.Learnt,
-) (split-at t) split.Post
-split-part-weighed-end t c = search needs
+) (split-at t) split.Post split-Inv-loop split-μ-loop
+split-gain-requires t c κs = (omega (arith, c .before .before .before .before .before .before .before .before .before .pre .0), valuing.walk-at (c .before .before .before .before .before .before .before .before .before .args .a) (c .before .before .before .before .before .before .before .before .before .args .seat) (c .before .before .before .before .before .before .before .before .before .args .depth) (c .before .before .before .before .before .before .before .before .before .args .heads) (c .before .before .before .before .before .before .before .before .before .args .reach) (c .before .before .before .before .before .before .before .before .before .args .kept) (c .before .before .before .before .before .before .before .before .before .pre .1) (c .before .before .loop .at) (c .before .before .before .before .before .before .before .before .before .args .depth) (omega arith) (c .before .before .loop .inv .1))
 
 split-weighed-requires : (t : ℕ) → split-lts.Need-weighed-requires (
   set-reads.Asked,
@@ -881,8 +851,8 @@ split-weighed-requires : (t : ℕ) → split-lts.Need-weighed-requires (
   weighed-reads.Learnt,
   behind-reads.Asked,
   behind-reads.Learnt,
-) (split-at t) split.Post
-split-weighed-requires t c κs = subst (λ n. 0 < n) (sym (part-length (now (c .before .before .before .before .before .before .before .before .before .before .before .args .profile)) (c .before .before .before .before .before .before .before .before .set .result) (c .before .before .before .before .before .before .before .before .set .result + c .before .before .before .before .before .before .before .actions .result) (c .before .before .before .before .before .if2 .left))) (omega (arith, c .before .before .before .before .before .before .if1 .left))
+) (split-at t) split.Post split-Inv-loop split-μ-loop
+split-weighed-requires t c κs = c .before .before .before .before .loop-test .taken
 
 split-behind-requires : (t : ℕ) → split-lts.Need-behind-requires (
   set-reads.Asked,
@@ -895,10 +865,10 @@ split-behind-requires : (t : ℕ) → split-lts.Need-behind-requires (
   weighed-reads.Learnt,
   behind-reads.Asked,
   behind-reads.Learnt,
-) (split-at t) split.Post
-split-behind-requires t c κs = omega (arith, c .before .before .before .before .before .before .before .before .before .before .before .before .before .pre .1 .place)
+) (split-at t) split.Post split-Inv-loop split-μ-loop
+split-behind-requires t c κs = omega (arith, c .before .before .before .before .before .before .before .loop .inv .1)
 
-split-gain-requires-2 : (t : ℕ) → split-lts.Need-gain-requires-2 (
+split-add-action : (t : ℕ) → split-lts.Need-add-action (
   set-reads.Asked,
   set-reads.Learnt,
   actions-reads.Asked,
@@ -909,10 +879,10 @@ split-gain-requires-2 : (t : ℕ) → split-lts.Need-gain-requires-2 (
   weighed-reads.Learnt,
   behind-reads.Asked,
   behind-reads.Learnt,
-) (split-at t) split.Post
-split-gain-requires-2 t c κs = (omega (arith, c .before .before .before .before .before .before .before .before .before .before .before .before .before .before .before .pre .0), valuing.walk-at (c .before .before .before .before .before .before .before .before .before .before .before .before .before .before .before .args .a) (c .before .before .before .before .before .before .before .before .before .before .before .before .before .before .before .args .seat) (c .before .before .before .before .before .before .before .before .before .before .before .before .before .before .before .args .depth) (c .before .before .before .before .before .before .before .before .before .before .before .before .before .before .before .args .heads) (c .before .before .before .before .before .before .before .before .before .before .before .before .before .before .before .args .reach) (c .before .before .before .before .before .before .before .before .before .before .before .before .before .before .before .args .kept) (c .before .before .before .before .before .before .before .before .before .before .before .before .before .before .before .pre .1) (c .before .behind .result) (c .before .before .before .before .before .before .before .before .before .before .before .before .before .before .before .args .depth) (omega arith) (omega (arith, c .before .behind .ensures .near, c .before .before .before .before .before .before .before .before .before .before .before .before .before .before .before .pre .1 .shallow)))
+) (split-at t) split.Post split-Inv-loop split-μ-loop
+split-add-action t c = record { fits = omega (arith, c .before .before .before .before .before .before .before .loop-test .taken) }
 
-split-mul-weighed-2 : (t : ℕ) → split-lts.Need-mul-weighed-2 (
+split-loop-less : (t : ℕ) → split-lts.Need-loop-less (
   set-reads.Asked,
   set-reads.Learnt,
   actions-reads.Asked,
@@ -923,10 +893,10 @@ split-mul-weighed-2 : (t : ℕ) → split-lts.Need-mul-weighed-2 (
   weighed-reads.Learnt,
   behind-reads.Asked,
   behind-reads.Learnt,
-) (split-at t) split.Post
-split-mul-weighed-2 t c = search needs
+) (split-at t) split.Post split-Inv-loop split-μ-loop
+split-loop-less t c = omega (arith, c .before .before .before .before .before .before .before .loop-test .taken)
 
-split-sub-weighed-2 : (t : ℕ) → split-lts.Need-sub-weighed-2 (
+split-loop-again : (t : ℕ) → split-lts.Need-loop-again (
   set-reads.Asked,
   set-reads.Learnt,
   actions-reads.Asked,
@@ -937,50 +907,8 @@ split-sub-weighed-2 : (t : ℕ) → split-lts.Need-sub-weighed-2 (
   weighed-reads.Learnt,
   behind-reads.Asked,
   behind-reads.Learnt,
-) (split-at t) split.Post
-split-sub-weighed-2 t c = search needs
-
-split-part-weighed-start-2 : (t : ℕ) → split-lts.Need-part-weighed-start-2 (
-  set-reads.Asked,
-  set-reads.Learnt,
-  actions-reads.Asked,
-  actions-reads.Learnt,
-  gain-below t,
-  gain.Post,
-  weighed-reads.Asked,
-  weighed-reads.Learnt,
-  behind-reads.Asked,
-  behind-reads.Learnt,
-) (split-at t) split.Post
-split-part-weighed-start-2 t c = search needs
-
-split-part-weighed-end-2 : (t : ℕ) → split-lts.Need-part-weighed-end-2 (
-  set-reads.Asked,
-  set-reads.Learnt,
-  actions-reads.Asked,
-  actions-reads.Learnt,
-  gain-below t,
-  gain.Post,
-  weighed-reads.Asked,
-  weighed-reads.Learnt,
-  behind-reads.Asked,
-  behind-reads.Learnt,
-) (split-at t) split.Post
-split-part-weighed-end-2 t c = search needs
-
-split-weighed-requires-2 : (t : ℕ) → split-lts.Need-weighed-requires-2 (
-  set-reads.Asked,
-  set-reads.Learnt,
-  actions-reads.Asked,
-  actions-reads.Learnt,
-  gain-below t,
-  gain.Post,
-  weighed-reads.Asked,
-  weighed-reads.Learnt,
-  behind-reads.Asked,
-  behind-reads.Learnt,
-) (split-at t) split.Post
-split-weighed-requires-2 t c κs = subst (λ n. 1 < n) (sym (part-length (now (c .before .before .before .before .before .before .before .before .before .before .before .before .before .before .before .before .before .before .before .args .profile)) (c .before .before .before .before .before .before .before .before .before .before .before .before .before .before .before .before .set .result) (c .before .before .before .before .before .before .before .before .before .before .before .before .before .before .before .before .set .result + c .before .before .before .before .before .before .before .before .before .before .before .before .before .before .before .actions .result) (c .before .before .before .before .before .before .before .before .before .before .before .before .before .if2 .left))) (omega (arith, c .before .before .before .before .before .before .before .before .before .before .before .before .before .before .if1 .left))
+) (split-at t) split.Post split-Inv-loop split-μ-loop
+split-loop-again t c = (valuing.halfway-more (now (c .before .before .before .before .before .before .before .before .before .before .before .before .before .before .before .args .profile)) (c .before .before .before .before .before .before .before .before .before .before .before .before .before .before .before .args .seat) (c .before .before .before .before .before .before .before .before .before .before .before .before .before .before .before .args .depth) (c .before .before .before .before .before .before .before .before .before .before .before .before .before .before .before .args .heads) (c .before .before .before .before .before .before .before .before .before .before .before .before .before .before .before .args .reach) (c .before .before .before .before .before .before .before .before .before .before .before .before .before .before .before .args .kept) (c .before .before .before .before .before .before .before .before .before .before .before .before .before .before .before .args .a) (c .before .before .before .before .before .before .before .before .before .before .before .before .before .before .before .args .x) (now (c .before .before .before .before .before .before .before .before .before .before .before .before .before .before .before .args .w)) (c .before .before .before .before .before .before .before .before .before .before .before .before .set .result) (c .before .before .before .before .before .before .before .before .before .before .before .actions .result) (c .before .before .before .before .before .before .before .before .before .before .before .before .set .ensures) (c .before .before .before .before .before .before .before .before .before .before .before .actions .ensures) (c .before .before .before .before .before .before .before .before .before .before .if1 .left) (c .before .before .before .before .before .before .before .before .loop .w) (c .before .before .before .before .before .gain .last .0) (c .before .before .before .before .before .before .before .before .loop .at) (c .before .before .before .before .before .before .before .before .loop .action) (c .before .before .before .before .before .before .before .before .loop .sum) (c .before .before .before .before .before .gain .result) (c .before .before .weighed .result) (c .behind .result) (c .before .before .before .before .before .before .before .before .loop .inv .0) (c .before .before .before .before .before .before .before .loop-test .taken) (c .before .before .before .before .before .gain .ensures) (c .before .before .weighed .ensures) (c .behind .ensures), omega (arith, c .behind .ensures .near, c .before .before .before .before .before .before .before .before .before .before .before .before .before .before .before .pre .1 .shallow), omega (arith, c .before .before .before .before .before .gain .kept .0, c .before .before .before .before .before .before .before .before .loop .inv .2))
 
 split-same-length : (t : ℕ) → split-lts.Need-same-length (
   set-reads.Asked,
@@ -993,10 +921,10 @@ split-same-length : (t : ℕ) → split-lts.Need-same-length (
   weighed-reads.Learnt,
   behind-reads.Asked,
   behind-reads.Learnt,
-) (split-at t) split.Post
+) (split-at t) split.Post split-Inv-loop split-μ-loop
 split-same-length t c = search needs
 
-split-returns-3 : (t : ℕ) → split-lts.Need-returns-3 (
+split-returns-2 : (t : ℕ) → split-lts.Need-returns-2 (
   set-reads.Asked,
   set-reads.Learnt,
   actions-reads.Asked,
@@ -1007,134 +935,8 @@ split-returns-3 : (t : ℕ) → split-lts.Need-returns-3 (
   weighed-reads.Learnt,
   behind-reads.Asked,
   behind-reads.Learnt,
-) (split-at t) split.Post
-split-returns-3 t c = valuing.split-two (now (c .before .before .before .before .before .before .before .before .before .before .before .before .before .before .before .before .before .before .before .before .before .args .profile)) (c .before .before .before .before .before .before .before .before .before .before .before .before .before .before .before .before .before .before .before .before .before .args .seat) (c .before .before .before .before .before .before .before .before .before .before .before .before .before .before .before .before .before .before .before .before .before .args .depth) (c .before .before .before .before .before .before .before .before .before .before .before .before .before .before .before .before .before .before .before .before .before .args .heads) (c .before .before .before .before .before .before .before .before .before .before .before .before .before .before .before .before .before .before .before .before .before .args .reach) (c .before .before .before .before .before .before .before .before .before .before .before .before .before .before .before .before .before .before .before .before .before .args .kept) (c .before .before .before .before .before .before .before .before .before .before .before .before .before .before .before .before .before .before .before .before .before .args .a) (c .before .before .before .before .before .before .before .before .before .before .before .before .before .before .before .before .before .before .before .before .before .args .x) (now (c .before .before .before .before .before .before .before .before .before .before .before .before .before .before .before .before .before .before .before .before .before .args .w)) (c .before .before .before .before .before .before .before .before .before .before .before .before .before .before .before .before .before .before .set .result) (c .before .before .before .before .before .before .before .before .before .before .before .before .before .before .before .before .before .actions .result) (c .before .before .before .before .before .before .before .before .before .before .before .before .before .before .before .before .before .before .set .ensures) (c .before .before .before .before .before .before .before .before .before .before .before .before .before .before .before .before .before .actions .ensures) (c .before .before .before .before .before .before .before .before .before .before .before .before .before .before .before .if2 .left) (c .before .before .before .before .before .before .before .before .before .before .before .before .before .gain .last .0) (c .before .before .before .before .before .gain2 .last .0) (c .before .before .before .before .before .before .before .before .before .before .before .before .before .gain .result) (c .before .before .before .before .before .gain2 .result) (c .before .before .before .before .before .before .before .before .before .weighed .result) (c .before .weighed2 .result) (c .before .before .before .before .before .before .before .behind .result) (c .before .before .before .before .before .before .before .before .before .before .before .before .before .gain .ensures) (c .before .before .before .before .before .before .before .behind .ensures) (c .before .before .before .before .before .gain2 .ensures) (c .before .before .before .before .before .before .before .before .before .weighed .ensures) (c .before .weighed2 .ensures) (sym (c .before .before .before .before .before .before .before .before .before .before .before .before .before .before .before .before .before .actions .ensures) ∙ c .if3 .taken)
-
-split-behind-requires-2 : (t : ℕ) → split-lts.Need-behind-requires-2 (
-  set-reads.Asked,
-  set-reads.Learnt,
-  actions-reads.Asked,
-  actions-reads.Learnt,
-  gain-below t,
-  gain.Post,
-  weighed-reads.Asked,
-  weighed-reads.Learnt,
-  behind-reads.Asked,
-  behind-reads.Learnt,
-) (split-at t) split.Post
-split-behind-requires-2 t c κs = omega (arith, c .before .before .before .before .before .before .before .before .behind .ensures .near)
-
-split-gain-requires-3 : (t : ℕ) → split-lts.Need-gain-requires-3 (
-  set-reads.Asked,
-  set-reads.Learnt,
-  actions-reads.Asked,
-  actions-reads.Learnt,
-  gain-below t,
-  gain.Post,
-  weighed-reads.Asked,
-  weighed-reads.Learnt,
-  behind-reads.Asked,
-  behind-reads.Learnt,
-) (split-at t) split.Post
-split-gain-requires-3 t c κs = (omega (arith, c .before .before .before .before .before .before .before .before .before .before .before .before .before .before .before .before .before .before .before .before .before .before .before .before .pre .0), valuing.walk-at (c .before .before .before .before .before .before .before .before .before .before .before .before .before .before .before .before .before .before .before .before .before .before .before .before .args .a) (c .before .before .before .before .before .before .before .before .before .before .before .before .before .before .before .before .before .before .before .before .before .before .before .before .args .seat) (c .before .before .before .before .before .before .before .before .before .before .before .before .before .before .before .before .before .before .before .before .before .before .before .before .args .depth) (c .before .before .before .before .before .before .before .before .before .before .before .before .before .before .before .before .before .before .before .before .before .before .before .before .args .heads) (c .before .before .before .before .before .before .before .before .before .before .before .before .before .before .before .before .before .before .before .before .before .before .before .before .args .reach) (c .before .before .before .before .before .before .before .before .before .before .before .before .before .before .before .before .before .before .before .before .before .before .before .before .args .kept) (c .before .before .before .before .before .before .before .before .before .before .before .before .before .before .before .before .before .before .before .before .before .before .before .before .pre .1) (c .before .behind2 .result) (c .before .before .before .before .before .before .before .before .before .before .before .before .before .before .before .before .before .before .before .before .before .before .before .before .args .depth) (omega arith) (omega (arith, c .before .behind2 .ensures .near, c .before .before .before .before .before .before .before .before .before .before .before .before .before .before .before .before .before .before .before .before .before .before .before .before .pre .1 .shallow)))
-
-split-mul-weighed-3 : (t : ℕ) → split-lts.Need-mul-weighed-3 (
-  set-reads.Asked,
-  set-reads.Learnt,
-  actions-reads.Asked,
-  actions-reads.Learnt,
-  gain-below t,
-  gain.Post,
-  weighed-reads.Asked,
-  weighed-reads.Learnt,
-  behind-reads.Asked,
-  behind-reads.Learnt,
-) (split-at t) split.Post
-split-mul-weighed-3 t c = record { fits = omega (arith, c .before .before .before .before .before .before .before .before .before .before .before .before .before .before .before .before .before .before .before .before .before .before .before .before .set .ensures) }
-
-split-sub-weighed-3 : (t : ℕ) → split-lts.Need-sub-weighed-3 (
-  set-reads.Asked,
-  set-reads.Learnt,
-  actions-reads.Asked,
-  actions-reads.Learnt,
-  gain-below t,
-  gain.Post,
-  weighed-reads.Asked,
-  weighed-reads.Learnt,
-  behind-reads.Asked,
-  behind-reads.Learnt,
-) (split-at t) split.Post
-split-sub-weighed-3 t c = search needs
-
-split-part-weighed-start-3 : (t : ℕ) → split-lts.Need-part-weighed-start-3 (
-  set-reads.Asked,
-  set-reads.Learnt,
-  actions-reads.Asked,
-  actions-reads.Learnt,
-  gain-below t,
-  gain.Post,
-  weighed-reads.Asked,
-  weighed-reads.Learnt,
-  behind-reads.Asked,
-  behind-reads.Learnt,
-) (split-at t) split.Post
-split-part-weighed-start-3 t c = search needs
-
-split-part-weighed-end-3 : (t : ℕ) → split-lts.Need-part-weighed-end-3 (
-  set-reads.Asked,
-  set-reads.Learnt,
-  actions-reads.Asked,
-  actions-reads.Learnt,
-  gain-below t,
-  gain.Post,
-  weighed-reads.Asked,
-  weighed-reads.Learnt,
-  behind-reads.Asked,
-  behind-reads.Learnt,
-) (split-at t) split.Post
-split-part-weighed-end-3 t c = search needs
-
-split-weighed-requires-3 : (t : ℕ) → split-lts.Need-weighed-requires-3 (
-  set-reads.Asked,
-  set-reads.Learnt,
-  actions-reads.Asked,
-  actions-reads.Learnt,
-  gain-below t,
-  gain.Post,
-  weighed-reads.Asked,
-  weighed-reads.Learnt,
-  behind-reads.Asked,
-  behind-reads.Learnt,
-) (split-at t) split.Post
-split-weighed-requires-3 t c κs = subst (λ n. 2 < n) (sym (part-length (now (c .before .before .before .before .before .before .before .before .before .before .before .before .before .before .before .before .before .before .before .before .before .before .before .before .before .before .before .before .args .profile)) (c .before .before .before .before .before .before .before .before .before .before .before .before .before .before .before .before .before .before .before .before .before .before .before .before .before .set .result) (c .before .before .before .before .before .before .before .before .before .before .before .before .before .before .before .before .before .before .before .before .before .before .before .before .before .set .result + c .before .before .before .before .before .before .before .before .before .before .before .before .before .before .before .before .before .before .before .before .before .before .before .before .actions .result) (c .before .before .before .before .before .before .before .before .before .before .before .before .before .before .before .before .before .before .before .before .before .before .if2 .left))) (omega (arith, c .before .before .before .before .before .before .before .before .before .before .before .before .before .before .before .before .before .before .before .before .before .before .before .if1 .left, c .before .before .before .before .before .before .before .if3 .left))
-
-split-same-length-2 : (t : ℕ) → split-lts.Need-same-length-2 (
-  set-reads.Asked,
-  set-reads.Learnt,
-  actions-reads.Asked,
-  actions-reads.Learnt,
-  gain-below t,
-  gain.Post,
-  weighed-reads.Asked,
-  weighed-reads.Learnt,
-  behind-reads.Asked,
-  behind-reads.Learnt,
-) (split-at t) split.Post
-split-same-length-2 t c = search needs
-
-split-returns-4 : (t : ℕ) → split-lts.Need-returns-4 (
-  set-reads.Asked,
-  set-reads.Learnt,
-  actions-reads.Asked,
-  actions-reads.Learnt,
-  gain-below t,
-  gain.Post,
-  weighed-reads.Asked,
-  weighed-reads.Learnt,
-  behind-reads.Asked,
-  behind-reads.Learnt,
-) (split-at t) split.Post
-split-returns-4 t c = valuing.split-three (now (c .before .before .before .before .before .before .before .before .before .before .before .before .before .before .before .before .before .before .before .before .before .before .before .before .before .before .before .before .before .args .profile)) (c .before .before .before .before .before .before .before .before .before .before .before .before .before .before .before .before .before .before .before .before .before .before .before .before .before .before .before .before .before .args .seat) (c .before .before .before .before .before .before .before .before .before .before .before .before .before .before .before .before .before .before .before .before .before .before .before .before .before .before .before .before .before .args .depth) (c .before .before .before .before .before .before .before .before .before .before .before .before .before .before .before .before .before .before .before .before .before .before .before .before .before .before .before .before .before .args .heads) (c .before .before .before .before .before .before .before .before .before .before .before .before .before .before .before .before .before .before .before .before .before .before .before .before .before .before .before .before .before .args .reach) (c .before .before .before .before .before .before .before .before .before .before .before .before .before .before .before .before .before .before .before .before .before .before .before .before .before .before .before .before .before .args .kept) (c .before .before .before .before .before .before .before .before .before .before .before .before .before .before .before .before .before .before .before .before .before .before .before .before .before .before .before .before .before .args .a) (c .before .before .before .before .before .before .before .before .before .before .before .before .before .before .before .before .before .before .before .before .before .before .before .before .before .before .before .before .before .args .x) (now (c .before .before .before .before .before .before .before .before .before .before .before .before .before .before .before .before .before .before .before .before .before .before .before .before .before .before .before .before .before .args .w)) (c .before .before .before .before .before .before .before .before .before .before .before .before .before .before .before .before .before .before .before .before .before .before .before .before .before .before .set .result) (c .before .before .before .before .before .before .before .before .before .before .before .before .before .before .before .before .before .before .before .before .before .before .before .before .before .actions .result) (c .before .before .before .before .before .before .before .before .before .before .before .before .before .before .before .before .before .before .before .before .before .before .before .before .before .before .set .ensures) (c .before .before .before .before .before .before .before .before .before .before .before .before .before .before .before .before .before .before .before .before .before .before .before .before .before .actions .ensures) (c .before .before .before .before .before .before .before .before .before .before .before .before .before .before .before .before .before .before .before .before .before .before .before .if2 .left) (c .before .before .before .before .before .before .before .before .before .before .before .before .before .before .before .before .before .before .before .before .before .gain .last .0) (c .before .before .before .before .before .before .before .before .before .before .before .before .before .gain2 .last .0) (c .before .before .before .before .before .before .before .before .before .before .before .before .before .before .before .before .before .before .before .before .before .gain .result) (c .before .before .before .before .before .before .before .before .before .before .before .before .before .gain2 .result) (c .before .before .before .before .before .before .before .before .before .before .before .before .before .before .before .before .before .weighed .result) (c .before .before .before .before .before .before .before .before .before .weighed2 .result) (c .before .before .before .before .before .before .before .before .before .before .before .before .before .before .before .behind .result) (c .before .before .before .before .before .before .before .before .before .before .before .before .before .before .before .before .before .before .before .before .before .gain .ensures) (c .before .before .before .before .before .before .before .before .before .before .before .before .before .before .before .behind .ensures) (c .before .before .before .before .before .before .before .before .before .before .before .before .before .gain2 .ensures) (c .before .before .before .before .before .before .before .before .before .before .before .before .before .before .before .before .before .weighed .ensures) (c .before .before .before .before .before .before .before .before .before .weighed2 .ensures) (c .before .before .before .before .gain3 .last .0) (c .before .before .before .before .gain3 .result) (c .weighed3 .result) (c .before .before .before .before .before .before .behind2 .result) (c .before .before .before .before .before .before .behind2 .ensures) (c .before .before .before .before .gain3 .ensures) (c .weighed3 .ensures) (λ l. omega (arith, l, c .before .before .before .before .before .before .before .before .before .before .before .before .before .before .before .before .before .before .before .before .before .before .before .before .if1 .left, c .before .before .before .before .before .before .before .before .before .before .before .before .before .before .before .before .before .before .before .before .before .before .before .before .before .actions .ensures)) (λ q. c .before .before .before .before .before .before .before .before .if3 .left (c .before .before .before .before .before .before .before .before .before .before .before .before .before .before .before .before .before .before .before .before .before .before .before .before .before .actions .ensures ∙ q))
+) (split-at t) split.Post split-Inv-loop split-μ-loop
+split-returns-2 t c = valuing.halfway-end (now (c .before .before .before .before .before .before .before .before .args .profile)) (c .before .before .before .before .before .before .before .before .args .seat) (c .before .before .before .before .before .before .before .before .args .depth) (c .before .before .before .before .before .before .before .before .args .heads) (c .before .before .before .before .before .before .before .before .args .reach) (c .before .before .before .before .before .before .before .before .args .kept) (c .before .before .before .before .before .before .before .before .args .a) (c .before .before .before .before .before .before .before .before .args .x) (now (c .before .before .before .before .before .before .before .before .args .w)) (c .before .before .before .before .before .set .result) (c .before .before .before .before .actions .result) (c .before .before .before .before .before .set .ensures) (c .before .before .before .before .actions .ensures) (c .before .before .before .if1 .left) (c .before .loop .w) (c .before .loop .at) (c .before .loop .action) (c .before .loop .sum) (c .before .loop .inv .0) (omega (arith, c .loop-test .left))
 
 abbrev total-Inv-loop : total-lts.InvT-loop
 total-Inv-loop w₀ profile first action seat depth heads reach kept sum₀ at₀ w sum at = choosing.Summed profile seat depth heads reach kept first action w₀ w at sum × (at < 2097152) × (length w ≡ length w₀)
@@ -1149,8 +951,8 @@ total-add-word : (t : ℕ) → total-lts.Need-add-word (
   child-reads.Learnt,
   gain-below t,
   gain.Post,
-  float-at-reads.Asked,
-  float-at-reads.Learnt,
+  reached-reads.Asked,
+  reached-reads.Learnt,
   later-reads.Asked,
   later-reads.Learnt,
 ) (total-at t) total.Post total-Inv-loop total-μ-loop
@@ -1163,8 +965,8 @@ total-word-requires : (t : ℕ) → total-lts.Need-word-requires (
   child-reads.Learnt,
   gain-below t,
   gain.Post,
-  float-at-reads.Asked,
-  float-at-reads.Learnt,
+  reached-reads.Asked,
+  reached-reads.Learnt,
   later-reads.Asked,
   later-reads.Learnt,
 ) (total-at t) total.Post total-Inv-loop total-μ-loop
@@ -1177,8 +979,8 @@ total-loop-holds : (t : ℕ) → total-lts.Need-loop-holds (
   child-reads.Learnt,
   gain-below t,
   gain.Post,
-  float-at-reads.Asked,
-  float-at-reads.Learnt,
+  reached-reads.Asked,
+  reached-reads.Learnt,
   later-reads.Asked,
   later-reads.Learnt,
 ) (total-at t) total.Post total-Inv-loop total-μ-loop
@@ -1191,8 +993,8 @@ total-child-requires : (t : ℕ) → total-lts.Need-child-requires (
   child-reads.Learnt,
   gain-below t,
   gain.Post,
-  float-at-reads.Asked,
-  float-at-reads.Learnt,
+  reached-reads.Asked,
+  reached-reads.Learnt,
   later-reads.Asked,
   later-reads.Learnt,
 ) (total-at t) total.Post total-Inv-loop total-μ-loop
@@ -1205,40 +1007,40 @@ total-gain-requires : (t : ℕ) → total-lts.Need-gain-requires (
   child-reads.Learnt,
   gain-below t,
   gain.Post,
-  float-at-reads.Asked,
-  float-at-reads.Learnt,
+  reached-reads.Asked,
+  reached-reads.Learnt,
   later-reads.Asked,
   later-reads.Learnt,
 ) (total-at t) total.Post total-Inv-loop total-μ-loop
 total-gain-requires t c κs = (omega (arith, c .before .before .before .before .before .before .before .before .before .pre .0), valuing.walk-at (c .before .before .before .before .before .before .before .before .before .args .first) (c .before .before .before .before .before .before .before .before .before .args .seat) (c .before .before .before .before .before .before .before .before .before .args .depth) (c .before .before .before .before .before .before .before .before .before .args .heads) (c .before .before .before .before .before .before .before .before .before .args .reach) (c .before .before .before .before .before .before .before .before .before .args .kept) (c .before .before .before .before .before .before .before .before .before .pre .1) (c .before .child .result) (c .before .before .before .before .before .before .before .before .before .args .depth) (omega arith) (omega (arith, c .before .child .ensures .near, c .before .before .before .before .before .before .before .before .before .pre .1 .shallow)))
 
-total-add-float-at : (t : ℕ) → total-lts.Need-add-float-at (
+total-add-reached : (t : ℕ) → total-lts.Need-add-reached (
   word-reads.Asked,
   word-reads.Learnt,
   child-reads.Asked,
   child-reads.Learnt,
   gain-below t,
   gain.Post,
-  float-at-reads.Asked,
-  float-at-reads.Learnt,
+  reached-reads.Asked,
+  reached-reads.Learnt,
   later-reads.Asked,
   later-reads.Learnt,
 ) (total-at t) total.Post total-Inv-loop total-μ-loop
-total-add-float-at t c = record { fits = omega (arith, c .before .before .before .before .before .before .before .before .before .before .before .before .before .pre .1 .reach, c .before .before .before .before .before .before .before .before .loop .inv .1) }
+total-add-reached t c = record { fits = omega (arith, c .before .before .before .before .before .before .before .before .before .before .before .before .before .pre .1 .reach, c .before .before .before .before .before .before .before .before .loop .inv .1) }
 
-total-float-at-requires : (t : ℕ) → total-lts.Need-float-at-requires (
+total-reached-requires : (t : ℕ) → total-lts.Need-reached-requires (
   word-reads.Asked,
   word-reads.Learnt,
   child-reads.Asked,
   child-reads.Learnt,
   gain-below t,
   gain.Post,
-  float-at-reads.Asked,
-  float-at-reads.Learnt,
+  reached-reads.Asked,
+  reached-reads.Learnt,
   later-reads.Asked,
   later-reads.Learnt,
 ) (total-at t) total.Post total-Inv-loop total-μ-loop
-total-float-at-requires t c κs = search needs
+total-reached-requires t c κs = search needs
 
 total-word-requires-2 : (t : ℕ) → total-lts.Need-word-requires-2 (
   word-reads.Asked,
@@ -1247,8 +1049,8 @@ total-word-requires-2 : (t : ℕ) → total-lts.Need-word-requires-2 (
   child-reads.Learnt,
   gain-below t,
   gain.Post,
-  float-at-reads.Asked,
-  float-at-reads.Learnt,
+  reached-reads.Asked,
+  reached-reads.Learnt,
   later-reads.Asked,
   later-reads.Learnt,
 ) (total-at t) total.Post total-Inv-loop total-μ-loop
@@ -1261,8 +1063,8 @@ total-later-requires : (t : ℕ) → total-lts.Need-later-requires (
   child-reads.Learnt,
   gain-below t,
   gain.Post,
-  float-at-reads.Asked,
-  float-at-reads.Learnt,
+  reached-reads.Asked,
+  reached-reads.Learnt,
   later-reads.Asked,
   later-reads.Learnt,
 ) (total-at t) total.Post total-Inv-loop total-μ-loop
@@ -1275,8 +1077,8 @@ total-same-length : (t : ℕ) → total-lts.Need-same-length (
   child-reads.Learnt,
   gain-below t,
   gain.Post,
-  float-at-reads.Asked,
-  float-at-reads.Learnt,
+  reached-reads.Asked,
+  reached-reads.Learnt,
   later-reads.Asked,
   later-reads.Learnt,
 ) (total-at t) total.Post total-Inv-loop total-μ-loop
@@ -1289,12 +1091,12 @@ total-returns : (t : ℕ) → total-lts.Need-returns (
   child-reads.Learnt,
   gain-below t,
   gain.Post,
-  float-at-reads.Asked,
-  float-at-reads.Learnt,
+  reached-reads.Asked,
+  reached-reads.Learnt,
   later-reads.Asked,
   later-reads.Learnt,
 ) (total-at t) total.Post total-Inv-loop total-μ-loop
-total-returns t c = choosing.summed-stuck (now (c .before .before .before .before .before .before .before .before .before .before .before .before .before .before .before .before .before .before .args .profile)) (c .before .before .before .before .before .before .before .before .before .before .before .before .before .before .before .before .before .before .args .seat) (c .before .before .before .before .before .before .before .before .before .before .before .before .before .before .before .before .before .before .args .depth) (c .before .before .before .before .before .before .before .before .before .before .before .before .before .before .before .before .before .before .args .heads) (c .before .before .before .before .before .before .before .before .before .before .before .before .before .before .before .before .before .before .args .reach) (c .before .before .before .before .before .before .before .before .before .before .before .before .before .before .before .before .before .before .args .kept) (c .before .before .before .before .before .before .before .before .before .before .before .before .before .before .before .before .before .before .args .first) (c .before .before .before .before .before .before .before .before .before .before .before .before .before .before .before .before .before .before .args .action) (now (c .before .before .before .before .before .before .before .before .before .before .before .before .before .before .before .before .before .before .args .w)) (c .before .before .before .before .before .before .before .before .before .before .before .before .before .loop .w) (c .before .before .before .before .before .before .before .before .gain .last .0) (c .before .before .before .before .before .before .before .before .before .before .before .before .before .loop .at) (c .before .before .before .before .before .before .before .before .before .before .before .before .before .loop .sum) (c .before .before .before .before .before .before .before .before .before .before .child .result) (c .before .before .before .before .before .before .before .before .gain .result) _ (c .before .later .result) (c .before .before .before .before .before .before .before .before .before .before .before .before .before .loop .inv .0) (c .before .before .before .before .before .before .before .before .before .before .before .before .loop-test .taken) (c .before .before .before .before .before .before .before .before .before .before .child .ensures) (c .before .before .before .before .before .before .before .before .gain .ensures) (ap (λ j. plus (c .before .before .before .before .before .before .before .before .before .before .before .before .before .loop .sum) (times j (c .before .before .before .before .before .before .before .before .gain .result))) (c .before .before .before .before .float-at .ensures)) (c .before .later .ensures ∙ ap laterOf (c .before .before .word2 .ensures)) (c .if1 .taken)
+total-returns t c = choosing.summed-stuck (now (c .before .before .before .before .before .before .before .before .before .before .before .before .before .before .before .before .before .before .args .profile)) (c .before .before .before .before .before .before .before .before .before .before .before .before .before .before .before .before .before .before .args .seat) (c .before .before .before .before .before .before .before .before .before .before .before .before .before .before .before .before .before .before .args .depth) (c .before .before .before .before .before .before .before .before .before .before .before .before .before .before .before .before .before .before .args .heads) (c .before .before .before .before .before .before .before .before .before .before .before .before .before .before .before .before .before .before .args .reach) (c .before .before .before .before .before .before .before .before .before .before .before .before .before .before .before .before .before .before .args .kept) (c .before .before .before .before .before .before .before .before .before .before .before .before .before .before .before .before .before .before .args .first) (c .before .before .before .before .before .before .before .before .before .before .before .before .before .before .before .before .before .before .args .action) (now (c .before .before .before .before .before .before .before .before .before .before .before .before .before .before .before .before .before .before .args .w)) (c .before .before .before .before .before .before .before .before .before .before .before .before .before .loop .w) (c .before .before .before .before .before .before .before .before .gain .last .0) (c .before .before .before .before .before .before .before .before .before .before .before .before .before .loop .at) (c .before .before .before .before .before .before .before .before .before .before .before .before .before .loop .sum) (c .before .before .before .before .before .before .before .before .before .before .child .result) (c .before .before .before .before .before .before .before .before .gain .result) _ (c .before .later .result) (c .before .before .before .before .before .before .before .before .before .before .before .before .before .loop .inv .0) (c .before .before .before .before .before .before .before .before .before .before .before .before .loop-test .taken) (c .before .before .before .before .before .before .before .before .before .before .child .ensures) (c .before .before .before .before .before .before .before .before .gain .ensures) (c .before .before .before .before .reached .ensures) (c .before .later .ensures ∙ ap laterOf (c .before .before .word2 .ensures)) (c .if1 .taken)
 
 total-loop-less : (t : ℕ) → total-lts.Need-loop-less (
   word-reads.Asked,
@@ -1303,8 +1105,8 @@ total-loop-less : (t : ℕ) → total-lts.Need-loop-less (
   child-reads.Learnt,
   gain-below t,
   gain.Post,
-  float-at-reads.Asked,
-  float-at-reads.Learnt,
+  reached-reads.Asked,
+  reached-reads.Learnt,
   later-reads.Asked,
   later-reads.Learnt,
 ) (total-at t) total.Post total-Inv-loop total-μ-loop
@@ -1317,12 +1119,12 @@ total-loop-again : (t : ℕ) → total-lts.Need-loop-again (
   child-reads.Learnt,
   gain-below t,
   gain.Post,
-  float-at-reads.Asked,
-  float-at-reads.Learnt,
+  reached-reads.Asked,
+  reached-reads.Learnt,
   later-reads.Asked,
   later-reads.Learnt,
 ) (total-at t) total.Post total-Inv-loop total-μ-loop
-total-loop-again t c = (choosing.summed-more (now (c .before .before .before .before .before .before .before .before .before .before .before .before .before .before .before .before .before .before .args .profile)) (c .before .before .before .before .before .before .before .before .before .before .before .before .before .before .before .before .before .before .args .seat) (c .before .before .before .before .before .before .before .before .before .before .before .before .before .before .before .before .before .before .args .depth) (c .before .before .before .before .before .before .before .before .before .before .before .before .before .before .before .before .before .before .args .heads) (c .before .before .before .before .before .before .before .before .before .before .before .before .before .before .before .before .before .before .args .reach) (c .before .before .before .before .before .before .before .before .before .before .before .before .before .before .before .before .before .before .args .kept) (c .before .before .before .before .before .before .before .before .before .before .before .before .before .before .before .before .before .before .args .first) (c .before .before .before .before .before .before .before .before .before .before .before .before .before .before .before .before .before .before .args .action) (now (c .before .before .before .before .before .before .before .before .before .before .before .before .before .before .before .before .before .before .args .w)) (c .before .before .before .before .before .before .before .before .before .before .before .before .before .loop .w) (c .before .before .before .before .before .before .before .before .gain .last .0) (c .before .before .before .before .before .before .before .before .before .before .before .before .before .loop .at) (c .before .before .before .before .before .before .before .before .before .before .before .before .before .loop .sum) (c .before .before .before .before .before .before .before .before .before .before .child .result) (c .before .before .before .before .before .before .before .before .gain .result) _ (c .before .later .result) (c .before .before .before .before .before .before .before .before .before .before .before .before .before .loop .inv .0) (c .before .before .before .before .before .before .before .before .before .before .before .before .loop-test .taken) (c .before .before .before .before .before .before .before .before .before .before .child .ensures) (c .before .before .before .before .before .before .before .before .gain .ensures) (ap (λ j. plus (c .before .before .before .before .before .before .before .before .before .before .before .before .before .loop .sum) (times j (c .before .before .before .before .before .before .before .before .gain .result))) (c .before .before .before .before .float-at .ensures)) (c .before .later .ensures ∙ ap laterOf (c .before .before .word2 .ensures)), omega (arith, c .before .later .ensures), omega (arith, c .before .before .before .before .before .before .before .before .gain .kept .0, c .before .before .before .before .before .before .before .before .before .before .before .before .before .loop .inv .2))
+total-loop-again t c = (choosing.summed-more (now (c .before .before .before .before .before .before .before .before .before .before .before .before .before .before .before .before .before .before .args .profile)) (c .before .before .before .before .before .before .before .before .before .before .before .before .before .before .before .before .before .before .args .seat) (c .before .before .before .before .before .before .before .before .before .before .before .before .before .before .before .before .before .before .args .depth) (c .before .before .before .before .before .before .before .before .before .before .before .before .before .before .before .before .before .before .args .heads) (c .before .before .before .before .before .before .before .before .before .before .before .before .before .before .before .before .before .before .args .reach) (c .before .before .before .before .before .before .before .before .before .before .before .before .before .before .before .before .before .before .args .kept) (c .before .before .before .before .before .before .before .before .before .before .before .before .before .before .before .before .before .before .args .first) (c .before .before .before .before .before .before .before .before .before .before .before .before .before .before .before .before .before .before .args .action) (now (c .before .before .before .before .before .before .before .before .before .before .before .before .before .before .before .before .before .before .args .w)) (c .before .before .before .before .before .before .before .before .before .before .before .before .before .loop .w) (c .before .before .before .before .before .before .before .before .gain .last .0) (c .before .before .before .before .before .before .before .before .before .before .before .before .before .loop .at) (c .before .before .before .before .before .before .before .before .before .before .before .before .before .loop .sum) (c .before .before .before .before .before .before .before .before .before .before .child .result) (c .before .before .before .before .before .before .before .before .gain .result) _ (c .before .later .result) (c .before .before .before .before .before .before .before .before .before .before .before .before .before .loop .inv .0) (c .before .before .before .before .before .before .before .before .before .before .before .before .loop-test .taken) (c .before .before .before .before .before .before .before .before .before .before .child .ensures) (c .before .before .before .before .before .before .before .before .gain .ensures) (c .before .before .before .before .reached .ensures) (c .before .later .ensures ∙ ap laterOf (c .before .before .word2 .ensures)), omega (arith, c .before .later .ensures), omega (arith, c .before .before .before .before .before .before .before .before .gain .kept .0, c .before .before .before .before .before .before .before .before .before .before .before .before .before .loop .inv .2))
 
 total-same-length-2 : (t : ℕ) → total-lts.Need-same-length-2 (
   word-reads.Asked,
@@ -1331,8 +1133,8 @@ total-same-length-2 : (t : ℕ) → total-lts.Need-same-length-2 (
   child-reads.Learnt,
   gain-below t,
   gain.Post,
-  float-at-reads.Asked,
-  float-at-reads.Learnt,
+  reached-reads.Asked,
+  reached-reads.Learnt,
   later-reads.Asked,
   later-reads.Learnt,
 ) (total-at t) total.Post total-Inv-loop total-μ-loop
@@ -1345,8 +1147,8 @@ total-returns-2 : (t : ℕ) → total-lts.Need-returns-2 (
   child-reads.Learnt,
   gain-below t,
   gain.Post,
-  float-at-reads.Asked,
-  float-at-reads.Learnt,
+  reached-reads.Asked,
+  reached-reads.Learnt,
   later-reads.Asked,
   later-reads.Learnt,
 ) (total-at t) total.Post total-Inv-loop total-μ-loop
@@ -1735,37 +1537,36 @@ pub +choose+dealt+gain+own+split+total+value-spec : {M : Type 1} → statement M
     close μ-choose μ-dealt μ-gain μ-own μ-split μ-total μ-value (λ t. choose-lts.spec (
       word-reads.Asked,
       word-reads.Learnt,
+      start-reads.Asked,
+      start-reads.Learnt,
       total-below t,
       total.Post,
-      of-two-reads.Asked,
-      of-two-reads.Learnt,
+      past-reads.Asked,
+      past-reads.Learnt,
       put-reads.Asked,
       put-reads.Learnt,
-      of-three-reads.Asked,
-      of-three-reads.Learnt,
     )
     (choose-at t)
     choose.Post
+    choose-Inv-loop
+    choose-μ-loop
     (choose-add-word t)
     (choose-word-requires t)
     (choose-sub-result t)
     (choose-same-length t)
     (choose-returns t)
+    (choose-start-requires t)
+    (choose-loop-holds t)
     (choose-total-requires t)
-    (choose-total-requires-2 t)
-    (choose-of-two-requires t)
+    (choose-past-requires t)
+    (choose-add-action t)
+    (choose-loop-less t)
+    (choose-loop-again t)
     (choose-add-put t)
     (choose-add-put-2 t)
     (choose-put-requires t)
     (choose-same-length-2 t)
-    (choose-returns-2 t)
-    (choose-total-requires-3 t)
-    (choose-of-three-requires t)
-    (choose-add-put-3 t)
-    (choose-add-put-4 t)
-    (choose-put-requires-2 t)
-    (choose-same-length-3 t)
-    (choose-returns-3 t))
+    (choose-returns-2 t))
     (λ t. dealt-lts.spec (
       fan-reads.Asked,
       fan-reads.Learnt,
@@ -1846,35 +1647,25 @@ pub +choose+dealt+gain+own+split+total+value-spec : {M : Type 1} → statement M
     )
     (split-at t)
     split.Post
+    split-Inv-loop
+    split-μ-loop
     (split-set-requires t)
     (split-actions-requires t)
     (split-add-end t)
     (split-returns t)
-    (split-returns-2 t)
+    (split-mul-part t)
+    (split-sub-part t)
+    (split-part-part-start t)
+    (split-part-part-end t)
+    (split-loop-holds t)
     (split-gain-requires t)
-    (split-mul-weighed t)
-    (split-sub-weighed t)
-    (split-part-weighed-start t)
-    (split-part-weighed-end t)
     (split-weighed-requires t)
     (split-behind-requires t)
-    (split-gain-requires-2 t)
-    (split-mul-weighed-2 t)
-    (split-sub-weighed-2 t)
-    (split-part-weighed-start-2 t)
-    (split-part-weighed-end-2 t)
-    (split-weighed-requires-2 t)
+    (split-add-action t)
+    (split-loop-less t)
+    (split-loop-again t)
     (split-same-length t)
-    (split-returns-3 t)
-    (split-behind-requires-2 t)
-    (split-gain-requires-3 t)
-    (split-mul-weighed-3 t)
-    (split-sub-weighed-3 t)
-    (split-part-weighed-start-3 t)
-    (split-part-weighed-end-3 t)
-    (split-weighed-requires-3 t)
-    (split-same-length-2 t)
-    (split-returns-4 t))
+    (split-returns-2 t))
     (λ t. total-lts.spec (
       word-reads.Asked,
       word-reads.Learnt,
@@ -1882,8 +1673,8 @@ pub +choose+dealt+gain+own+split+total+value-spec : {M : Type 1} → statement M
       child-reads.Learnt,
       gain-below t,
       gain.Post,
-      float-at-reads.Asked,
-      float-at-reads.Learnt,
+      reached-reads.Asked,
+      reached-reads.Learnt,
       later-reads.Asked,
       later-reads.Learnt,
     )
@@ -1896,8 +1687,8 @@ pub +choose+dealt+gain+own+split+total+value-spec : {M : Type 1} → statement M
     (total-loop-holds t)
     (total-child-requires t)
     (total-gain-requires t)
-    (total-add-float-at t)
-    (total-float-at-requires t)
+    (total-add-reached t)
+    (total-reached-requires t)
     (total-word-requires-2 t)
     (total-later-requires t)
     (total-same-length t)

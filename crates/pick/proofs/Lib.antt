@@ -1,0 +1,3 @@
+-- Lemmas on the way of a choice.
+pub mod Lowest
+pub mod Past
