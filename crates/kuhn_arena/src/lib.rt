@@ -1,9 +1,9 @@
 // Kuhn's tree, laid out in work memory: the deals, and below each full deal a hand.
-use arena::index::clear;
-use arena::index::index;
 use arena::words::chance;
+use arena::words::clear;
 use arena::words::decision;
 use arena::words::put;
+use index::index;
 ghost use mathlib.Core.Path.{_≡_};
 ghost use mathlib.Core.Bool.{cond};
 ghost use Prim.Native.Nat.{_+_, _*_, _-_, _%_, _^_, _<_, _≤_};

@@ -3,9 +3,9 @@ use Prim.Native.Nat.{_*_, _-_, _≤_}
 use native.Mathlib.Omega.{arith}
 use lib.ListN.{length}
 use borrow.Author.Needs.{needs}
-use Rattle.arena.proofs.Numbering.{Walked, walked-start, walked-more, walked-end, met-few}
-use Rattle.arena.proofs.index.number.Statement.{statement}
-use Rattle.arena.proofs.index.number.Tie as tie
+use Rattle.index.proofs.Numbering.{Walked, walked-start, walked-more, walked-end, met-few}
+use Rattle.index.proofs.number.Statement.{statement}
+use Rattle.index.proofs.number.Tie as tie
 
 abbrev Inv-loop : tie.InvT-loop
 Inv-loop w₀ nodes entry₀ a₀ w entry a = Walked nodes w₀ w entry a × (a ≤ nodes) × (entry ≤ 4 * a) × (length w ≡ length w₀)

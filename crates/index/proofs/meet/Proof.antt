@@ -3,9 +3,9 @@ use mathlib.Core.Path.{sym, ap, _∙_}
 use denote.Ref.{now}
 use Prim.Native.Nat.{_+_}
 use lib.ListN.{getD, set}
-use Rattle.arena.proofs.Steps.{met-kind, met-known, met-new}
-use Rattle.arena.proofs.index.meet.Statement.{statement}
-use Rattle.arena.proofs.index.meet.Tie as tie
+use Rattle.index.proofs.Steps.{met-kind, met-known, met-new}
+use Rattle.index.proofs.meet.Statement.{statement}
+use Rattle.index.proofs.meet.Tie as tie
 
 kind-requires : tie.Need-kind-requires
 kind-requires c κs = search needs

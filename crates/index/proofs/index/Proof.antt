@@ -1,7 +1,7 @@
 use borrow.Author.Needs.{needs}
 use mathlib.Core.Path.{refl}
-use Rattle.arena.proofs.index.index.Statement.{statement}
-use Rattle.arena.proofs.index.index.Tie as tie
+use Rattle.index.proofs.index.Statement.{statement}
+use Rattle.index.proofs.index.Tie as tie
 
 number-requires : tie.Need-number-requires
 number-requires c κs = search needs

@@ -2,12 +2,10 @@
 use mathlib.Core.Path.{_≡_, refl, sym, ap, ap₂, _∙_, subst}
 use mathlib.Core.Logic.{_⊎_, inl, inr}
 use mathlib.Core.Bool.{Bool, true, false, cond}
-use mathlib.Core.List.{List, [], _∷_, _++_, append-nil, append-assoc}
-use Prim.Native.Nat.{ℕ, zero, suc, _+_, _*_, _≤_, _<_}
+use mathlib.Core.List.{List, [], _∷_, _++_, append-nil}
+use Prim.Native.Nat.{ℕ, suc, _+_, _≤_, _<_}
 use native.Mathlib.Nat as NatL
 use native.Mathlib.Omega.{arith}
-use lib.Dec.{eqb}
-use lib.IntN.{pos}
 use lib.ListN.{length, getD, set, take, drop, length-set}
 use lib.Seq.{getD-set-same, getD-set-other, take-suc, take-all, split-at}
 use Rattle.finite.proofs.Tests.{Tested, holds, fails, tested, both, and-left-fails, and-right-fails}
@@ -15,17 +13,14 @@ use borrow.Author.Tests.{eq-eqb, ne-eqb}
 use Rattle.game.specs.Sums.{sumℕ}
 use Rattle.game.specs.Tree.{Key, Tree, end, chance, decide, fan, Every}
 use Rattle.game.specs.Sets.{size, preorder, Decision, decisions, decisionOf, decisionsOf, isOf, met, firsts, entriesOf, entries, firstEntry}
-use Rattle.game.proofs.Sets.{preorder-length, decisionsOf-append, decisions-of-nodes, Each, every→each, each→every, clash, isOf-seat, isOf-key, isOf-self}
-use Rattle.game.proofs.Counting.{In, in-left, in-right, in-met, each-in, every-in, in-every}
+use Rattle.game.proofs.Sets.{preorder-length, decisionsOf-append, decisions-of-nodes, clash, isOf-seat, isOf-key, isOf-self}
+use Rattle.game.proofs.Counting.{In, in-left, in-right, in-met, every-in, in-every}
 use Rattle.game.proofs.Entries.{entriesOf-append, met-append, met-alike, firsts-again, firsts-new, entry-new}
 use Rattle.arena.specs.Words.{DECISION, kindOf, actionsOf, setOf}
-use Rattle.arena.specs.Held.{Says, Held}
-use Rattle.arena.specs.Index.{unlinked, Kept, Codes, Coded, Numbered, isNew, Met}
-use Rattle.arena.proofs.Nodes.{says-at, held→says}
-
--- a node that is none
-abbrev pub none : Tree
-none = end (λ i. pos 0)
+use Rattle.arena.specs.Held.{Says}
+use Rattle.arena.specs.Index.{unlinked, Kept, Coded}
+use Rattle.index.specs.Indexing.{Numbered, isNew, Met}
+use Rattle.arena.proofs.Nodes.{node-inside, none, node, held-node}
 
 -- ---- the nodes of t: those before place a, that at place a, those behind it
 module _ (t : Tree) where
@@ -33,28 +28,18 @@ module _ (t : Tree) where
   abbrev pub passedBy : ℕ → List Decision
   passedBy a = decisionsOf (take a (preorder t))
 
-  abbrev pub node : ℕ → Tree
-  node a = getD (preorder t) a none
-
-  short : (a : ℕ) → a < size t → a < length (preorder t)
-  short a h = rw (preorder-length t) h
-
-  pub passed-more : (a : ℕ) → a < size t → passedBy (a + 1) ≡ passedBy a ++ decisionOf (node a)
+  pub passed-more : (a : ℕ) → a < size t → passedBy (a + 1) ≡ passedBy a ++ decisionOf (node t a)
   unfolding decisionsOf
   passed-more a h = let e : a + 1 ≡ suc a = omega arith in
-      ap (λ i. decisionsOf (take i (preorder t))) e ∙ ap decisionsOf (take-suc (preorder t) a none (short a h)) ∙ decisionsOf-append (take a (preorder t)) (node a ∷ [])
-      ∙ ap (λ l. passedBy a ++ l) (append-nil (decisionOf (node a)))
+      ap (λ i. decisionsOf (take i (preorder t))) e ∙ ap decisionsOf (take-suc (preorder t) a none (node-inside t a h)) ∙ decisionsOf-append (take a (preorder t)) (node t a ∷ [])
+      ∙ ap (λ l. passedBy a ++ l) (append-nil (decisionOf (node t a)))
 
-  pub passed-split : (a : ℕ) → a < size t → decisions t ≡ passedBy a ++ (decisionOf (node a) ++ decisionsOf (drop (suc a) (preorder t)))
+  pub passed-split : (a : ℕ) → a < size t → decisions t ≡ passedBy a ++ (decisionOf (node t a) ++ decisionsOf (drop (suc a) (preorder t)))
   unfolding decisionsOf
-  passed-split a h = decisions-of-nodes t ∙ ap decisionsOf (split-at (preorder t) a none (short a h)) ∙ decisionsOf-append (take a (preorder t)) (node a ∷ drop (suc a) (preorder t))
+  passed-split a h = decisions-of-nodes t ∙ ap decisionsOf (split-at (preorder t) a none (node-inside t a h)) ∙ decisionsOf-append (take a (preorder t)) (node t a ∷ drop (suc a) (preorder t))
 
   pub passed-all : passedBy (size t) ≡ decisions t
   passed-all = ap decisionsOf (take-all (size t) (preorder t) (omega (arith, preorder-length t))) ∙ sym (decisions-of-nodes t)
-
--- the word of the node at place a
-pub held-node : (n : ℕ) (s : ℕ → Key → ℕ) (l : ℕ → ℕ → Key → ℕ) (w : List ℕ) (t : Tree) → Held n s l w 0 t → (a : ℕ) → a < size t → Says n s l (getD w a 0) a (node t a)
-held-node n s l w t h a b = subst (λ i. Says n s l (getD w i 0) i (node t a)) (NatL.zero-add a) (says-at n s l w 0 (preorder t) none (held→says n s l w 0 t h) a (short t a b))
 
 -- ---- the walk
 module _ (n : ℕ) (code : ℕ → Key → ℕ) (m : ℕ) (old : List ℕ) (t : Tree) (c : Coded n code m old t) where

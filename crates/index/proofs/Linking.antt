@@ -1,6 +1,6 @@
 -- A walk from the last node to the first links the members of each set. Assumes nothing.
 use mathlib.Core.Path.{_≡_, refl, sym, ap, ap₂, _∙_, subst}
-use mathlib.Core.Logic.{_⊎_, inl, inr}
+use mathlib.Core.Logic.{inl, inr}
 use mathlib.Core.Bool.{Bool, true, false, cond}
 use mathlib.Core.List.{List, [], _∷_, _++_}
 use Prim.Native.Nat.{ℕ, zero, suc, _+_, _-_, _%_, _≤_, _<_, suc-le-suc, zero-le}
@@ -11,19 +11,19 @@ use lib.ListN.{length, getD, set, drop, length-set, length-drop}
 use lib.Seq.{getD-set-same, getD-set-other, drop-cons, drop-length}
 use Rattle.finite.proofs.Tests.{Tested, holds, fails, tested}
 use borrow.Author.Tests.{eqb-true, eqb-false}
-use Rattle.game.specs.Reply.{same}
-use Rattle.game.specs.Tree.{Key, Tree, end, chance, decide, fan, Every}
+use Rattle.game.specs.Tree.{Key, Tree, end, chance, decide, fan}
 use Rattle.game.specs.Sets.{size, preorder, Decision, decisions, decisionOf, decisionsOf, isOf, decides, numbers, entries, firstEntry, setMembers}
 use Rattle.game.proofs.Sets.{preorder-length, clash, isOf-seat, isOf-key, isOf-self}
 use Rattle.game.proofs.Counting.{In, in-left, in-right, every-in, in-every}
 use Rattle.game.proofs.Entries.{entry-inside, entry-apart}
-use Rattle.arena.specs.Words.{DECISION, kindOf, actorOf, actionsOf, setOf, nextOf, laterOf}
+use Rattle.arena.specs.Words.{actorOf, actionsOf, setOf, nextOf}
 use Rattle.arena.specs.Held.{Says, SaysAll}
-use Rattle.arena.specs.Index.{firstOf, laterIn, unlinked, Codes, Coded, Numbered, Indexed, isKnown, entryOf, relinked, linked}
+use Rattle.arena.specs.Index.{firstOf, laterIn, unlinked, Coded, Indexed}
+use Rattle.index.specs.Indexing.{Numbered, isKnown, entryOf, relinked, pushed, linked}
 use Rattle.arena.proofs.Packing.{kind-of, actor-of, actions-of, set-of, next-of, later-of}
-use Rattle.arena.proofs.Steps.{linked-kind, linked-known, pushed}
-use Rattle.arena.proofs.Nodes.{says→held}
-use Rattle.arena.proofs.Numbering.{none, node, passed-split, passedBy, held-node}
+use Rattle.index.proofs.Steps.{linked-kind, linked-known}
+use Rattle.arena.proofs.Nodes.{says→held, none, node, held-node}
+use Rattle.index.proofs.Numbering.{passed-split, passedBy}
 
 -- what the words say one by one they say all
 says-from : (n : ℕ) (s : ℕ → Key → ℕ) (l : ℕ → ℕ → Key → ℕ) (w : List ℕ) (a : ℕ) (ts : List Tree) → ((i : ℕ) → i < length ts → Says n s l (getD w (a + i) 0) (a + i) (getD ts i none)) → SaysAll n s l w a ts
@@ -143,7 +143,7 @@ module _ (n : ℕ) (code : ℕ → Key → ℕ) (m : ℕ) (bare old : List ℕ) 
       new-is : linked (size t) (size t + m) a w ≡ new
       unfolding Says
       new-is = linked-known (size t) (size t + m) a w (s .0) (λ z. let f : suc e ≡ 0 = sym at-code ∙ z in omega arith)
-          ∙ ap (pushed (size t) (size t + m) a w) entry-is ∙ ap (λ l. set (set w a (relinked x e l)) (size t + m + e) a) later-is
+          ∙ ap (λ i. pushed (size t + m) a x i w) entry-is ∙ ap (λ l. set (set w a (relinked x e l)) (size t + m + e) a) later-is
 
       other : (i : ℕ) → (i ≡ a → ⊥) → (i ≡ size t + m + e → ⊥) → getD new i 0 ≡ getD w i 0
       other i f g = getD-set-other (set w a (relinked x e later)) (size t + m + e) i a 0 g ∙ getD-set-other w a i (relinked x e later) 0 f

@@ -1,28 +1,16 @@
 // The index of a tree in work memory: each set gets its first entry, and its members are linked.
-use crate::words::DECISION;
-use crate::words::actions;
-use crate::words::actor;
-use crate::words::decision;
-use crate::words::kind;
-use crate::words::next;
-use crate::words::put;
-use crate::words::set;
-use crate::words::word;
+use arena::words::DECISION;
+use arena::words::actions;
+use arena::words::actor;
+use arena::words::decision;
+use arena::words::kind;
+use arena::words::next;
+use arena::words::put;
+use arena::words::set;
+use arena::words::word;
 ghost use mathlib.Core.Path.{_≡_};
-ghost use Prim.Native.Nat.{_≤_};
-ghost use Rattle.arena.specs.Index.{Cleared, Numbers, Links, Indexes, Met, linked};
-
-// Writes 0 at places lo to hi.
-pub fn clear(w: &mut [u64], lo: usize, hi: usize)
-    requires { ⌜ lo ≤ hi ⌝ }
-    ensures { λ _. ⌜ Cleared lo hi (now (w .entry)) (now (w .exit)) ⌝ }
-{
-    let mut i = lo;
-    while i < hi {
-        put(w, i, 0);
-        i += 1;
-    }
-}
+ghost use Prim.Native.Nat.{_≤_, _<_};
+ghost use Rattle.index.specs.Indexing.{Numbers, Links, Indexes, Met, pushed, linked};
 
 // Enters the set of word x, if it is a decision's and new, with the next entry; the entry after it.
 fn meet(w: &mut [u64], nodes: usize, x: u64, entry: usize) -> usize
@@ -54,6 +42,21 @@ fn number(w: &mut [u64], nodes: usize)
     }
 }
 
+// Puts the node at place a, whose word is x, before the members that stand at its set's first entry.
+fn push(w: &mut [u64], heads: usize, a: usize, x: u64, entry: usize)
+    requires { ⌜ (heads ≤ 4194304) × (entry < 16384) ⌝ }
+    ensures { λ _. ⌜ now (w .exit) ≡ pushed heads a x entry (now (w .entry)) ⌝ }
+{
+    let head = heads + entry;
+    let later = word(w, head) % 2097152;
+    put(
+        w,
+        a,
+        decision(actor(x), actions(x), entry, next(x), later as usize),
+    );
+    put(w, head, a as u64);
+}
+
 // Puts the node at place a, if it is a decision, before the members of its set.
 fn link_node(w: &mut [u64], nodes: usize, heads: usize, a: usize)
     requires { ⌜ (nodes ≤ 2097152) × (heads ≤ 4194304) ⌝ }
@@ -67,15 +70,7 @@ fn link_node(w: &mut [u64], nodes: usize, heads: usize, a: usize)
     if known == 0 {
         return;
     }
-    let entry = (known - 1) % 16384;
-    let head = heads + entry;
-    let later = word(w, head) % 2097152;
-    put(
-        w,
-        a,
-        decision(actor(x), actions(x), entry, next(x), later as usize),
-    );
-    put(w, head, a as u64);
+    push(w, heads, a, x, (known - 1) % 16384);
 }
 
 // Links the members of each set, from the last node to the first.

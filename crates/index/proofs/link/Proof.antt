@@ -3,9 +3,9 @@ use Prim.Native.Nat.{_≤_}
 use native.Mathlib.Omega.{arith}
 use lib.ListN.{length}
 use borrow.Author.Needs.{needs}
-use Rattle.arena.proofs.Linking.{Linked, linked-end, linked-more, linked-start, linked-long}
-use Rattle.arena.proofs.index.link.Statement.{statement}
-use Rattle.arena.proofs.index.link.Tie as tie
+use Rattle.index.proofs.Linking.{Linked, linked-end, linked-more, linked-start, linked-long}
+use Rattle.index.proofs.link.Statement.{statement}
+use Rattle.index.proofs.link.Tie as tie
 
 abbrev Inv-loop : tie.InvT-loop
 Inv-loop w₀ nodes heads a₀ w a = Linked nodes heads w₀ w a × (a ≤ nodes) × (length w ≡ length w₀)

@@ -4,9 +4,9 @@ use Prim.Native.Nat.{_-_, _≤_}
 use native.Mathlib.Omega.{arith}
 use borrow.Author.Needs.{needs}
 use Rattle.arena.specs.Index.{Cleared}
-use Rattle.arena.proofs.Steps.{clear-none, clear-more}
-use Rattle.arena.proofs.index.clear.Statement.{statement}
-use Rattle.arena.proofs.index.clear.Tie as tie
+use Rattle.arena.proofs.Clearing.{clear-none, clear-more}
+use Rattle.arena.proofs.words.clear.Statement.{statement}
+use Rattle.arena.proofs.words.clear.Tie as tie
 
 abbrev Inv-loop : tie.InvT-loop
 Inv-loop w₀ lo hi i₀ w i = Cleared lo i w₀ w × (lo ≤ i) × (i ≤ hi)
