@@ -1,5 +1,5 @@
 -- The checks of a call that needs a tree (document 01, numbers 1 to 9), in the paper's order; a call makes those that concern its inputs.
-use mathlib.Core.Bool.{Bool, not, cond}
+use mathlib.Core.Bool.{not}
 use mathlib.Core.List.{List, [], _∷_, _++_}
 use Prim.Native.Nat.{ℕ, _*_}
 use lib.Dec.{eqb, leb, ltb}
@@ -9,12 +9,9 @@ use Rattle.refusals.specs.Refusals as Refusals
 use Rattle.finite.specs.Finite.{or}
 use Rattle.game.specs.Sets.{size, setActions, entries}
 use Rattle.game.specs.Table.{addUp}
-use Rattle.tables.specs.Games.{isKuhn, treeOf, mostParts}
 use Rattle.tables.specs.declared.Game.{Game}
-
--- the seat count is outside 2 to 10 for Kuhn, or not 2 for Leduc
-abbrev pub seats-out : Game → Bool
-seats-out g = cond (isKuhn g) (or (ltb (g .seats) 2) (ltb 10 (g .seats))) (not (eqb (g .seats) 2))
+use Rattle.tables.specs.Games.{treeOf, mostParts}
+use Rattle.tables.specs.Seats.{seats-out}
 
 -- 1 to 4: the game, its seats, its tree, and work memory of so many words
 unfoldable pub tree-checks : Game → ℕ → List Check

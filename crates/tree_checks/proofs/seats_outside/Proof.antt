@@ -2,9 +2,9 @@
 use mathlib.Core.Path.{sym, _∙_}
 use borrow.Author.Tests.{lt-ltb, le-ltb}
 use Rattle.finite.proofs.Tests.{or-left, or-rest}
 use Rattle.tables.proofs.Facts.{kuhn-out, leduc-out}
-use Rattle.tables.proofs.seats_outside.Statement.{statement}
-use Rattle.tables.proofs.seats_outside.Tie as tie
+use Rattle.tree_checks.proofs.seats_outside.Statement.{statement}
+use Rattle.tree_checks.proofs.seats_outside.Tie as tie
 
 returns : tie.Need-returns
 returns c = sym (leduc-out (c .before .before .args .g) (c .if1 .taken))

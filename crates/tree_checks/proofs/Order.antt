@@ -8,9 +8,10 @@ use lib.Dec.{ltb}
 use borrow.Author.Tests.{ltb-false}
 use Rattle.refusals.specs.Refusals.{Check, _refuses_, first}
 use Rattle.game.specs.Sets.{size}
 use Rattle.tables.specs.Games.{treeOf}
-use Rattle.tables.specs.Checks.{seats-out, tree-checks, parts-checks, table-checks}
+use Rattle.tables.specs.Seats.{seats-out}
+use Rattle.tree_checks.specs.Checks.{tree-checks, parts-checks, table-checks}
 use Rattle.tables.specs.declared.Game.{Game}
 
 -- checks that refuse decide
 pub first-refused : (xs ys : List Check) → (first xs ≡ 0 → ⊥) → first xs ≡ first (xs ++ ys)

@@ -5,11 +5,11 @@ use borrow.Author.Needs.{needs}
 use borrow.Author.Tests.{lt-ltb, le-ltb}
 use native.Mathlib.Omega.{arith}
 use Rattle.game.specs.Sets.{size}
 use Rattle.tables.specs.Games.{treeOf}
-use Rattle.tables.specs.Checks.{tree-checks}
+use Rattle.tree_checks.specs.Checks.{tree-checks}
 use Rattle.tables.proofs.Facts.{nodes-are}
-use Rattle.tables.proofs.tree_refusal.Statement.{statement}
-use Rattle.tables.proofs.tree_refusal.Tie as tie
+use Rattle.tree_checks.proofs.tree_refusal.Statement.{statement}
+use Rattle.tree_checks.proofs.tree_refusal.Tie as tie
 
 returns : tie.Need-returns
 unfolding tree-checks

@@ -1,5 +1,24 @@
 // The actions of Leduc's sets, in set order.
-pub const LEDUC_ACTIONS: [u8; 936] = [
+ghost use mathlib.Core.Path.{_≡_};
+ghost use Prim.Native.Nat.{_≤_, _<_};
+ghost use lib.ListN.{getD};
+ghost use Rattle.leduc_actions.specs.Actions.{leducActions};
+
+// How many actions a set has.
+pub fn actions(set: usize) -> usize
+    requires { ⌜ set < 936 ⌝ }
+    ensures { λ r. ⌜ (r ≡ getD leducActions set 0) × (r ≤ 3) ⌝ }
+{
+    two_or_three(ACTIONS[set])
+}
+
+fn two_or_three(x: u8) -> usize
+    ensures { λ r. ⌜ r ≡ x ⌝ }
+{
+    x as usize
+}
+
+const ACTIONS: [u8; 936] = [
     2,
     2,
     2,

@@ -1,17 +1,21 @@
 -- Sums of parts, as a loop adds them up. Assumes nothing.
 use mathlib.Core.Path.{_≡_, refl, sym, ap, ap₂, _∙_}
 use mathlib.Core.Bool.{Bool, true, false, cond}
-use mathlib.Core.List.{List, [], _∷_}
-use Prim.Native.Nat.{ℕ, zero, suc, _+_, _*_, _≤_, _<_}
-use native.Mathlib.Nat as NatL
+use mathlib.Core.List.{List}
+use Prim.Native.Nat.{ℕ, zero, suc, _+_, _-_, _≤_, _<_}
 use native.Mathlib.Numerals.{add-one}
 use native.Mathlib.Omega.{arith}
 use lib.Dec.{eqb}
 use borrow.Author.Tests.{eq-eqb, ne-eqb}
-use lib.ListN.{length, getD, take, drop, replicate, length-drop, drop-of-length-le}
+use lib.ListN.{length, getD, take, drop, length-drop, drop-of-length-le}
 use lib.Seq.{length-take-le, getD-take, drop-cons, drop-drop}
 use Rattle.game.specs.Sums.{parts}
 use Rattle.game.specs.Table.{addUp}
+use Rattle.tables.specs.declared.Game.{Game}
+use Rattle.tables.specs.Facts.{setsOf, entriesOf}
+use Rattle.tables.specs.Actions.{actionsOf}
+use Rattle.tables.proofs.Totals.{total, total-more}
+use Rattle.tables.proofs.Counts.{in-actions, part-room}
 
 pub parts-none : (p : ℕ → ℕ) → 0 ≡ parts 0 p
 unfolding parts
@@ -33,37 +37,6 @@ pub parts-same : (n : ℕ) (p q : ℕ → ℕ) → ((a : ℕ) → a < n → p a 
 unfolding parts
 parts-same zero p q h = refl
 parts-same (suc n) p q h = ap₂ _+_ (h 0 (omega arith)) (parts-same n (λ a. p (suc a)) (λ a. q (suc a)) (λ a w. h (suc a) (omega arith)))
-
--- ---- the entries of the first sets
-
-unfoldable pub total : List ℕ → ℕ
-total [] = 0
-total (n ∷ ns) = n + total ns
-
-total-suc : (ns : List ℕ) (i : ℕ) → i < length ns → total (take (suc i) ns) ≡ total (take i ns) + getD ns i 0
-unfolding total
-total-suc [] i h = absurd (omega arith)
-total-suc (n ∷ ns) zero h = omega arith
-total-suc (n ∷ ns) (suc i) h = let e = total-suc ns i (omega arith) in omega arith
-
-pub total-more : (ns : List ℕ) (i : ℕ) → i < length ns → total (take i ns) + getD ns i 0 ≡ total (take (i + 1) ns)
-total-more ns i h = rw add-one (sym (total-suc ns i h))
-
-pub total-most : (ns : List ℕ) (i : ℕ) → total (take i ns) ≤ total ns
-unfolding total
-total-most [] zero = omega arith
-total-most [] (suc i) = omega arith
-total-most (n ∷ ns) zero = omega arith
-total-most (n ∷ ns) (suc i) = let e = total-most ns i in omega arith
-
-pub total-none : (ns : List ℕ) → 0 ≡ total (take 0 ns)
-unfolding total
-total-none ns = refl
-
-pub total-same : (k n : ℕ) → total (replicate k n) ≡ k * n
-unfolding total
-total-same zero n = sym (NatL.zero-mul n)
-total-same (suc k) n = ap (λ i. n + i) (total-same k n) ∙ (NatL.add-comm n (k * n) ∙ sym (NatL.suc-mul k n))
 
 -- ---- set after set
 
@@ -105,3 +78,27 @@ module _ (D : ℕ) (ns table : List ℕ) where
   pub rest-none : (i : ℕ) → length ns ≤ i → rest i ≡ true
   unfolding addUp
   rest-none i h = ap (λ l. addUp D l (drop (total (take i ns)) table)) (drop-of-length-le ns h)
+
+-- ---- the part of set i, whose n entries begin at place at
+module _ (g : Game) (table : List ℕ) (i at n : ℕ) (e : length table ≡ entriesOf g) (w : i < setsOf g) (f : at ≡ total (take i (actionsOf g))) (m : n ≡ getD (actionsOf g) i 0) where
+  abbrev part : List ℕ
+  part = take (at + n - at) (drop at table)
+
+  pub part-inside : at + n ≤ length table
+  part-inside = omega (arith, part-room g table i e w)
+
+  pub part-few : n ≤ 3 → length part ≤ 3
+  part-few h = omega (arith, length-take-le (at + n - at) (drop at table) (rw (length-drop at table) (omega (arith, part-inside))))
+
+  part-is : part ≡ take (getD (actionsOf g) i 0) (drop (total (take i (actionsOf g))) table)
+  part-is = let k : at + n - at ≡ getD (actionsOf g) i 0 = omega arith in ap₂ (λ k j. take k (drop j table)) k f
+
+  pub next-part : at + n ≡ total (take (i + 1) (actionsOf g))
+  next-part = ap₂ _+_ f m ∙ total-more (actionsOf g) i (in-actions g i w)
+
+  module _ (D r : ℕ) (a : addUp D (actionsOf g) table ≡ rest D (actionsOf g) table i) (q : r ≡ parts (length part) (λ b. getD part b 0)) where
+    pub sum-differs : (r ≡ D → ⊥) → false ≡ addUp D (actionsOf g) table
+    sum-differs h = sym (a ∙ rest-fails D (actionsOf g) table i (in-actions g i w) part part-is (part-room g table i e w) (λ z. h (q ∙ z)))
+
+    pub sum-agrees : r ≡ D → addUp D (actionsOf g) table ≡ rest D (actionsOf g) table (i + 1)
+    sum-agrees h = a ∙ rest-goes D (actionsOf g) table i (in-actions g i w) part part-is (part-room g table i e w) (sym q ∙ h)

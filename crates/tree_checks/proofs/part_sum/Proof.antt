@@ -5,9 +5,9 @@ use borrow.Author.Needs.{needs}
 use native.Mathlib.Omega.{arith}
 use lib.ListN.{length, getD}
 use Rattle.game.specs.Sums.{parts}
-use Rattle.tables.proofs.Parts.{parts-none, parts-more, parts-all}
-use Rattle.tables.proofs.part_sum.Statement.{statement}
-use Rattle.tables.proofs.part_sum.Tie as tie
+use Rattle.tree_checks.proofs.Parts.{parts-none, parts-more, parts-all}
+use Rattle.tree_checks.proofs.part_sum.Statement.{statement}
+use Rattle.tree_checks.proofs.part_sum.Tie as tie
 
 abbrev Inv-loop : tie.InvT-loop
 Inv-loop part sum₀ a₀ sum a = (a ≤ length part) × (sum ≡ parts a (λ b. getD part b 0)) × (sum ≤ 255 * a)

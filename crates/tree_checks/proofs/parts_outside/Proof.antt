@@ -4,8 +4,8 @@ use borrow.Author.Needs.{needs}
 use borrow.Author.Tests.{eq-eqb, ne-eqb}
 use lib.Dec.{ltb}
 use Rattle.finite.proofs.Tests.{or-left, or-rest}
-use Rattle.tables.proofs.parts_outside.Statement.{statement}
-use Rattle.tables.proofs.parts_outside.Tie as tie
+use Rattle.tree_checks.proofs.parts_outside.Statement.{statement}
+use Rattle.tree_checks.proofs.parts_outside.Tie as tie
 
 returns : tie.Need-returns
 returns c = sym (or-left _ (eq-eqb _ _ (c .if1 .taken)))
