@@ -8,7 +8,7 @@ use borrow.Author.Tests.{eq-eqb, ne-eqb}
 use Rattle.finite.specs.Finite.{and}
 use Rattle.finite.proofs.Tests.{both, and-left-fails, and-right-fails}
 use Rattle.arena.specs.Words.{DECISION, kindOf, actionsOf, setOf}
-use Rattle.index.specs.Indexing.{isNew, Met, isKnown, entryOf, pushed, linked}
+use Rattle.index.specs.Indexing.{isNew, Met, isKnown, entryOf, relinked, pushed, linked}
 
 -- ---- a set is entered, or not
 module _ (nodes x entry : ℕ) (old : List ℕ) where
@@ -55,3 +55,7 @@ module _ (nodes heads a : ℕ) (w : List ℕ) where
   pub linked-by : (y known : ℕ) (new : List ℕ) → y ≡ x → kindOf y ≡ DECISION → known ≡ getD w (nodes + setOf y) 0 → (known ≡ 0 → ⊥)
       → new ≡ pushed heads a y ((known - 1) % 16384) w → new ≡ linked nodes heads a w
   linked-by y known new e k f z g = rw (g, f, e) (sym (linked-known (rw (← e) k) λ q. z (f ∙ rw e q)))
+
+-- a node is put before the members of its set, by what is read and written step by step
+pub pushed-by : (heads a x e l v : ℕ) (w mid new : List ℕ) → l ≡ getD w (heads + e) 0 → v ≡ relinked x e (l % 2097152) → mid ≡ set w a v → new ≡ set mid (heads + e) a → new ≡ pushed heads a x e w
+pushed-by heads a x e l v w mid new f g h i = rw (i, h, g, f) refl

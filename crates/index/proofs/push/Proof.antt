@@ -1,5 +1,7 @@
 use borrow.Author.Needs.{needs}
 use mathlib.Core.Path.{refl, _∙_}
+use denote.Ref.{now}
+use Rattle.index.proofs.Steps.{pushed-by}
 use Rattle.index.proofs.push.Statement.{statement}
 use Rattle.index.proofs.push.Tie as tie
 
@@ -31,7 +33,8 @@ same-length : tie.Need-same-length
 same-length c = search needs
 
 returns : tie.Need-returns
-returns c = c .before .before .put2 .ensures ∙ rw (c .before .before .before .before .before .before .put .ensures, c .before .before .before .before .before .before .before .decision .ensures, c .before .before .before .before .before .before .before .before .before .before .actor .ensures, c .before .before .before .before .before .before .before .before .before .actions .ensures, c .before .before .before .before .before .before .before .before .next .ensures, c .before .before .before .before .before .before .before .before .before .before .before .before .word .ensures) refl
+returns c = pushed-by _ _ _ _ _ _ (now (c .before .before .before .before .before .before .before .before .before .before .before .before .before .before .before .args .w)) _ _ (c .before .before .before .before .before .before .before .before .before .before .before .before .word .ensures)
+    (c .before .before .before .before .before .before .before .decision .ensures ∙ rw (c .before .before .before .before .before .before .before .before .before .before .actor .ensures, c .before .before .before .before .before .before .before .before .before .actions .ensures, c .before .before .before .before .before .before .before .before .next .ensures) refl) (c .before .before .before .before .before .before .put .ensures) (c .before .before .put2 .ensures)
 
 pub push-spec : {M : Type 1} → statement M
 push-spec =
