@@ -1,11 +1,9 @@
-pub mod Steps
 pub mod Nodes
-pub mod Numbering
 pub mod Packing
+pub mod Clearing
 pub mod Bytes
 pub mod Building
 pub mod Walking
-pub mod Linking
 pub mod Members
 pub mod Reading
 pub mod Staying

@@ -1,12 +1,12 @@
 -- The members of a set, from the first on through the nodes' words. Assumes nothing.
 use mathlib.Core.Path.{_≡_, refl, sym, ap, _∙_}
-use mathlib.Core.Bool.{Bool, true, false, cond}
+use mathlib.Core.Bool.{true, false, cond}
 use mathlib.Core.List.{List, [], _∷_}
-use Prim.Native.Nat.{ℕ, zero, suc, _+_, _≤_, _<_}
+use Prim.Native.Nat.{ℕ, zero, suc, _+_, _<_}
 use native.Mathlib.Nat as NatL
 use native.Mathlib.Omega.{arith}
 use lib.Dec.{eqb}
-use lib.ListN.{length, getD, drop}
+use lib.ListN.{getD, drop}
 use lib.Seq.{drop-cons, drop-length}
 use Rattle.finite.proofs.Tests.{Tested, holds, fails, tested}
 use Rattle.game.specs.Tree.{Key, Tree, end, chance, decide}
@@ -17,7 +17,7 @@ use Rattle.game.proofs.Tests.{T-of, same→eq, eqb-is}
 use Rattle.arena.specs.Words.{laterOf}
 use Rattle.arena.specs.Held.{Says}
 use Rattle.arena.specs.Index.{firstOf, laterIn, Indexed, Linked}
-use Rattle.arena.proofs.Numbering.{none, node, held-node}
+use Rattle.arena.proofs.Nodes.{none, node, held-node}
 
 module _ (n h : ℕ) (w : List ℕ) (t : Tree) (x : Indexed n h w t) (j : ℕ) (k : Key) where
   -- a member's word names the next one

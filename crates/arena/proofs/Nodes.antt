@@ -1,12 +1,12 @@
 -- A held tree, node by node: its words say what its nodes are, in their order, and back. Assumes nothing.
-use mathlib.Core.Path.{_≡_, refl, sym, ap, _∙_, subst}
+use mathlib.Core.Path.{sym, _∙_, subst}
 use mathlib.Core.List.{List, [], _∷_, _++_}
 use Prim.Native.Nat.{ℕ, zero, suc, _+_, _<_}
 use native.Mathlib.Nat as NatL
-use native.Mathlib.Omega.{arith}
-use lib.ListN.{length, getD, length-append}
+use lib.IntN.{pos}
+use lib.ListN.{length, getD}
 use Rattle.game.specs.Tree.{Key, Tree, end, chance, decide, Trees, nil, cons}
-use Rattle.game.specs.Sets.{size, sizes, preorder, preorderAll}
+use Rattle.game.specs.Sets.{size, preorder, preorderAll}
 use Rattle.game.proofs.Sets.{preorder-length}
 use Rattle.arena.specs.Held.{Says, SaysAll, Held, HeldAll}
 
@@ -56,3 +56,18 @@ module _ (n : ℕ) (s : ℕ → Key → ℕ) (l : ℕ → ℕ → Key → ℕ) (
     says→held-all : (a : ℕ) (f : Trees) → SaysAll n s l w a (preorderAll f) → HeldAll n s l w a f
     says→held-all a nil h = tt
     says→held-all a (cons t f) h = (says→held a t (says-left a (preorder t) (preorderAll f) h), says→held-all (a + size t) f (rw (preorder-length t) at (says-right a (preorder t) (preorderAll f) h)))
+
+-- ---- a node by its number
+-- a node that is none
+abbrev pub none : Tree
+none = end (λ i. pos 0)
+
+abbrev pub node : Tree → ℕ → Tree
+node t a = getD (preorder t) a none
+
+pub node-inside : (t : Tree) (a : ℕ) → a < size t → a < length (preorder t)
+node-inside t a h = rw (preorder-length t) h
+
+-- the word of the node at place a
+pub held-node : (n : ℕ) (s : ℕ → Key → ℕ) (l : ℕ → ℕ → Key → ℕ) (w : List ℕ) (t : Tree) → Held n s l w 0 t → (a : ℕ) → a < size t → Says n s l (getD w a 0) a (node t a)
+held-node n s l w t h a b = subst (λ i. Says n s l (getD w i 0) i (node t a)) (NatL.zero-add a) (says-at n s l w 0 (preorder t) none (held→says n s l w 0 t h) a (node-inside t a b))

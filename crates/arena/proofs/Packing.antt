@@ -1,6 +1,6 @@
 -- The fields of a word that is put together. Assumes nothing.
 use mathlib.Core.Path.{_≡_}
-use Prim.Native.Nat.{ℕ, _+_, _*_, _/_, _%_, _<_}
+use Prim.Native.Nat.{ℕ, _<_}
 use native.Mathlib.Omega.{arith}
 use Rattle.arena.specs.Words.{DECISION, CHANCE, kindOf, actorOf, actionsOf, setOf, nextOf, laterOf, decisionWord, chanceWord}
 

@@ -1,15 +1,12 @@
 -- The index of a held tree: each set's first entry and its first member. Definitions only; nothing is assumed.
 use mathlib.Core.Path.{_≡_}
 use mathlib.Core.Logic.{_⊎_}
-use mathlib.Core.Bool.{Bool, not, cond}
 use mathlib.Core.List.{List, [], _∷_}
-use Prim.Native.Nat.{ℕ, suc, _+_, _-_, _%_, _≤_, _<_}
-use lib.Dec.{eqb}
-use lib.ListN.{length, getD, set, drop}
-use Rattle.finite.specs.Finite.{and}
+use Prim.Native.Nat.{ℕ, suc, _+_, _≤_, _<_}
+use lib.ListN.{length, getD, drop}
 use Rattle.game.specs.Tree.{Key, Tree, Every}
 use Rattle.game.specs.Sets.{size, preorder, numbers, entries, firstEntry, setMembers}
-use Rattle.arena.specs.Words.{DECISION, kindOf, actorOf, actionsOf, setOf, nextOf, laterOf, decisionWord}
+use Rattle.arena.specs.Words.{laterOf}
 use Rattle.arena.specs.Held.{Held}
 
 -- the first of a list of places, 0 if it is empty
@@ -54,11 +51,6 @@ pub record Coded (n : ℕ) (code : ℕ → Key → ℕ) (m : ℕ) (w : List ℕ)
   pub clear : (i : ℕ) → i < m + entries t → getD w (size t + i) 0 ≡ 0
   pub room : size t + (m + entries t) ≤ length w
 
--- at each set's code one more than its first entry
-pub record Numbered (code : ℕ → Key → ℕ) (m : ℕ) (old new : List ℕ) (t : Tree) : Type 0 where
-  pub entries : Every (λ j k a. getD new (size t + code j k) 0 ≡ suc (firstEntry t j k)) t
-  pub kept : Kept (size t) (size t + m) old new
-
 -- t with its index: its sets by first entry, a set's members linked, and from place h on the first member of each set, at its first entry
 pub record Indexed (n h : ℕ) (w : List ℕ) (t : Tree) : Type 0 where
   pub held : Held n (firstEntry t) (laterIn t) w 0 t
@@ -69,44 +61,3 @@ unfoldable pub Linked : List ℕ → List ℕ → Type 0
 unfolding firstOf
 Linked w [] = Unit {0}
 Linked w (a ∷ l) = (laterOf (getD w a 0) ≡ firstOf l) × Linked w l
-
--- word x is a decision, and the word at its set's code is 0
-unfoldable pub isNew : List ℕ → ℕ → ℕ → Bool
-isNew w nodes x = and (eqb (kindOf x) DECISION) (eqb (getD w (nodes + setOf x) 0) 0)
-
--- such a word has its set entered
-pub record Met (nodes x entry : ℕ) (old new : List ℕ) (r : ℕ) : Type 0 where
-  pub words : new ≡ cond (isNew old nodes x) (set old (nodes + setOf x) (entry + 1)) old
-  pub count : r ≡ cond (isNew old nodes x) (entry + actionsOf x) entry
-
--- word x is a decision, and the word at its set's code is not 0
-unfoldable pub isKnown : List ℕ → ℕ → ℕ → Bool
-isKnown w nodes x = and (eqb (kindOf x) DECISION) (not (eqb (getD w (nodes + setOf x) 0) 0))
-
--- the first entry that stands at the code of word x
-abbrev pub entryOf : List ℕ → ℕ → ℕ → ℕ
-entryOf w nodes x = (getD w (nodes + setOf x) 0 - 1) % 16384
-
--- word x by its set's first entry e, and the next member l
-abbrev pub relinked : ℕ → ℕ → ℕ → ℕ
-relinked x e l = decisionWord (actorOf x) (actionsOf x) e (nextOf x) l
-
--- the node at place a put before the members that stand at heads
-unfoldable pub linked : (nodes heads a : ℕ) → List ℕ → List ℕ
-unfolding isKnown
-linked nodes heads a w = cond (isKnown w nodes (getD w a 0))
-    (set (set w a (relinked (getD w a 0) (entryOf w nodes (getD w a 0)) (getD w (heads + entryOf w nodes (getD w a 0)) 0 % 2097152))) (heads + entryOf w nodes (getD w a 0)) a)
-    w
-
--- what numbering does to a tree of so many nodes
-abbrev pub Numbers : (nodes : ℕ) (old new : List ℕ) → Type 0
-Numbers nodes old new = (n : ℕ) (code : ℕ → Key → ℕ) (m : ℕ) (t : Tree) → size t ≡ nodes → Coded n code m old t → Numbered code m old new t
-
--- what linking does, once it is numbered
-abbrev pub Links : (nodes heads : ℕ) (old new : List ℕ) → Type 0
-Links nodes heads old new = (n : ℕ) (code : ℕ → Key → ℕ) (m : ℕ) (bare : List ℕ) (t : Tree) → size t ≡ nodes → nodes + m ≡ heads → Coded n code m bare t → Numbered code m bare old t
-    → Indexed n heads new t
-
--- and both
-abbrev pub Indexes : (nodes codes : ℕ) (old new : List ℕ) → Type 0
-Indexes nodes codes old new = (n : ℕ) (code : ℕ → Key → ℕ) (t : Tree) → size t ≡ nodes → Coded n code codes old t → Indexed n (nodes + codes) new t

@@ -3,6 +3,5 @@ pub mod Words
 pub mod Held
 pub mod Index
 pub mod Built
-pub mod Payoffs
 pub mod Walk
 pub mod Legible

@@ -1,7 +1,8 @@
-// The word of a node, and reading and writing a word.
+// The word of a node, and reading, writing and clearing words.
 ghost use mathlib.Core.Path.{_≡_};
-ghost use Prim.Native.Nat.{ℕ, _+_, _*_, _<_, _≤_};
+ghost use Prim.Native.Nat.{_+_, _*_, _<_, _≤_};
 ghost use lib.ListN.{getD, set};
+ghost use Rattle.arena.specs.Index.{Cleared};
 ghost use Rattle.arena.specs.Words.{kindOf, actorOf, actionsOf, setOf, nextOf, laterOf, decisionWord, chanceWord};
 
 pub const END: u64 = 0;
@@ -86,5 +87,17 @@ pub fn put(w: &mut [u64], i: usize, x: u64)
 {
     if i < w.len() {
         w[i] = x;
+    }
+}
+
+// Writes 0 at places lo to hi.
+pub fn clear(w: &mut [u64], lo: usize, hi: usize)
+    requires { ⌜ lo ≤ hi ⌝ }
+    ensures { λ _. ⌜ Cleared lo hi (now (w .entry)) (now (w .exit)) ⌝ }
+{
+    let mut i = lo;
+    while i < hi {
+        put(w, i, 0);
+        i += 1;
     }
 }

@@ -1,6 +1,6 @@
 // The best value of a seat against a table, and the reply behind it, where the game's tree is stored. Behind the tree's index stand the units of each node, and
 // behind these the choices.
-use arena::index::clear;
+use arena::words::clear;
 use reply::values::value;
 use reply_table::write_reply;
 use stock::collect;

@@ -15,9 +15,9 @@ use Rattle.game.specs.Sets.{entries}
 use Rattle.game.specs.Table.{Table, tableBest, replyTable}
 use Rattle.tables.specs.declared.Game.{Game}
 use Rattle.tables.specs.Games.{treeOf}
-use Rattle.tables.specs.Checks.{tree-checks, seat-checks, parts-checks, table-checks, output-checks}
+use Rattle.tree_checks.specs.Checks.{tree-checks, seat-checks, parts-checks, table-checks, output-checks}
 use Rattle.tables.specs.Facts.{nodesOf, rootUnits}
-use Rattle.tables.proofs.Order.{first-refused, tree-passed, table-passed}
+use Rattle.tree_checks.proofs.Order.{first-refused, tree-passed, table-passed}
 use Rattle.whole.specs.Facts.{Known}
 use Rattle.whole.specs.Accepted.{Accepted}
 use Rattle.whole.proofs.Passed.{game-known, enough-nodes, table-accepted}

@@ -8,7 +8,7 @@ use Rattle.game.specs.Sets.{entries}
 use Rattle.game.specs.Table.{Table, tableBest, replyTable}
 use Rattle.tables.specs.declared.Game.{Game}
 use Rattle.tables.specs.Games.{treeOf}
-use Rattle.tables.specs.Checks.{reply-checks}
+use Rattle.tree_checks.specs.Checks.{reply-checks}
 use Rattle.tables.specs.Facts.{rootUnits}
 use Rattle.best.specs.Best.{BestReply}
 use Rattle.best_reply.specs.declared.ReplyAnswer.{ReplyAnswer}

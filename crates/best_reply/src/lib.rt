@@ -49,7 +49,7 @@ pub fn best_reply(
     ensures memory { λ r. ⌜ Left (r .refusal) (gameOf number seats) (now (work .entry)) (now (work .exit)) ⌝ }
 {
     let g = Game { number, seats };
-    let refusal = tables::reply_refusal(g, work.len(), seat, d, table, out.len());
+    let refusal = tree_checks::reply_refusal(g, work.len(), seat, d, table, out.len());
     if refusal != refusals::ACCEPTED {
         return ReplyAnswer { refusal, value: 0 };
     }

@@ -13,10 +13,11 @@ use Rattle.refusals.proofs.Order.{refused, passed, fails-first, fails-rest}
 use Rattle.game.specs.Sets.{entries}
 use Rattle.tables.specs.declared.Game.{Game}
 use Rattle.tables.specs.Games.{treeOf}
-use Rattle.tables.specs.Checks.{seats-out, tree-checks, seat-checks}
+use Rattle.tables.specs.Seats.{seats-out}
+use Rattle.tree_checks.specs.Checks.{tree-checks, seat-checks}
 use Rattle.tables.specs.Facts.{entriesOf}
 use Rattle.tables.proofs.Facts.{entries-are}
-use Rattle.tables.proofs.Order.{tree-passed}
+use Rattle.tree_checks.proofs.Order.{tree-passed}
 use Rattle.whole.specs.Facts.{Known}
 use Rattle.whole.proofs.Passed.{game-known, tree-first}
 use Rattle.game_values.specs.Accepted.{Accepted}

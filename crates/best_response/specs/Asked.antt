@@ -4,7 +4,7 @@ use Prim.Native.Nat.{ℕ, _<_}
 use lib.Ieee.{Float}
 use Rattle.refusals.specs.Refusals.{Check, first}
 use Rattle.tables.specs.declared.Game.{Game}
-use Rattle.tables.specs.Checks.{tree-checks, seat-checks}
+use Rattle.tree_checks.specs.Checks.{tree-checks, seat-checks}
 use Rattle.game_values.specs.Values.{bestOf, bestsOf, worthsOf, nashConvOf, exploitabilityOf}
 use Rattle.best_response.specs.Calls.{entry-checks, single}
 use Rattle.best_response.specs.declared.Asked.{Asked}

@@ -11,7 +11,7 @@ use Rattle.game.specs.Sets.{entries}
 use Rattle.profiles.specs.Values.{nought}
 use Rattle.tables.specs.declared.Game.{Game}
 use Rattle.tables.specs.Games.{treeOf}
-use Rattle.tables.specs.Checks.{tree-checks, seat-checks}
+use Rattle.tree_checks.specs.Checks.{tree-checks, seat-checks}
 use Rattle.best_response.specs.declared.ValuesAnswer.{ValuesAnswer}
 
 -- 7: a profile of n entries

@@ -9,7 +9,7 @@ ghost use lib.Ieee.{binary64, ofInt, div};
 ghost use lib.ListN.{length};
 ghost use Rattle.refusals.specs.Refusals.{first};
 ghost use Rattle.tables.specs.Games.{gameOf};
-ghost use Rattle.tables.specs.Checks.{seats-out};
+ghost use Rattle.tables.specs.Seats.{seats-out};
 ghost use Rattle.tables.specs.Facts.{nodesOf};
 ghost use Rattle.whole.specs.Memory.{Left};
 ghost use Rattle.game_values.specs.Values.{bestOf, bestsOf, worthsOf, nashConvOf, exploitabilityOf};
@@ -68,7 +68,7 @@ fn rest_refusal(g: Game, asked: Asked, entries: usize) -> u64
 fn refusal_of(g: Game, words: usize, asked: Asked, entries: usize) -> u64
     ensures { λ r. ⌜ r ≡ refusalOf asked g words entries ⌝ }
 {
-    let tree = tables::tree_refusal(g, words);
+    let tree = tree_checks::tree_refusal(g, words);
     if tree != refusals::ACCEPTED {
         return tree;
     }

@@ -19,7 +19,7 @@ use Rattle.game.specs.Table as Table
 use Rattle.kuhn_rules.specs.Rules as KuhnRules
 use Rattle.kuhn_tree.specs.Tree as KuhnTree
 use Rattle.tables.specs.Games as Games
-use Rattle.tables.specs.Checks as Checks
+use Rattle.tree_checks.specs.Checks as Checks
 use Rattle.whole.specs.Worths as Whole
 use Rattle.cases.specs.Cases.{Agree, cases}
 

@@ -21,7 +21,8 @@ use Rattle.leduc_tree.specs.Tree as Leduc
 use Rattle.leduc_tree.specs.Turns.{joined, turns, isFirst, firstOnes, firstTurns}
 use Rattle.tables.specs.Games.{treeOf}
 use Rattle.tables.specs.Facts.{rootUnits}
-use Rattle.tables.specs.Actions.{leducActions, actionsOf}
+use Rattle.leduc_actions.specs.Actions.{leducActions}
+use Rattle.tables.specs.Actions.{actionsOf}
 use Rattle.tables.specs.declared.Game.{Game}
 use Rattle.tables.proofs.Facts.{counted-games, actions-listed, reply-best}
 use Rattle.whole.specs.Accepted.{Accepted}

@@ -1,6 +1,6 @@
 // The f64 values of a profile by the game's number, where the game's tree is stored. Behind the tree's index stand the reaches of a seat's nodes, and behind
 // these its choices.
-use arena::index::clear;
+use arena::words::clear;
 use reach::collect;
 use response::values::value;
 use tables::Game;

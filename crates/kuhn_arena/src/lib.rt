@@ -1,8 +1,8 @@
 // Kuhn's tree, laid out in work memory: the deals, and below each full deal a hand.
-use arena::index::clear;
-use arena::index::index;
 use arena::words::chance;
+use arena::words::clear;
 use arena::words::put;
+use index::index;
 use kuhn_hands::before_bet;
 use kuhn_words::card_of;
 ghost use mathlib.Core.Path.{_≡_};

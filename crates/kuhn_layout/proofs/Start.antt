@@ -9,7 +9,8 @@ use lib.ListN.{length}
 use Rattle.finite.specs.Finite.{places}
 use Rattle.game.specs.Tree.{Tree}
 use Rattle.game.specs.Sets.{size, entries}
-use Rattle.arena.specs.Index.{unlinked, Cleared, Coded, Indexed, Indexes}
+use Rattle.arena.specs.Index.{unlinked, Cleared, Coded, Indexed}
+use Rattle.index.specs.Indexing.{Indexes}
 use Rattle.arena.specs.Built.{Built, Room}
 use Rattle.arena.proofs.Building.{held-same}
 use Rattle.kuhn_tree.proofs.Units.{kuhn-every}

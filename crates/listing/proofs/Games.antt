@@ -17,11 +17,12 @@ use Rattle.kuhn_tree.specs.Follows as Kuhn-tree
 use Rattle.leduc_tree.specs.Tree.{leducTree}
 use Rattle.tables.specs.declared.Game.{Game}
 use Rattle.tables.specs.Games.{treeOf}
-use Rattle.tables.specs.Checks.{seats-out, tree-checks}
+use Rattle.tables.specs.Seats.{seats-out}
+use Rattle.tree_checks.specs.Checks.{tree-checks}
 use Rattle.tables.specs.Facts.{nodesOf, setsOf}
 use Rattle.tables.proofs.Counts.{nodes-table, kuhn-least, kuhn-most, kuhn-nodes, sets-at-most, leduc-sets}
 use Rattle.tables.proofs.Facts.{nodes-are, counted-games}
-use Rattle.tables.proofs.Order.{first-refused, tree-passed, tree-known}
+use Rattle.tree_checks.proofs.Order.{first-refused, tree-passed, tree-known}
 use Rattle.records.specs.Listing.{listing}
 use Rattle.records.proofs.Bytes.{length-listing}
 use Rattle.kuhn_listing.specs.Listing as Kuhn

@@ -10,7 +10,7 @@ use Rattle.kuhn_tree.specs.Follows as Kuhn-tree
 use Rattle.tables.specs.declared.Game.{Game}
 use Rattle.tables.specs.Games.{isKuhn, treeOf}
 pub use Rattle.tables.specs.Games.{gameOf}
-use Rattle.tables.specs.Checks.{tree-checks}
+use Rattle.tree_checks.specs.Checks.{tree-checks}
 use Rattle.records.specs.Listing.{Cards, listing}
 use Rattle.kuhn_listing.specs.Listing as Kuhn
 use Rattle.leduc_listing.specs.Listing as Leduc

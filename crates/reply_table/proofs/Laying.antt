@@ -26,7 +26,7 @@ use Rattle.game.proofs.Counting.{In, in-right, each-in, sets-in}
 use Rattle.arena.specs.Words.{actorOf, actionsOf}
 use Rattle.arena.specs.Held.{Says}
 use Rattle.arena.specs.Index.{firstOf, laterIn}
-use Rattle.arena.proofs.Numbering.{none, node, held-node}
+use Rattle.arena.proofs.Nodes.{none, node, held-node}
 use Rattle.walks.specs.Stage.{Stage, Known, Noted}
 use Rattle.walks.proofs.Standing.{known-of, inside, same-fan}
 use Rattle.reply.specs.Valued.{Scene, Chosen}

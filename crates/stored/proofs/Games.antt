@@ -10,7 +10,8 @@ use borrow.Author.Tests.{eq-eqb, ne-eqb}
 use Rattle.finite.proofs.Tests.{or-false-left, or-false-right}
 use borrow.Author.Tests.{ltb-false, eqb-true, not-false}
 use Rattle.game.specs.Sets.{size}
-use Rattle.arena.specs.Index.{unlinked, Cleared, Indexed, Indexes}
+use Rattle.arena.specs.Index.{unlinked, Cleared, Indexed}
+use Rattle.index.specs.Indexing.{Indexes}
 use Rattle.arena.specs.Built.{Built}
 use Rattle.arena.proofs.Building.{held-same}
 use Rattle.kuhn_rules.specs.Stakes as Kuhn-stakes

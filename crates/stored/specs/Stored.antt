@@ -9,7 +9,7 @@ use Rattle.kuhn_tree.specs.Counts.{kuhnNodes}
 use Rattle.kuhn_layout.specs.Layout.{codeCount}
 use Rattle.tables.specs.declared.Game.{Game}
 use Rattle.tables.specs.Games.{isKuhn, treeOf}
-use Rattle.tables.specs.Checks.{seats-out}
+use Rattle.tables.specs.Seats.{seats-out}
 use Rattle.tables.specs.Facts.{nodesOf}
 
 -- a game that numbers 1 to 4 let through, with these words of work memory

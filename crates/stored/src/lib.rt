@@ -1,6 +1,6 @@
 // A game's tree with its index in work memory, by the game's number: the first step of every evaluation.
-use arena::index::clear;
-use arena::index::index;
+use arena::words::clear;
+use index::index;
 use tables::Game;
 ghost use Prim.Native.Nat.{_≤_};
 ghost use lib.ListN.{length};

@@ -5,18 +5,20 @@ use mathlib.Core.List.{List, [], _∷_}
 use Prim.Native.Nat.{ℕ, zero, suc, _+_, _*_, _≤_, _<_}
 use native.Mathlib.Nat as NatL
 use native.Mathlib.Omega.{arith}
-use lib.Dec.{ltb, leb}
-use borrow.Author.Tests.{eq-eqb, ne-eqb, ltb-false, leb-true}
+use lib.Dec.{ltb}
+use borrow.Author.Tests.{eq-eqb, ne-eqb, ltb-false}
 use lib.ListN.{length, getD, take, replicate, length-replicate, getD-replicate}
 use Rattle.finite.specs.Finite.{or}
-use Rattle.finite.proofs.Tests.{Tested, holds, fails, tested, true≢false, or-false-left, or-false-right}
+use Rattle.finite.proofs.Tests.{or-false-left, or-false-right}
 use Rattle.kuhn_tree.specs.Counts.{dealNodes, kuhnNodes, kuhnSets, kuhnEntries}
-use Rattle.tables.specs.Checks.{seats-out}
+use Rattle.leduc_actions.specs.Actions.{leducActions}
+use Rattle.leduc_actions.proofs.Facts.{actions-in-all}
+use Rattle.tables.specs.Seats.{seats-out}
 use Rattle.tables.specs.Facts.{nodesOf, setsOf, entriesOf}
-use Rattle.tables.specs.Actions.{leducActions, actionsOf}
+use Rattle.tables.specs.Actions.{actionsOf}
 use Rattle.tables.specs.Games.{isKuhn}
 use Rattle.tables.specs.declared.Game.{Game}
-use Rattle.tables.proofs.Parts.{total, total-same, total-more, total-most}
+use Rattle.tables.proofs.Totals.{total, total-same, total-more, total-most}
 
 -- what holds of each number from 2 to 10
 each-seats : (P : ℕ → Type 0) → P 2 → P 3 → P 4 → P 5 → P 6 → P 7 → P 8 → P 9 → P 10 → (n : ℕ) → 2 ≤ n → n ≤ 10 → P n
@@ -45,32 +47,6 @@ nodes-right = each-seats (λ n. getD nodes-table n 0 ≡ kuhnNodes n) refl refl 
 
 pub sets-right : (n : ℕ) → 2 ≤ n → n ≤ 10 → getD sets-table n 0 ≡ kuhnSets n
 sets-right = each-seats (λ n. getD sets-table n 0 ≡ kuhnSets n) refl refl refl refl refl refl refl refl refl
-
-pub actions-in-all : length leducActions ≡ 936
-unfolding leducActions
-actions-in-all = refl
-
--- each of Leduc's sets has at most three
-small : List ℕ → Bool
-small [] = true
-small (x ∷ xs) = let r : Bool = small xs in cond (leb x 3) r false
-
-small-at : (xs : List ℕ) → small xs ≡ true → (i : ℕ) → getD xs i 0 ≤ 3
-unfolding small
-small-at [] e i = omega arith
-small-at (x ∷ xs) e i = at i (tested (leb x 3)) (small-at xs)
-  where
-    at : (i : ℕ) → Tested (leb x 3) → (small xs ≡ true → (i : ℕ) → getD xs i 0 ≤ 3) → getD (x ∷ xs) i 0 ≤ 3
-    at i (fails t) f = true≢false (cond (leb x 3) (small xs) false) e (ap (λ b. cond b (small xs) false) t)
-    at zero (holds t) f = leb-true x 3 t
-    at (suc i) (holds t) f = f (ap (λ b. cond b (small xs) false) (sym t) ∙ e) i
-
-leduc-small : small leducActions ≡ true
-unfolding small leducActions
-leduc-small = refl
-
-pub leduc-at-most : (x : ℕ) → getD leducActions x 0 ≤ 3
-leduc-at-most x = small-at leducActions leduc-small x
 
 -- the seats of Kuhn, once number 2 is settled
 module _ (g : Game) (k : g .number ≡ 0) where

@@ -7,7 +7,7 @@ use native.Mathlib.Omega.{arith}
 use lib.Dec.{eqb, ltb, leb}
 use borrow.Author.Tests.{eq-eqb, ne-eqb, eqb-true, eqb-false, not-false}
 use lib.ListN.{length, replicate, length-map}
-use Rattle.finite.specs.Finite.{and, or, some, those, has}
+use Rattle.finite.specs.Finite.{or}
 use Rattle.finite.proofs.Tests.{Tested, holds, fails, tested}
 use Rattle.game.specs.Tree.{Splits, Pays}
 use Rattle.game.specs.Recall.{PerfectRecall}
@@ -20,30 +20,20 @@ use Rattle.kuhn_tree.specs.Counts.{dealNodes, kuhnNodes, kuhnSets, kuhnEntries}
 use Rattle.kuhn_tree.proofs.Facts as KuhnFacts
 use Rattle.kuhn_tree.proofs.Facts.{counted}
 use Rattle.kuhn_tree.proofs.Units.{kuhn-every}
-use Rattle.leduc_tree.specs.Tree.{next, leducTree}
-use Rattle.leduc_betting.specs.Betting.{ends-with, folded, closes, behind, raises, may, options, in-play, turn, ended}
-use Rattle.leduc_betting.specs.Cards.{left, remaining}
-use Rattle.leduc_rules.specs.Rules.{public-due, due}
-use Rattle.leduc_tree.specs.Turns.{joined, turns, isFirst, firstOnes, firstTurns, actionsInOrder}
-use Rattle.leduc_tree.proofs.Facts.{counts, actions-in-order}
+use Rattle.leduc_tree.specs.Tree.{leducTree}
+use Rattle.leduc_tree.proofs.Facts.{counts}
 use Rattle.leduc_facts.proofs.Facts as LeducFacts
+use Rattle.leduc_actions.specs.Actions.{leducActions}
+use Rattle.leduc_actions.proofs.Facts.{leduc-set-actions}
 use Rattle.tables.specs.Games.{treeOf, C, m, mostParts}
-use Rattle.tables.specs.Checks.{seats-out}
+use Rattle.tables.specs.Seats.{seats-out}
 use Rattle.tables.specs.Facts.{nodesOf, setsOf, entriesOf, Counted, kuhn, leduc, Table-of-counts, Fit, Games-fit, Actions-listed, rootUnits, Reply-best}
-use Rattle.tables.specs.Actions.{leducActions, actionsOf}
+use Rattle.tables.specs.Actions.{actionsOf}
 use Rattle.tables.specs.declared.Game.{Game}
 use Rattle.tables.proofs.Counts.{kuhn-least}
 
 leduc-counts : (size (leducTree 1 2 4) ≡ 9457) × (length (setActions (leducTree 1 2 4)) ≡ 936) × (entries (leducTree 1 2 4) ≡ 2184)
 leduc-counts = (counts 1 2 4 .0, length-map (sets (leducTree 1 2 4)) (λ x. x .2) ∙ counts 1 2 4 .1, counts 1 2 4 .2)
-
--- the constant is what the rules give
-computed : actionsInOrder ≡ leducActions
-unfolding leducActions actionsInOrder firstTurns firstOnes isFirst turns joined next and or some those has ends-with folded closes behind raises may options in-play turn ended left remaining public-due due
-computed = refl
-
-leduc-set-actions : setActions (leducTree 1 2 4) ≡ leducActions
-leduc-set-actions = actions-in-order 1 2 4 ∙ computed
 
 all-two : (xs : List Decision) → Each (λ j k a. a ≡ 2) xs → map (λ x. x .2) xs ≡ replicate (length xs) 2
 unfolding Each

@@ -1,5 +1,4 @@
--- Laws of the checks of a table.
-pub mod Parts
+-- Laws of the counts and of the games by number.
+pub mod Totals
 pub mod Counts
 pub mod Facts
-pub mod Order

@@ -9,7 +9,7 @@ use Rattle.game.specs.Sets.{size, setCount, setActions, entries, SameActions}
 use Rattle.game.specs.Table.{Table, ValidTable, RivalTable, tableWorth, tableBest, replyTable}
 use Rattle.kuhn_tree.specs.Counts.{kuhnNodes, kuhnSets, kuhnEntries}
 use Rattle.tables.specs.Games.{isKuhn, treeOf, C, m, largestPayoff}
-use Rattle.tables.specs.Checks.{seats-out}
+use Rattle.tables.specs.Seats.{seats-out}
 use Rattle.tables.specs.Actions.{actionsOf}
 use Rattle.tables.specs.declared.Game.{Game}
 

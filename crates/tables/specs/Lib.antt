@@ -1,5 +1,5 @@
--- The games by number, and when a table is refused (document 01, "What comes back when a call is refused", "The tree and its sets").
+-- The games by number: their seats, trees and counts (document 01, "The tree and its sets").
 pub mod Games
-pub mod Checks
+pub mod Seats
 pub mod Facts
 pub mod Actions

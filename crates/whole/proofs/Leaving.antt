@@ -9,7 +9,7 @@ use lib.Seq.{drop-at, length-take-le}
 use Rattle.game.specs.Sets.{size}
 use Rattle.tables.specs.declared.Game.{Game}
 use Rattle.tables.specs.Games.{treeOf}
-use Rattle.tables.specs.Checks.{seats-out}
+use Rattle.tables.specs.Seats.{seats-out}
 use Rattle.tables.specs.Facts.{nodesOf}
 use Rattle.tables.proofs.Facts.{nodes-are}
 use Rattle.whole.specs.Memory.{Left}

@@ -15,10 +15,11 @@ use Rattle.game.specs.Sets.{size, setActions, entries}
 use Rattle.game.specs.Table.{Table, addUp}
 use Rattle.tables.specs.declared.Game.{Game}
 use Rattle.tables.specs.Games.{treeOf, mostParts}
-use Rattle.tables.specs.Checks.{seats-out, tree-checks, parts-checks, table-checks}
+use Rattle.tables.specs.Seats.{seats-out}
+use Rattle.tree_checks.specs.Checks.{tree-checks, parts-checks, table-checks}
 use Rattle.tables.specs.Facts.{nodesOf}
 use Rattle.tables.proofs.Facts.{nodes-are}
-use Rattle.tables.proofs.Order.{first-refused, tree-passed}
+use Rattle.tree_checks.proofs.Order.{first-refused, tree-passed}
 use Rattle.whole.specs.Facts.{Known}
 use Rattle.whole.specs.Accepted.{Accepted}
 use Rattle.whole.specs.Checks.{evaluation-refusal}

@@ -4,7 +4,7 @@ use Prim.Native.Nat.{ℕ}
 use Rattle.refusals.specs.Refusals.{Check, first}
 use Rattle.game.specs.Table.{Table}
 use Rattle.tables.specs.declared.Game.{Game}
-use Rattle.tables.specs.Checks.{tree-checks, parts-checks, table-checks}
+use Rattle.tree_checks.specs.Checks.{tree-checks, parts-checks, table-checks}
 
 -- 1 to 4, then 6 to 8
 abbrev pub evaluation-checks : (g : Game) (words D : ℕ) (table : Table) → List Check

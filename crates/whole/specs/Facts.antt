@@ -8,7 +8,7 @@ use Rattle.game.specs.Sets.{size, entries, firstEntry, Levels}
 use Rattle.game.specs.Table.{Table, ValidTable}
 use Rattle.tables.specs.declared.Game.{Game}
 use Rattle.tables.specs.Games.{treeOf, mostParts, largestPayoff}
-use Rattle.tables.specs.Checks.{seats-out}
+use Rattle.tables.specs.Seats.{seats-out}
 use Rattle.tables.specs.Facts.{nodesOf, rootUnits}
 use Rattle.arena.specs.Index.{laterIn}
 use Rattle.arena.specs.Legible.{Legible}

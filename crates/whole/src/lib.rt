@@ -14,11 +14,11 @@ ghost use Rattle.whole.specs.Checks.{evaluation-refusal};
 pub fn evaluation_refusal(g: Game, words: usize, d: usize, table: &[u8]) -> u64
     ensures { λ r. ⌜ r ≡ evaluation-refusal g words d (now (table .entry)) ⌝ }
 {
-    let tree = tables::tree_refusal(g, words);
+    let tree = tree_checks::tree_refusal(g, words);
     if tree != refusals::ACCEPTED {
         return tree;
     }
-    tables::table_refusal(g, d, table)
+    tree_checks::table_refusal(g, d, table)
 }
 
 // C of the units: (n + 1)! for Kuhn with 2 to 6 seats, from place 2, and Leduc's.

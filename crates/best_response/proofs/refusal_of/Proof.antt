@@ -1,7 +1,7 @@
 -- The checks in order. Assumes nothing.
 use mathlib.Core.Path.{sym, _∙_}
-use Rattle.tables.specs.Checks.{tree-checks}
-use Rattle.tables.proofs.Order.{first-refused, tree-known, tree-passed}
+use Rattle.tree_checks.specs.Checks.{tree-checks}
+use Rattle.tree_checks.proofs.Order.{first-refused, tree-known, tree-passed}
 use borrow.Author.Needs.{needs}
 use Rattle.best_response.proofs.refusal_of.Statement.{statement}
 use Rattle.best_response.proofs.refusal_of.Tie as tie

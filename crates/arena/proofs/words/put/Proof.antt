@@ -3,8 +3,6 @@ use mathlib.Core.Path.{sym}
 use borrow.Author.Needs.{needs}
 use Rattle.arena.proofs.words.put.Statement.{statement}
 use Rattle.arena.proofs.words.put.Tie as tie
-use Rattle.arena.proofs.words.put.Reads as reads
-use Rattle.arena.proofs.words.put.Lts as lts
 
 mul-w : tie.Need-mul-w
 mul-w c = search needs

@@ -1,0 +1,3 @@
+pub mod Steps
+pub mod Numbering
+pub mod Linking

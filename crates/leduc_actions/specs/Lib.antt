@@ -1,0 +1,2 @@
+-- The actions of Leduc's sets.
+pub mod Actions

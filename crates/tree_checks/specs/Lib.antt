@@ -1,0 +1,2 @@
+-- When a call that needs a tree is refused (document 01, "What comes back when a call is refused").
+pub mod Checks
