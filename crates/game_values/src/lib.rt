@@ -49,14 +49,16 @@ pub fn worths(g: Game, w: &[u64], profile: &[f64]) -> [f64; 6]
     requires { ⌜ Stored g (now w) × Accepted g (now profile) ⌝ }
     ensures { λ r. ⌜ r ≡ worthsOf g (now (profile .entry)) ⌝ }
 {
-    let six = expected::worths(w, profile, 0, DEPTH);
-    let of = six.of;
-    let seats = g.seats;
     let mut out = [0.0; 6];
     let mut seat = 0;
-    while seat < seats {
-        out[seat] = of[seat];
+    while seat < g.seats {
+        let two = expected::worths(w, profile, 0, seat, DEPTH);
+        out[seat] = two.first;
         seat += 1;
+        if seat < g.seats {
+            out[seat] = two.second;
+            seat += 1;
+        }
     }
     out
 }
