@@ -1,5 +1,5 @@
 -- Values seat by seat, as a loop fills or adds them. Assumes nothing.
-use mathlib.Core.Path.{_≡_, refl, sym, ap, ap₂, _∙_}
+use mathlib.Core.Path.{_≡_, refl, ap, ap₂, _∙_}
 use mathlib.Core.Bool.{cond}
 use mathlib.Core.List.{List}
 use Prim.Native.Nat.{ℕ, suc, _+_, _≤_, _<_}
@@ -18,7 +18,7 @@ use Rattle.expected.specs.Expected.{Expected}
 use Rattle.stored.specs.Stored.{Stored}
 use Rattle.whole.specs.Facts.{Known}
 use Rattle.whole.proofs.Facts.{games-shaped, games-legible}
-use Rattle.game_values.specs.Accepted.{Accepted}
+use Rattle.profile_refusals.specs.Accepted.{Accepted}
 use Rattle.game_values.specs.Values.{bestOf, worthOf, bySeat, bestsOf, worthsOf, gaps, nashConvOf}
 
 -- the first k of six places have f

@@ -1,3 +1,2 @@
--- The f64 values of a profile by game number (Values). Accepted serves private contracts.
+-- The f64 values of a profile by game number.
 pub mod Values
-pub mod Accepted
