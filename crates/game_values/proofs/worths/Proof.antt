@@ -30,19 +30,19 @@ add-seat : tie.Need-add-seat Inv-loop μ-loop
 add-seat c = record { fits = omega (arith, few-seats (c .before .before .before .before .before .before .args .g) (c .before .before .before .before .before .before .pre .1 .game), c .before .if1 .taken) }
 
 mul-out-2 : tie.Need-mul-out-2 Inv-loop μ-loop
-mul-out-2 c = record { fits = omega (arith, few-seats (c .before .before .before .before .before .before .before .before .args .g) (c .before .before .before .before .before .before .before .before .pre .1 .game), c .if2 .taken) }
+mul-out-2 c = record { fits = omega (arith, pair-fits (c .before .before .before .before .before .loop .seat) _ (few-seats (c .before .before .before .before .before .before .before .before .args .g) (c .before .before .before .before .before .before .before .before .pre .1 .game)) (c .before .before .before .before .before .loop .inv .2) (c .before .before .before .if1 .taken)) }
 
 array-write-out-2 : tie.Need-array-write-out-2 Inv-loop μ-loop
-array-write-out-2 c = omega (arith, few-seats (c .before .before .before .before .before .before .before .before .args .g) (c .before .before .before .before .before .before .before .before .pre .1 .game), c .if2 .taken)
+array-write-out-2 c = omega (arith, pair-fits (c .before .before .before .before .before .loop .seat) _ (few-seats (c .before .before .before .before .before .before .before .before .args .g) (c .before .before .before .before .before .before .before .before .pre .1 .game)) (c .before .before .before .before .before .loop .inv .2) (c .before .before .before .if1 .taken))
 
 add-seat-2 : tie.Need-add-seat-2 Inv-loop μ-loop
-add-seat-2 c = record { fits = omega (arith, few-seats (c .before .before .before .before .before .before .before .before .args .g) (c .before .before .before .before .before .before .before .before .pre .1 .game), c .if2 .taken) }
+add-seat-2 c = record { fits = omega (arith, pair-fits (c .before .before .before .before .before .loop .seat) _ (few-seats (c .before .before .before .before .before .before .before .before .args .g) (c .before .before .before .before .before .before .before .before .pre .1 .game)) (c .before .before .before .before .before .loop .inv .2) (c .before .before .before .if1 .taken)) }
 
 loop-less : tie.Need-loop-less Inv-loop μ-loop
 loop-less c = omega (arith, c .before .before .before .if1 .taken)
 
 loop-again : tie.Need-loop-again Inv-loop μ-loop
-loop-again c = (omega (arith, c .if2 .taken), front-more (worthOf (c .before .before .before .before .before .before .before .before .args .g) (now (c .before .before .before .before .before .before .before .before .args .profile))) _ _ (c .before .before .worths .result .second) (omega (arith, few-seats (c .before .before .before .before .before .before .before .before .args .g) (c .before .before .before .before .before .before .before .before .pre .1 .game), c .if2 .taken)) (front-more (worthOf (c .before .before .before .before .before .before .before .before .args .g) (now (c .before .before .before .before .before .before .before .before .args .profile))) (c .before .before .before .before .before .loop .seat) (c .before .before .before .before .before .loop .out) (c .before .before .worths .result .first) (omega (arith, few-seats (c .before .before .before .before .before .before .before .before .args .g) (c .before .before .before .before .before .before .before .before .pre .1 .game), c .before .before .before .if1 .taken)) (c .before .before .before .before .before .loop .inv .1) (worth-is (c .before .before .before .before .before .before .before .before .args .g) (now (c .before .before .before .before .before .before .before .before .args .profile)) (c .before .before .before .before .before .before .before .before .pre .1) (now (c .before .before .before .before .before .before .before .before .args .w)) (c .before .before .before .before .before .before .before .before .pre .0) (c .before .before .before .before .before .loop .seat) (c .before .before .worths .result .first) (c .before .before .before .if1 .taken) (c .before .before .worths .ensures .0))) (worth-is (c .before .before .before .before .before .before .before .before .args .g) (now (c .before .before .before .before .before .before .before .before .args .profile)) (c .before .before .before .before .before .before .before .before .pre .1) (now (c .before .before .before .before .before .before .before .before .args .w)) (c .before .before .before .before .before .before .before .before .pre .0) _ (c .before .before .worths .result .second) (c .if2 .taken) (c .before .before .worths .ensures .1)), paired-more (c .before .before .before .before .before .loop .seat) _ (c .before .before .before .before .before .loop .inv .2) (c .before .before .before .if1 .taken))
+loop-again c = (omega (arith, c .if2 .taken), front-more (worthOf (c .before .before .before .before .before .before .before .before .args .g) (now (c .before .before .before .before .before .before .before .before .args .profile))) _ _ (c .before .before .worths .result .second) (omega (arith, pair-fits (c .before .before .before .before .before .loop .seat) _ (few-seats (c .before .before .before .before .before .before .before .before .args .g) (c .before .before .before .before .before .before .before .before .pre .1 .game)) (c .before .before .before .before .before .loop .inv .2) (c .before .before .before .if1 .taken))) (front-more (worthOf (c .before .before .before .before .before .before .before .before .args .g) (now (c .before .before .before .before .before .before .before .before .args .profile))) (c .before .before .before .before .before .loop .seat) (c .before .before .before .before .before .loop .out) (c .before .before .worths .result .first) (omega (arith, few-seats (c .before .before .before .before .before .before .before .before .args .g) (c .before .before .before .before .before .before .before .before .pre .1 .game), c .before .before .before .if1 .taken)) (c .before .before .before .before .before .loop .inv .1) (worth-is (c .before .before .before .before .before .before .before .before .args .g) (now (c .before .before .before .before .before .before .before .before .args .profile)) (c .before .before .before .before .before .before .before .before .pre .1) (now (c .before .before .before .before .before .before .before .before .args .w)) (c .before .before .before .before .before .before .before .before .pre .0) (c .before .before .before .before .before .loop .seat) (c .before .before .worths .result .first) (c .before .before .before .if1 .taken) (c .before .before .worths .ensures .0))) (worth-is (c .before .before .before .before .before .before .before .before .args .g) (now (c .before .before .before .before .before .before .before .before .args .profile)) (c .before .before .before .before .before .before .before .before .pre .1) (now (c .before .before .before .before .before .before .before .before .args .w)) (c .before .before .before .before .before .before .before .before .pre .0) _ (c .before .before .worths .result .second) (c .if2 .taken) (c .before .before .worths .ensures .1)), paired-more (c .before .before .before .before .before .loop .seat) _ (c .before .before .before .before .before .loop .inv .2) (c .before .before .before .if1 .taken))
 
 loop-less-2 : tie.Need-loop-less-2 Inv-loop μ-loop
 loop-less-2 c = omega (arith, c .before .before .before .if1 .taken)
