@@ -1,3 +1,2 @@
--- Lemmas on the calls' checks and answers.
-pub mod Checks
+-- Lemmas on the calls' answers.
 pub mod Outcome

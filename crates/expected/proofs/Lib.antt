@@ -1,2 +1,3 @@
--- Lemmas on sums for six seats.
+-- Lemmas on the sums of a seat (Summing), and of two (Both).
 pub mod Summing
+pub mod Both

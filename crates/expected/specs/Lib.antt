@@ -1,2 +1,2 @@
--- The worths of all seats under a profile, read of a tree in work memory. No public call cites these definitions.
+-- What a profile is worth to two seats, read of a tree in work memory. No public call cites these definitions.
 pub mod Expected

@@ -1,4 +1,4 @@
-// What a profile is worth to each seat, in f64, six seats at a time, read of a tree in work memory. No word is trusted: where no tree is held an answer means
+// What a profile is worth to two seats, one behind the other, in f64, read of a tree in work memory. No word is trusted: where no tree is held an answer means
 // nothing, and the call still ends.
 use arena::walk::behind;
 use arena::walk::fan;
@@ -9,81 +9,83 @@ use arena::words::kind;
 use arena::words::next;
 use arena::words::set;
 use arena::words::word;
-use floats::entry;
 use floats::payoff_of;
+use floats::weighed;
 use floats::weight;
 ghost use mathlib.Core.Path.{_≡_};
 ghost use Prim.Native.Nat.{_+_, _<_, _≤_};
 ghost use lib.ListN.{length, getD};
 ghost use lib.Ieee.{nan, binary64, ofInt};
 ghost use Rattle.arena.specs.Words.{payoffOf};
-ghost use Rattle.profiles.specs.Values.{nought, plus, times};
-ghost use Rattle.expected.specs.Expected.{Holds, Walkable, Expected, Gained, Dealt, Moved};
+ghost use Rattle.profiles.specs.Values.{nought, plus};
+ghost use Rattle.expected.specs.Expected.{Both, Summed, Walkable, Expected, Gained, Dealt, Moved};
 
-// A number for each of six seats.
-pub struct Six {
-    pub of: [f64; 6],
+// A number for each of two seats.
+pub struct Two {
+    pub first: f64,
+    pub second: f64,
 }
 
 // Sums that start.
-fn none() -> Six
-    ensures { λ r. ⌜ Holds (λ i. nought) (r .of) ⌝ }
+fn none() -> Two
+    ensures { λ r. ⌜ (r .first ≡ nought) × (r .second ≡ nought) ⌝ }
 {
-    Six { of: [0.0; 6] }
+    Two {
+        first: 0.0,
+        second: 0.0,
+    }
 }
 
 // The sums v, and p × g for each seat.
-fn more(v: Six, p: f64, g: Six) -> Six
-    ensures { λ r. ⌜ Holds (λ i. plus (getD (v .of) i nan) (times p (getD (g .of) i nan))) (r .of) ⌝ }
+fn more(v: Two, p: f64, g: Two) -> Two
+    ensures { λ r. ⌜ Summed v p g r ⌝ }
 {
-    let x = v.of;
-    let y = g.of;
-    let a = x[0] + p * y[0];
-    let b = x[1] + p * y[1];
-    let c = x[2] + p * y[2];
-    let d = x[3] + p * y[3];
-    let e = x[4] + p * y[4];
-    let f = x[5] + p * y[5];
-    Six {
-        of: [a, b, c, d, e, f],
+    Two {
+        first: v.first + p * g.first,
+        second: v.second + p * g.second,
+    }
+}
+
+// The same with the entry of an action, in its set's own part of the profile, which stands between entries first and end.
+fn moved(profile: &[f64], first: usize, end: usize, action: usize, v: Two, g: Two) -> Two
+    requires { ⌜ (first < 16384) × (first + action < end) × (end ≤ length (now profile)) ⌝ }
+    ensures { λ r. ⌜ Summed v (getD (now (profile .entry)) (first + action) nan) g r ⌝ }
+{
+    let one = weighed(&profile[first..end], action, v.first, g.first);
+    let other = weighed(&profile[first..end], action, v.second, g.second);
+    Two {
+        first: one,
+        second: other,
     }
 }
 
 // g of the end with word x: the payoff on its edge, and 0.0.
-fn paid(x: u64) -> Six
-    ensures { λ r. ⌜ Holds (λ i. plus (ofInt binary64 (payoffOf x i)) nought) (r .of) ⌝ }
+fn paid(x: u64, seat: usize) -> Two
+    requires { ⌜ seat < 5 ⌝ }
+    ensures { λ r. ⌜ Both (λ i g. g ≡ plus (ofInt binary64 (payoffOf x i)) nought) seat r ⌝ }
 {
-    let a = payoff_of(x, 0) + 0.0;
-    let b = payoff_of(x, 1) + 0.0;
-    let c = payoff_of(x, 2) + 0.0;
-    let d = payoff_of(x, 3) + 0.0;
-    let e = payoff_of(x, 4) + 0.0;
-    let f = payoff_of(x, 5) + 0.0;
-    Six {
-        of: [a, b, c, d, e, f],
+    let one = payoff_of(x, seat) + 0.0;
+    let other = payoff_of(x, seat + 1) + 0.0;
+    Two {
+        first: one,
+        second: other,
     }
 }
 
 // g of a node with the worths v that does not end the hand: 0.0 on its edge, and its worth.
-fn unpaid(v: Six) -> Six
-    ensures { λ r. ⌜ Holds (λ i. plus nought (getD (v .of) i nan)) (r .of) ⌝ }
+fn unpaid(v: Two) -> Two
+    ensures { λ r. ⌜ (r .first ≡ plus nought (v .first)) × (r .second ≡ plus nought (v .second)) ⌝ }
 {
-    let x = v.of;
-    let a = 0.0 + x[0];
-    let b = 0.0 + x[1];
-    let c = 0.0 + x[2];
-    let d = 0.0 + x[3];
-    let e = 0.0 + x[4];
-    let f = 0.0 + x[5];
-    Six {
-        of: [a, b, c, d, e, f],
+    Two {
+        first: 0.0 + v.first,
+        second: 0.0 + v.second,
     }
 }
 
-// The worths of the tree at place a.
-pub fn worths(w: &[u64], profile: &[f64], a: usize, depth: usize) -> Six
-    requires { ⌜ Walkable a depth ⌝ }
-    ensures { λ r. ⌜ Expected (now (profile .entry)) (now (w .entry)) a depth (r .of) ⌝ }
+// The worths of the tree at place a to a seat and to the one behind it.
+pub fn worths(w: &[u64], profile: &[f64], a: usize, seat: usize, depth: usize) -> Two
+    requires { ⌜ Walkable a seat depth ⌝ }
+    ensures { λ r. ⌜ Both (Expected (now (profile .entry)) (now (w .entry)) a depth) seat r ⌝ }
 {
     if depth == 0 {
         return none();
@@ -94,34 +96,34 @@ pub fn worths(w: &[u64], profile: &[f64], a: usize, depth: usize) -> Six
         return none();
     }
     if sort == CHANCE {
-        return deal(w, profile, a + 1, next(x), depth - 1);
+        return deal(w, profile, a + 1, next(x), seat, depth - 1);
     }
-    decide(w, profile, a + 1, x, depth - 1)
+    decide(w, profile, a + 1, x, seat, depth - 1)
 }
 
 // g of the child at place a: of an end at once, without a call.
-fn gains(w: &[u64], profile: &[f64], a: usize, depth: usize) -> Six
-    requires { ⌜ Walkable a depth ⌝ }
-    ensures { λ r. ⌜ Gained (now (profile .entry)) (now (w .entry)) a depth (r .of) ⌝ }
+fn gains(w: &[u64], profile: &[f64], a: usize, seat: usize, depth: usize) -> Two
+    requires { ⌜ Walkable a seat depth ⌝ }
+    ensures { λ r. ⌜ Both (Gained (now (profile .entry)) (now (w .entry)) a depth) seat r ⌝ }
 {
     let x = word(w, a);
     if kind(x) == END {
-        return paid(x);
+        return paid(x, seat);
     }
-    unpaid(worths(w, profile, a, depth))
+    unpaid(worths(w, profile, a, seat, depth))
 }
 
 // The sums over the children of a chance node, which stand between places a and end.
-fn deal(w: &[u64], profile: &[f64], a: usize, end: usize, depth: usize) -> Six
-    requires { ⌜ Walkable a depth ⌝ }
-    ensures { λ r. ⌜ Dealt (now (profile .entry)) (now (w .entry)) a end depth (r .of) ⌝ }
+fn deal(w: &[u64], profile: &[f64], a: usize, end: usize, seat: usize, depth: usize) -> Two
+    requires { ⌜ Walkable a seat depth ⌝ }
+    ensures { λ r. ⌜ Both (Dealt (now (profile .entry)) (now (w .entry)) a end depth) seat r ⌝ }
 {
     let count = fan(w, a, end);
     let p = weight(count);
     let mut sums = none();
     let mut at = a;
     while at < end {
-        let g = gains(w, profile, at, depth);
+        let g = gains(w, profile, at, seat, depth);
         sums = more(sums, p, g);
         let next = behind(w, at);
         if next <= at {
@@ -132,18 +134,10 @@ fn deal(w: &[u64], profile: &[f64], a: usize, end: usize, depth: usize) -> Six
     sums
 }
 
-// The entry of an action in its set's own part of the profile, which stands between entries first and end.
-fn chance_of(profile: &[f64], first: usize, end: usize, action: usize) -> f64
-    requires { ⌜ (first < 16384) × (first + action < end) × (end ≤ length (now profile)) ⌝ }
-    ensures { λ r. ⌜ r ≡ getD (now (profile .entry)) (first + action) nan ⌝ }
-{
-    entry(&profile[first..end], action)
-}
-
 // The sums over the children of a decision with word x, the first at place a.
-fn decide(w: &[u64], profile: &[f64], a: usize, x: u64, depth: usize) -> Six
-    requires { ⌜ Walkable a depth ⌝ }
-    ensures { λ r. ⌜ Moved (now (profile .entry)) (now (w .entry)) a x depth (r .of) ⌝ }
+fn decide(w: &[u64], profile: &[f64], a: usize, x: u64, seat: usize, depth: usize) -> Two
+    requires { ⌜ Walkable a seat depth ⌝ }
+    ensures { λ r. ⌜ Both (Moved (now (profile .entry)) (now (w .entry)) a x depth) seat r ⌝ }
 {
     let first = set(x);
     let count = actions(x);
@@ -154,15 +148,15 @@ fn decide(w: &[u64], profile: &[f64], a: usize, x: u64, depth: usize) -> Six
     if profile.len() < end {
         return none();
     }
-    let zero = gains(w, profile, a, depth);
-    let sums = more(none(), chance_of(profile, first, end, 0), zero);
+    let zero = gains(w, profile, a, seat, depth);
+    let sums = moved(profile, first, end, 0, none(), zero);
     let b = behind(w, a);
-    let one = gains(w, profile, b, depth);
-    let both = more(sums, chance_of(profile, first, end, 1), one);
+    let one = gains(w, profile, b, seat, depth);
+    let both = moved(profile, first, end, 1, sums, one);
     if count == 2 {
         return both;
     }
     let c = behind(w, b);
-    let two = gains(w, profile, c, depth);
-    more(both, chance_of(profile, first, end, 2), two)
+    let two = gains(w, profile, c, seat, depth);
+    moved(profile, first, end, 2, both, two)
 }

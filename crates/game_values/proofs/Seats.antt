@@ -1,16 +1,15 @@
 -- Values seat by seat, as a loop fills or adds them. Assumes nothing.
-use mathlib.Core.Path.{_≡_, refl, sym, ap, ap₂, _∙_}
+use mathlib.Core.Path.{_≡_, refl, ap, ap₂, _∙_}
 use mathlib.Core.Bool.{cond}
 use mathlib.Core.List.{List}
 use Prim.Native.Nat.{ℕ, suc, _+_, _≤_, _<_}
 use native.Mathlib.Omega.{arith}
 use lib.Dec.{ltb}
-use borrow.Author.Tests.{lt-ltb, ltb-true}
+use borrow.Author.Tests.{lt-ltb}
 use lib.Ieee.{Float, nan, binary64, sub}
 use lib.ListN.{length, getD, set, replicate}
 use Rattle.finite.specs.Finite.{places}
-use Rattle.finite.proofs.Lists.{filled-none, filled-more, getD-places, places-same}
-use Rattle.finite.proofs.Tests.{Tested, holds, fails, tested}
+use Rattle.finite.proofs.Lists.{filled-none, filled-more, getD-places}
 use Rattle.profiles.specs.Values.{nought, plus}
 use Rattle.tables.specs.declared.Game.{Game}
 use Rattle.tables.specs.Games.{treeOf}
@@ -19,7 +18,7 @@ use Rattle.expected.specs.Expected.{Expected}
 use Rattle.stored.specs.Stored.{Stored}
 use Rattle.whole.specs.Facts.{Known}
 use Rattle.whole.proofs.Facts.{games-shaped, games-legible}
-use Rattle.game_values.specs.Accepted.{Accepted}
+use Rattle.profile_refusals.specs.Accepted.{Accepted}
 use Rattle.game_values.specs.Values.{bestOf, worthOf, bySeat, bestsOf, worthsOf, gaps, nashConvOf}
 
 -- the first k of six places have f
@@ -41,6 +40,10 @@ module _ (g : Game) (P : List Float) where
   unfolding bestsOf
   all-bests k out a b e = front-all (bestOf g P) g k out a b e
 
+  pub all-worths : (k : ℕ) (out : List Float) → k ≤ g .seats → g .seats ≤ k → out ≡ front (worthOf g P) k → out ≡ worthsOf g P
+  unfolding worthsOf
+  all-worths k out a b e = front-all (worthOf g P) g k out a b e
+
   -- the worth of a seat
   pub worth-at : (ws : List Float) (k : ℕ) → g .seats ≤ 6 → ws ≡ worthsOf g P → k < g .seats → getD ws k nan ≡ worthOf g P k
   unfolding worthsOf
@@ -61,16 +64,21 @@ module _ (g : Game) (P : List Float) where
 pub few-seats : (g : Game) → Known g → g .seats ≤ 6
 few-seats g a = games-shaped g a .most
 
--- what is read of the tree for six seats, cut to the game's
-module _ (g : Game) (P : List Float) (a : Accepted g P) (w : List ℕ) (x : Stored g w) (r : List Float) (o : Expected P w 0 32 r) where
-  worth-is : (i : ℕ) → i < g .seats → getD r i nan ≡ worthOf g P i
-  unfolding worthOf
-  worth-is i l = o (g .seats) (treeOf g) (treeOf g) (laterIn (treeOf g)) (few-seats g (a .game)) (games-legible g w (length P) (a .game) x (a .long)) i l
+-- seats are passed in pairs: where one is left, those passed are an even number
+abbrev pub Paired : (k n : ℕ) → Type 0
+Paired k n = k < n → (j : ℕ) × (k ≡ j + j)
 
-  pub cut-worths : (k : ℕ) (out : List Float) → k ≤ g .seats → g .seats ≤ k → out ≡ front (λ i. getD r i nan) k → out ≡ worthsOf g P
-  unfolding worthsOf
-  cut-worths k out l m e = front-all (λ i. getD r i nan) g k out l m e ∙ places-same 6 _ _ (λ i h. at i (tested (ltb i (g .seats))))
-    where
-      at : (i : ℕ) → Tested (ltb i (g .seats)) → cond (ltb i (g .seats)) (getD r i nan) nought ≡ cond (ltb i (g .seats)) (worthOf g P i) nought
-      at i (holds t) = rw t (worth-is i (ltb-true i (g .seats) t))
-      at i (fails t) = rw t refl
+-- so the next pair is within six
+pub pair-fits : (k n : ℕ) → n ≤ 6 → Paired k n → k < n → k < 5
+pair-fits k n m e l = let p = e l in omega (arith, p .1)
+
+pub paired-none : (n : ℕ) → Paired 0 n
+paired-none n l = (0, refl)
+
+pub paired-more : (k n : ℕ) → Paired k n → k < n → Paired (k + 1 + 1) n
+paired-more k n e l m = let p = e l in (suc (p .0), omega (arith, p .1))
+
+-- what is read of the tree for a seat
+pub worth-is : (g : Game) (P : List Float) → Accepted g P → (w : List ℕ) → Stored g w → (i : ℕ) (r : Float) → i < g .seats → Expected P w 0 32 i r → r ≡ worthOf g P i
+unfolding worthOf
+worth-is g P a w x i r l o = o (g .seats) (treeOf g) (treeOf g) (laterIn (treeOf g)) l (games-legible g w (length P) (a .game) x (a .long))

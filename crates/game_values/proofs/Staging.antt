@@ -1,5 +1,5 @@
 -- A seat's scene in work memory, with its reaches. Assumes nothing.
-use mathlib.Core.Path.{_≡_, refl, sym, ap, _∙_, subst}
+use mathlib.Core.Path.{_≡_, refl, _∙_, subst}
 use mathlib.Core.Logic.{inl}
 use mathlib.Core.List.{List}
 use Prim.Native.Nat.{ℕ, _+_, _*_, _≤_, _<_}
@@ -9,7 +9,7 @@ use lib.Dec.{eqb}
 use lib.Ieee.{Float}
 use lib.ListN.{length, getD}
 use Rattle.finite.proofs.Tests.{Tested, holds, fails, tested}
-use Rattle.game.specs.Tree.{Key, Tree, end, chance, decide, Every}
+use Rattle.game.specs.Tree.{Tree, end, chance, decide, Every}
 use Rattle.game.specs.Reply.{Choice}
 use Rattle.game.specs.Sets.{size, entries, firstEntry, SameHeights}
 use Rattle.game.proofs.Entries.{entry-inside}
@@ -24,7 +24,7 @@ use Rattle.arena.specs.Words.{CHANCE, kindOf}
 use Rattle.arena.specs.Held.{Says, Held}
 use Rattle.arena.specs.Index.{laterIn, Indexed, Cleared}
 use Rattle.arena.specs.Legible.{Legible}
-use Rattle.profiles.specs.Values.{Profile, profileOf, one, bestValue, best, setSum, lead}
+use Rattle.profiles.specs.Values.{Profile, profileOf, one, bestValue, best}
 use Rattle.profiles.proofs.Deciding.{best-decides}
 use Rattle.walks.specs.Stage.{Stage, Noted}
 use Rattle.walks.proofs.Standing.{root-stands}
@@ -38,7 +38,7 @@ use Rattle.whole.specs.Places.{unitsAt, keptAt}
 use Rattle.whole.proofs.Places.{Roomy, roomy, Deals, root-deals}
 use Rattle.whole.proofs.Standing.{indexed-same, some-actions}
 use Rattle.game_values.specs.Values.{bestOf}
-use Rattle.game_values.specs.Accepted.{Accepted}
+use Rattle.profile_refusals.specs.Accepted.{Accepted}
 
 -- decisions of one seat with equal keys have the same remaining depth
 same-heights : (g : Game) → SameHeights (treeOf g)

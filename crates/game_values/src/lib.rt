@@ -8,11 +8,13 @@ use units::DEPTH;
 use whole::heads_of;
 ghost use mathlib.Core.Path.{_≡_};
 ghost use Prim.Native.Nat.{_*_, _≤_, _<_};
+ghost use lib.IntN.{pos};
+ghost use lib.Ieee.{binary64, ofInt, div};
 ghost use lib.ListN.{length};
 ghost use Rattle.tables.specs.Facts.{nodesOf};
 ghost use Rattle.stored.specs.Stored.{Stored};
-ghost use Rattle.game_values.specs.Values.{bestOf, bestsOf, worthsOf, nashConvOf};
-ghost use Rattle.game_values.specs.Accepted.{Accepted};
+ghost use Rattle.profile_refusals.specs.Accepted.{Accepted};
+ghost use Rattle.game_values.specs.Values.{bestOf, bestsOf, worthsOf, nashConvOf, exploitabilityOf};
 
 // The best response value of a seat to a profile that is not refused.
 pub fn best_value(g: Game, w: &mut [u64], seat: usize, profile: &[f64]) -> f64
@@ -49,14 +51,16 @@ pub fn worths(g: Game, w: &[u64], profile: &[f64]) -> [f64; 6]
     requires { ⌜ Stored g (now w) × Accepted g (now profile) ⌝ }
     ensures { λ r. ⌜ r ≡ worthsOf g (now (profile .entry)) ⌝ }
 {
-    let six = expected::worths(w, profile, 0, DEPTH);
-    let of = six.of;
-    let seats = g.seats;
     let mut out = [0.0; 6];
     let mut seat = 0;
-    while seat < seats {
-        out[seat] = of[seat];
+    while seat < g.seats {
+        let two = expected::worths(w, profile, 0, seat, DEPTH);
+        out[seat] = two.first;
         seat += 1;
+        if seat < g.seats {
+            out[seat] = two.second;
+            seat += 1;
+        }
     }
     out
 }
@@ -76,4 +80,20 @@ pub fn nash_conv(g: Game, w: &mut [u64], profile: &[f64]) -> f64
         seat += 1;
     }
     sum
+}
+
+// A value divided by the seats.
+fn shared(x: f64, seats: usize) -> f64
+    requires { ⌜ seats ≤ 6 ⌝ }
+    ensures { λ r. ⌜ r ≡ div binary64 x (ofInt binary64 (pos seats)) ⌝ }
+{
+    x / (seats % 256) as u8 as f64
+}
+
+// Exploitability: NashConv divided by the seats.
+pub fn exploitability(g: Game, w: &mut [u64], profile: &[f64]) -> f64
+    requires { ⌜ Stored g (now w) × Accepted g (now profile) × (12 * nodesOf g ≤ length (now w)) ⌝ }
+    ensures { λ r. ⌜ r ≡ exploitabilityOf g (now (profile .entry)) ⌝ }
+{
+    shared(nash_conv(g, w, profile), g.seats)
 }

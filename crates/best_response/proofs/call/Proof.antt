@@ -8,7 +8,7 @@ use Rattle.tables.specs.Games.{gameOf}
 use Rattle.whole.proofs.Leaving.{all-left, rest-left}
 use Rattle.whole.proofs.Passed.{room-for, part-for}
 use Rattle.best_response.specs.Asked.{countOf, valuesOf}
-use Rattle.best_response.proofs.Checks.{tree-accepted, known, profile-accepted, seat-accepted}
+use Rattle.profile_refusals.proofs.Checks.{tree-accepted, known, profile-accepted, seat-accepted}
 use Rattle.best_response.proofs.Outcome.{not-valued, valued}
 use borrow.Author.Needs.{needs}
 use Rattle.best_response.proofs.call.Statement.{statement}

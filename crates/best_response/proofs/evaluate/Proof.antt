@@ -2,11 +2,9 @@
 use mathlib.Core.Path.{sym, ap, _∙_, subst}
 use denote.Ref.{now}
 use native.Mathlib.Omega.{arith}
-use lib.IntN.{pos}
-use lib.Ieee.{binary64, ofInt, div}
-use Rattle.game_values.proofs.Seats.{few-seats}
+use Rattle.profile_refusals.specs.Asked.{SeatOf}
 use Rattle.best_response.specs.Calls.{single}
-use Rattle.best_response.specs.Asked.{valuesOf, SeatOf}
+use Rattle.best_response.specs.Asked.{valuesOf}
 use borrow.Author.Needs.{needs}
 use Rattle.best_response.proofs.evaluate.Statement.{statement}
 use Rattle.best_response.proofs.evaluate.Tie as tie
@@ -47,11 +45,8 @@ alone-requires-2 c κs = search needs
 enum-told-4 : tie.Need-enum-told-4
 enum-told-4 c = search needs
 
-nash-conv-requires-2 : tie.Need-nash-conv-requires-2
-nash-conv-requires-2 c κs = (c .before .before .before .before .before .store .ensures, c .before .before .before .before .before .before .before .before .before .pre .0, omega (arith, c .before .before .before .before .before .before .before .before .before .pre .1, c .before .before .before .before .before .store .kept .1 .0))
-
-shared-requires : tie.Need-shared-requires
-shared-requires c κs = few-seats (c .before .before .before .before .before .before .before .before .before .before .before .before .args .g) (c .before .before .before .before .before .before .before .before .before .before .before .before .pre .0 .game)
+exploitability-requires : tie.Need-exploitability-requires
+exploitability-requires c κs = (c .before .before .before .before .before .store .ensures, c .before .before .before .before .before .before .before .before .before .pre .0, omega (arith, c .before .before .before .before .before .before .before .before .before .pre .1, c .before .before .before .before .before .store .kept .1 .0))
 
 alone-requires-3 : tie.Need-alone-requires-3
 alone-requires-3 c κs = search needs
@@ -84,7 +79,7 @@ same-length-5 : tie.Need-same-length-5
 same-length-5 c = search needs
 
 returns-5 : tie.Need-returns-5
-returns-5 c = c .alone3 .ensures ∙ ap single (c .before .shared .ensures ∙ ap (λ x. div binary64 x (ofInt binary64 (pos (c .before .before .before .before .before .before .before .before .before .before .before .before .before .before .args .g .seats)))) (c .before .before .before .before .nash-conv2 .ensures)) ∙ ap (λ a. valuesOf a (c .before .before .before .before .before .before .before .before .before .before .before .before .before .before .args .g) (now (c .before .before .before .before .before .before .before .before .before .before .before .before .before .before .args .profile))) (sym (c .before .before .before .before .before .before .enum-told4 .given .1))
+returns-5 c = c .alone3 .ensures ∙ ap single (c .before .before .before .exploitability .ensures) ∙ ap (λ a. valuesOf a (c .before .before .before .before .before .before .before .before .before .before .before .before .before .args .g) (now (c .before .before .before .before .before .before .before .before .before .before .before .before .before .args .profile))) (sym (c .before .before .before .before .before .enum-told4 .given .1))
 
 pub evaluate-spec : {M : Type 1} → statement M
 evaluate-spec =
@@ -102,8 +97,7 @@ evaluate-spec =
     nash-conv-requires
     alone-requires-2
     enum-told-4
-    nash-conv-requires-2
-    shared-requires
+    exploitability-requires
     alone-requires-3
     same-length
     returns

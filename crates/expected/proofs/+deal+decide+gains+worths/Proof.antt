@@ -4,7 +4,7 @@ use mathlib.Core.Path.{sym, _∙_}
 use native.Mathlib.Omega.{arith}
 use borrow.Author.Needs.{needs}
 use Rattle.expected.specs.Expected.{Walkable}
-use Rattle.expected.proofs.Summing as summing
+use Rattle.expected.proofs.Both as both
 use borrow.Fn.Kinds.{In}
 use borrow.Fn.PlainCycle.{Measures, is, falls, and}
 use Rattle.expected.proofs.deal.Reads as deal
@@ -26,8 +26,8 @@ use Rattle.arena.proofs.words.kind.Reads as kind-reads
 use Rattle.arena.proofs.words.next.Reads as next-reads
 use Rattle.arena.proofs.words.set.Reads as set-reads
 use Rattle.arena.proofs.words.word.Reads as word-reads
-use Rattle.expected.proofs.chance_of.Reads as chance-of-reads
 use Rattle.expected.proofs.more.Reads as more-reads
+use Rattle.expected.proofs.moved.Reads as moved-reads
 use Rattle.expected.proofs.none.Reads as none-reads
 use Rattle.expected.proofs.paid.Reads as paid-reads
 use Rattle.expected.proofs.unpaid.Reads as unpaid-reads
@@ -36,16 +36,16 @@ use Rattle.expected.proofs.+deal+decide+gains+worths.{statement}
 use Rattle.expected.proofs.+deal+decide+gains+worths.Tie.{close}
 
 abbrev μ-deal : Measures 2 deal-kinds.ps ℕ
-μ-deal κs a = 3 * a .1 .1 .1 .1 .0 + 2
+μ-deal κs a = 3 * a .1 .1 .1 .1 .1 .0 + 2
 
 abbrev μ-decide : Measures 2 decide-kinds.ps ℕ
-μ-decide κs a = 3 * a .1 .1 .1 .1 .0 + 2
+μ-decide κs a = 3 * a .1 .1 .1 .1 .1 .0 + 2
 
 abbrev μ-gains : Measures 2 gains-kinds.ps ℕ
-μ-gains κs a = 3 * a .1 .1 .1 .0 + 1
+μ-gains κs a = 3 * a .1 .1 .1 .1 .0 + 1
 
 abbrev μ-worths : Measures 2 worths-kinds.ps ℕ
-μ-worths κs a = 3 * a .1 .1 .1 .0
+μ-worths κs a = 3 * a .1 .1 .1 .1 .0
 
 abbrev deal-at : ℕ → In 2 deal-kinds.ps
 deal-at t = and 2 deal-kinds.ps (is 2 deal-kinds.ps μ-deal t) deal.Pre
@@ -72,10 +72,10 @@ abbrev worths-below : ℕ → In 2 worths-kinds.ps
 worths-below t = and 2 worths-kinds.ps (falls 2 worths-kinds.ps _<_ μ-worths t) worths.Pre
 
 abbrev deal-Inv-loop : deal-lts.InvT-loop
-deal-Inv-loop w profile a end depth count p sums₀ at₀ sums at = summing.Dealing profile w a depth end at (sums .of) × Walkable at depth
+deal-Inv-loop w profile a end seat depth count p sums₀ at₀ sums at = both.Dealing profile w a depth seat end at sums × Walkable at seat depth
 
 abbrev deal-μ-loop : deal-lts.MeasureT-loop
-deal-μ-loop w profile a end depth count p sums₀ at₀ sums at = end - at
+deal-μ-loop w profile a end seat depth count p sums₀ at₀ sums at = end - at
 
 deal-fan-requires : (t : ℕ) → deal-lts.Need-fan-requires (
   fan-reads.Asked,
@@ -139,7 +139,7 @@ deal-loop-holds : (t : ℕ) → deal-lts.Need-loop-holds (
   behind-reads.Asked,
   behind-reads.Learnt,
 ) (deal-at t) deal.Post deal-Inv-loop deal-μ-loop
-deal-loop-holds t c = (summing.deal-start _ _ _ _ _ (c .none .result .of) (c .none .ensures), c .before .before .before .before .before .pre .1)
+deal-loop-holds t c = (both.deal-start _ _ _ _ _ _ (c .none .result) (c .none .ensures), c .before .before .before .before .before .pre .1)
 
 deal-gains-requires : (t : ℕ) → deal-lts.Need-gains-requires (
   fan-reads.Asked,
@@ -203,7 +203,7 @@ deal-returns : (t : ℕ) → deal-lts.Need-returns (
   behind-reads.Asked,
   behind-reads.Learnt,
 ) (deal-at t) deal.Post deal-Inv-loop deal-μ-loop
-deal-returns t c = summing.deal-stuck _ _ _ _ _ _ _ _ _ (c .before .before .before .before .before .loop .sums .of) (c .before .before .before .gains .result .of) (c .before .before .more .result .of) (c .before .before .before .before .before .before .before .before .fan .ensures) (c .before .before .before .before .before .before .before .weight .ensures) (c .before .before .before .before .before .loop .inv .0) (c .before .before .before .before .loop-test .taken) (c .before .before .before .gains .ensures) (c .before .behind .ensures) (c .if1 .taken)
+deal-returns t c = both.deal-stuck _ _ _ _ _ _ _ _ _ _ (c .before .before .before .before .before .loop .sums) (c .before .before .before .gains .result) (c .before .before .more .result) (c .before .before .before .before .before .before .before .before .fan .ensures) (c .before .before .before .before .before .before .before .weight .ensures) (c .before .before .before .before .before .loop .inv .0) (c .before .before .before .before .loop-test .taken) (c .before .before .before .gains .ensures) (c .before .behind .ensures) (c .if1 .taken)
 
 deal-loop-less : (t : ℕ) → deal-lts.Need-loop-less (
   fan-reads.Asked,
@@ -235,7 +235,7 @@ deal-loop-again : (t : ℕ) → deal-lts.Need-loop-again (
   behind-reads.Asked,
   behind-reads.Learnt,
 ) (deal-at t) deal.Post deal-Inv-loop deal-μ-loop
-deal-loop-again t c = (summing.deal-more _ _ _ _ _ _ _ _ _ (c .before .before .before .before .before .loop .sums .of) (c .before .before .before .gains .result .of) (c .before .before .more .result .of) (c .before .before .before .before .before .before .before .before .fan .ensures) (c .before .before .before .before .before .before .before .weight .ensures) (c .before .before .before .before .before .loop .inv .0) (c .before .before .before .before .loop-test .taken) (c .before .before .before .gains .ensures) (c .before .behind .ensures) (c .before .before .more .ensures), summing.walk-along _ _ _ (c .before .before .before .before .before .before .before .before .before .before .before .pre .1) (c .before .behind .ensures .near))
+deal-loop-again t c = (both.deal-more _ _ _ _ _ _ _ _ _ _ (c .before .before .before .before .before .loop .sums) (c .before .before .before .gains .result) (c .before .before .more .result) (c .before .before .before .before .before .before .before .before .fan .ensures) (c .before .before .before .before .before .before .before .weight .ensures) (c .before .before .before .before .before .loop .inv .0) (c .before .before .before .before .loop-test .taken) (c .before .before .before .gains .ensures) (c .before .behind .ensures) (c .before .before .more .ensures), both.walk-along _ _ _ _ (c .before .before .before .before .before .before .before .before .before .before .before .pre .1) (c .before .behind .ensures .near))
 
 deal-returns-2 : (t : ℕ) → deal-lts.Need-returns-2 (
   fan-reads.Asked,
@@ -251,7 +251,7 @@ deal-returns-2 : (t : ℕ) → deal-lts.Need-returns-2 (
   behind-reads.Asked,
   behind-reads.Learnt,
 ) (deal-at t) deal.Post deal-Inv-loop deal-μ-loop
-deal-returns-2 t c = summing.deal-end _ _ _ _ _ _ (c .before .loop .sums .of) (c .before .loop .inv .0) (c .loop-test .left)
+deal-returns-2 t c = both.deal-end _ _ _ _ _ _ _ (c .before .loop .sums) (c .before .loop .inv .0) (c .loop-test .left)
 
 decide-set-requires : (t : ℕ) → decide-lts.Need-set-requires (
   set-reads.Asked,
@@ -262,10 +262,8 @@ decide-set-requires : (t : ℕ) → decide-lts.Need-set-requires (
   none-reads.Learnt,
   gains-below t,
   gains.Post,
-  chance-of-reads.Asked,
-  chance-of-reads.Learnt,
-  more-reads.Asked,
-  more-reads.Learnt,
+  moved-reads.Asked,
+  moved-reads.Learnt,
   behind-reads.Asked,
   behind-reads.Learnt,
 ) (decide-at t) decide.Post
@@ -280,10 +278,8 @@ decide-actions-requires : (t : ℕ) → decide-lts.Need-actions-requires (
   none-reads.Learnt,
   gains-below t,
   gains.Post,
-  chance-of-reads.Asked,
-  chance-of-reads.Learnt,
-  more-reads.Asked,
-  more-reads.Learnt,
+  moved-reads.Asked,
+  moved-reads.Learnt,
   behind-reads.Asked,
   behind-reads.Learnt,
 ) (decide-at t) decide.Post
@@ -298,10 +294,8 @@ decide-add-end : (t : ℕ) → decide-lts.Need-add-end (
   none-reads.Learnt,
   gains-below t,
   gains.Post,
-  chance-of-reads.Asked,
-  chance-of-reads.Learnt,
-  more-reads.Asked,
-  more-reads.Learnt,
+  moved-reads.Asked,
+  moved-reads.Learnt,
   behind-reads.Asked,
   behind-reads.Learnt,
 ) (decide-at t) decide.Post
@@ -316,10 +310,8 @@ decide-none-requires : (t : ℕ) → decide-lts.Need-none-requires (
   none-reads.Learnt,
   gains-below t,
   gains.Post,
-  chance-of-reads.Asked,
-  chance-of-reads.Learnt,
-  more-reads.Asked,
-  more-reads.Learnt,
+  moved-reads.Asked,
+  moved-reads.Learnt,
   behind-reads.Asked,
   behind-reads.Learnt,
 ) (decide-at t) decide.Post
@@ -334,14 +326,12 @@ decide-returns : (t : ℕ) → decide-lts.Need-returns (
   none-reads.Learnt,
   gains-below t,
   gains.Post,
-  chance-of-reads.Asked,
-  chance-of-reads.Learnt,
-  more-reads.Asked,
-  more-reads.Learnt,
+  moved-reads.Asked,
+  moved-reads.Learnt,
   behind-reads.Asked,
   behind-reads.Learnt,
 ) (decide-at t) decide.Post
-decide-returns t c = summing.decide-few _ _ _ _ _ (c .none .result .of) (omega (arith, c .before .if1 .taken, c .before .before .actions .ensures))
+decide-returns t c = both.decide-few _ _ _ _ _ _ (c .none .result) (omega (arith, c .before .if1 .taken, c .before .before .actions .ensures))
 
 decide-none-requires-2 : (t : ℕ) → decide-lts.Need-none-requires-2 (
   set-reads.Asked,
@@ -352,10 +342,8 @@ decide-none-requires-2 : (t : ℕ) → decide-lts.Need-none-requires-2 (
   none-reads.Learnt,
   gains-below t,
   gains.Post,
-  chance-of-reads.Asked,
-  chance-of-reads.Learnt,
-  more-reads.Asked,
-  more-reads.Learnt,
+  moved-reads.Asked,
+  moved-reads.Learnt,
   behind-reads.Asked,
   behind-reads.Learnt,
 ) (decide-at t) decide.Post
@@ -370,14 +358,12 @@ decide-returns-2 : (t : ℕ) → decide-lts.Need-returns-2 (
   none-reads.Learnt,
   gains-below t,
   gains.Post,
-  chance-of-reads.Asked,
-  chance-of-reads.Learnt,
-  more-reads.Asked,
-  more-reads.Learnt,
+  moved-reads.Asked,
+  moved-reads.Learnt,
   behind-reads.Asked,
   behind-reads.Learnt,
 ) (decide-at t) decide.Post
-decide-returns-2 t c = summing.decide-none _ _ _ _ _ (c .none2 .result .of) (omega (arith, c .before .if2 .taken, c .before .before .before .before .set .ensures, c .before .before .before .actions .ensures))
+decide-returns-2 t c = both.decide-none _ _ _ _ _ _ (c .none2 .result) (omega (arith, c .before .if2 .taken, c .before .before .before .before .set .ensures, c .before .before .before .actions .ensures))
 
 decide-gains-requires : (t : ℕ) → decide-lts.Need-gains-requires (
   set-reads.Asked,
@@ -388,10 +374,8 @@ decide-gains-requires : (t : ℕ) → decide-lts.Need-gains-requires (
   none-reads.Learnt,
   gains-below t,
   gains.Post,
-  chance-of-reads.Asked,
-  chance-of-reads.Learnt,
-  more-reads.Asked,
-  more-reads.Learnt,
+  moved-reads.Asked,
+  moved-reads.Learnt,
   behind-reads.Asked,
   behind-reads.Learnt,
 ) (decide-at t) decide.Post
@@ -406,16 +390,14 @@ decide-none-requires-3 : (t : ℕ) → decide-lts.Need-none-requires-3 (
   none-reads.Learnt,
   gains-below t,
   gains.Post,
-  chance-of-reads.Asked,
-  chance-of-reads.Learnt,
-  more-reads.Asked,
-  more-reads.Learnt,
+  moved-reads.Asked,
+  moved-reads.Learnt,
   behind-reads.Asked,
   behind-reads.Learnt,
 ) (decide-at t) decide.Post
 decide-none-requires-3 t c κs = search needs
 
-decide-chance-of-requires : (t : ℕ) → decide-lts.Need-chance-of-requires (
+decide-moved-requires : (t : ℕ) → decide-lts.Need-moved-requires (
   set-reads.Asked,
   set-reads.Learnt,
   actions-reads.Asked,
@@ -424,32 +406,12 @@ decide-chance-of-requires : (t : ℕ) → decide-lts.Need-chance-of-requires (
   none-reads.Learnt,
   gains-below t,
   gains.Post,
-  chance-of-reads.Asked,
-  chance-of-reads.Learnt,
-  more-reads.Asked,
-  more-reads.Learnt,
+  moved-reads.Asked,
+  moved-reads.Learnt,
   behind-reads.Asked,
   behind-reads.Learnt,
 ) (decide-at t) decide.Post
-decide-chance-of-requires t c κs = (omega (arith, c .before .before .before .before .before .set .ensures), omega (arith, c .before .before .before .if1 .left), omega (arith, c .before .before .if2 .left))
-
-decide-more-requires : (t : ℕ) → decide-lts.Need-more-requires (
-  set-reads.Asked,
-  set-reads.Learnt,
-  actions-reads.Asked,
-  actions-reads.Learnt,
-  none-reads.Asked,
-  none-reads.Learnt,
-  gains-below t,
-  gains.Post,
-  chance-of-reads.Asked,
-  chance-of-reads.Learnt,
-  more-reads.Asked,
-  more-reads.Learnt,
-  behind-reads.Asked,
-  behind-reads.Learnt,
-) (decide-at t) decide.Post
-decide-more-requires t c κs = search needs
+decide-moved-requires t c κs = (omega (arith, c .before .before .before .before .before .set .ensures), omega (arith, c .before .before .before .if1 .left), omega (arith, c .before .before .if2 .left))
 
 decide-behind-requires : (t : ℕ) → decide-lts.Need-behind-requires (
   set-reads.Asked,
@@ -460,14 +422,12 @@ decide-behind-requires : (t : ℕ) → decide-lts.Need-behind-requires (
   none-reads.Learnt,
   gains-below t,
   gains.Post,
-  chance-of-reads.Asked,
-  chance-of-reads.Learnt,
-  more-reads.Asked,
-  more-reads.Learnt,
+  moved-reads.Asked,
+  moved-reads.Learnt,
   behind-reads.Asked,
   behind-reads.Learnt,
 ) (decide-at t) decide.Post
-decide-behind-requires t c κs = omega (arith, c .before .before .before .before .before .before .before .before .before .before .pre .1 .place)
+decide-behind-requires t c κs = omega (arith, c .before .before .before .before .before .before .before .before .before .pre .1 .place)
 
 decide-gains-requires-2 : (t : ℕ) → decide-lts.Need-gains-requires-2 (
   set-reads.Asked,
@@ -478,16 +438,14 @@ decide-gains-requires-2 : (t : ℕ) → decide-lts.Need-gains-requires-2 (
   none-reads.Learnt,
   gains-below t,
   gains.Post,
-  chance-of-reads.Asked,
-  chance-of-reads.Learnt,
-  more-reads.Asked,
-  more-reads.Learnt,
+  moved-reads.Asked,
+  moved-reads.Learnt,
   behind-reads.Asked,
   behind-reads.Learnt,
 ) (decide-at t) decide.Post
-decide-gains-requires-2 t c κs = (omega (arith, c .before .before .before .before .before .before .before .before .before .before .before .pre .0), summing.walk-along _ _ _ (c .before .before .before .before .before .before .before .before .before .before .before .pre .1) (c .behind .ensures .near))
+decide-gains-requires-2 t c κs = (omega (arith, c .before .before .before .before .before .before .before .before .before .before .pre .0), both.walk-along _ _ _ _ (c .before .before .before .before .before .before .before .before .before .before .pre .1) (c .behind .ensures .near))
 
-decide-chance-of-requires-2 : (t : ℕ) → decide-lts.Need-chance-of-requires-2 (
+decide-moved-requires-2 : (t : ℕ) → decide-lts.Need-moved-requires-2 (
   set-reads.Asked,
   set-reads.Learnt,
   actions-reads.Asked,
@@ -496,32 +454,12 @@ decide-chance-of-requires-2 : (t : ℕ) → decide-lts.Need-chance-of-requires-2
   none-reads.Learnt,
   gains-below t,
   gains.Post,
-  chance-of-reads.Asked,
-  chance-of-reads.Learnt,
-  more-reads.Asked,
-  more-reads.Learnt,
+  moved-reads.Asked,
+  moved-reads.Learnt,
   behind-reads.Asked,
   behind-reads.Learnt,
 ) (decide-at t) decide.Post
-decide-chance-of-requires-2 t c κs = (omega (arith, c .before .before .before .before .before .before .before .before .before .set .ensures), omega (arith, c .before .before .before .before .before .before .before .if1 .left), omega (arith, c .before .before .before .before .before .before .if2 .left))
-
-decide-more-requires-2 : (t : ℕ) → decide-lts.Need-more-requires-2 (
-  set-reads.Asked,
-  set-reads.Learnt,
-  actions-reads.Asked,
-  actions-reads.Learnt,
-  none-reads.Asked,
-  none-reads.Learnt,
-  gains-below t,
-  gains.Post,
-  chance-of-reads.Asked,
-  chance-of-reads.Learnt,
-  more-reads.Asked,
-  more-reads.Learnt,
-  behind-reads.Asked,
-  behind-reads.Learnt,
-) (decide-at t) decide.Post
-decide-more-requires-2 t c κs = search needs
+decide-moved-requires-2 t c κs = (omega (arith, c .before .before .before .before .before .before .before .before .set .ensures), omega (arith, c .before .before .before .before .before .before .if1 .left), omega (arith, c .before .before .before .before .before .if2 .left))
 
 decide-returns-3 : (t : ℕ) → decide-lts.Need-returns-3 (
   set-reads.Asked,
@@ -532,17 +470,15 @@ decide-returns-3 : (t : ℕ) → decide-lts.Need-returns-3 (
   none-reads.Learnt,
   gains-below t,
   gains.Post,
-  chance-of-reads.Asked,
-  chance-of-reads.Learnt,
-  more-reads.Asked,
-  more-reads.Learnt,
+  moved-reads.Asked,
+  moved-reads.Learnt,
   behind-reads.Asked,
   behind-reads.Learnt,
 ) (decide-at t) decide.Post
 decide-returns-3 t c =
-    let y = c .before .before .before .before .before .before .before .before .before .before .before .actions .ensures in
-    let one = summing.decide-more _ _ _ _ _ _ _ _ _ _ (c .before .before .before .before .before .before .before .none3 .result .of) (c .before .before .before .before .before .before .before .before .gains .result .of) (c .before .before .before .before .before .more .result .of) (c .before .before .before .before .before .before .before .before .before .before .before .before .set .ensures) (c .before .before .before .before .before .before .chance-of .ensures) (summing.decide-start _ _ _ _ _ (c .before .before .before .before .before .before .before .none3 .result .of) (c .before .before .before .before .before .before .before .none3 .ensures)) (omega (arith, y, c .before .before .before .before .before .before .before .before .before .before .if1 .left)) (c .before .before .before .before .before .before .before .before .gains .ensures) (c .before .before .before .before .behind .ensures) (c .before .before .before .before .before .more .ensures) in
-    summing.decide-last _ _ _ _ _ _ _ _ _ (c .before .before .before .before .before .more .result .of) (c .before .before .before .gains2 .result .of) (c .before .more2 .result .of) (c .before .before .before .before .before .before .before .before .before .before .before .before .set .ensures) (c .before .before .chance-of2 .ensures) one (omega (arith, y, c .if3 .taken)) (c .before .before .before .gains2 .ensures) (c .before .more2 .ensures)
+    let y = c .before .before .before .before .before .before .before .before .before .actions .ensures in
+    let one = both.decide-more _ _ _ _ _ _ _ _ _ (c .before .before .before .before .before .none3 .result) (c .before .before .before .before .before .before .gains .result) (c .before .before .before .before .moved .result) (c .before .before .before .before .before .before .before .before .before .before .set .ensures) (both.decide-start _ _ _ _ _ _ (c .before .before .before .before .before .none3 .result) (c .before .before .before .before .before .none3 .ensures)) (c .before .before .before .before .before .before .gains .ensures) (c .before .before .before .before .moved .ensures) _ (omega (arith, y, c .before .before .before .before .before .before .before .before .if1 .left)) (c .before .before .before .behind .ensures) in
+    both.decide-last _ _ _ _ _ _ _ _ _ (c .before .before .before .before .moved .result) (c .before .before .gains2 .result) (c .before .moved2 .result) (c .before .before .before .before .before .before .before .before .before .before .set .ensures) one (c .before .before .gains2 .ensures) (c .before .moved2 .ensures) (omega (arith, y, c .if3 .taken))
 
 decide-behind-requires-2 : (t : ℕ) → decide-lts.Need-behind-requires-2 (
   set-reads.Asked,
@@ -553,14 +489,12 @@ decide-behind-requires-2 : (t : ℕ) → decide-lts.Need-behind-requires-2 (
   none-reads.Learnt,
   gains-below t,
   gains.Post,
-  chance-of-reads.Asked,
-  chance-of-reads.Learnt,
-  more-reads.Asked,
-  more-reads.Learnt,
+  moved-reads.Asked,
+  moved-reads.Learnt,
   behind-reads.Asked,
   behind-reads.Learnt,
 ) (decide-at t) decide.Post
-decide-behind-requires-2 t c κs = omega (arith, c .before .before .before .before .behind .ensures .near)
+decide-behind-requires-2 t c κs = omega (arith, c .before .before .before .behind .ensures .near)
 
 decide-gains-requires-3 : (t : ℕ) → decide-lts.Need-gains-requires-3 (
   set-reads.Asked,
@@ -571,16 +505,14 @@ decide-gains-requires-3 : (t : ℕ) → decide-lts.Need-gains-requires-3 (
   none-reads.Learnt,
   gains-below t,
   gains.Post,
-  chance-of-reads.Asked,
-  chance-of-reads.Learnt,
-  more-reads.Asked,
-  more-reads.Learnt,
+  moved-reads.Asked,
+  moved-reads.Learnt,
   behind-reads.Asked,
   behind-reads.Learnt,
 ) (decide-at t) decide.Post
-decide-gains-requires-3 t c κs = (omega (arith, c .before .before .before .before .before .before .before .before .before .before .before .before .before .before .before .before .pre .0), summing.walk-along _ _ _ (c .before .before .before .before .before .before .before .before .before .before .before .before .before .before .before .before .pre .1) (c .behind2 .ensures .near))
+decide-gains-requires-3 t c κs = (omega (arith, c .before .before .before .before .before .before .before .before .before .before .before .before .before .before .pre .0), both.walk-along _ _ _ _ (c .before .before .before .before .before .before .before .before .before .before .before .before .before .before .pre .1) (c .behind2 .ensures .near))
 
-decide-chance-of-requires-3 : (t : ℕ) → decide-lts.Need-chance-of-requires-3 (
+decide-moved-requires-3 : (t : ℕ) → decide-lts.Need-moved-requires-3 (
   set-reads.Asked,
   set-reads.Learnt,
   actions-reads.Asked,
@@ -589,32 +521,12 @@ decide-chance-of-requires-3 : (t : ℕ) → decide-lts.Need-chance-of-requires-3
   none-reads.Learnt,
   gains-below t,
   gains.Post,
-  chance-of-reads.Asked,
-  chance-of-reads.Learnt,
-  more-reads.Asked,
-  more-reads.Learnt,
+  moved-reads.Asked,
+  moved-reads.Learnt,
   behind-reads.Asked,
   behind-reads.Learnt,
 ) (decide-at t) decide.Post
-decide-chance-of-requires-3 t c κs = (omega (arith, c .before .before .before .before .before .before .before .before .before .before .before .before .before .before .set .ensures), omega (arith, c .before .before .before .before .before .before .before .before .before .before .before .before .if1 .left, c .before .before .if3 .left), omega (arith, c .before .before .before .before .before .before .before .before .before .before .before .if2 .left))
-
-decide-more-requires-3 : (t : ℕ) → decide-lts.Need-more-requires-3 (
-  set-reads.Asked,
-  set-reads.Learnt,
-  actions-reads.Asked,
-  actions-reads.Learnt,
-  none-reads.Asked,
-  none-reads.Learnt,
-  gains-below t,
-  gains.Post,
-  chance-of-reads.Asked,
-  chance-of-reads.Learnt,
-  more-reads.Asked,
-  more-reads.Learnt,
-  behind-reads.Asked,
-  behind-reads.Learnt,
-) (decide-at t) decide.Post
-decide-more-requires-3 t c κs = search needs
+decide-moved-requires-3 t c κs = (omega (arith, c .before .before .before .before .before .before .before .before .before .before .before .before .set .ensures), omega (arith, c .before .before .before .before .before .before .before .before .before .before .if1 .left, c .before .before .if3 .left), omega (arith, c .before .before .before .before .before .before .before .before .before .if2 .left))
 
 decide-returns-4 : (t : ℕ) → decide-lts.Need-returns-4 (
   set-reads.Asked,
@@ -625,18 +537,16 @@ decide-returns-4 : (t : ℕ) → decide-lts.Need-returns-4 (
   none-reads.Learnt,
   gains-below t,
   gains.Post,
-  chance-of-reads.Asked,
-  chance-of-reads.Learnt,
-  more-reads.Asked,
-  more-reads.Learnt,
+  moved-reads.Asked,
+  moved-reads.Learnt,
   behind-reads.Asked,
   behind-reads.Learnt,
 ) (decide-at t) decide.Post
 decide-returns-4 t c =
-    let y = c .before .before .before .before .before .before .before .before .before .before .before .before .before .before .before .actions .ensures in
-    let one = summing.decide-more _ _ _ _ _ _ _ _ _ _ (c .before .before .before .before .before .before .before .before .before .before .before .none3 .result .of) (c .before .before .before .before .before .before .before .before .before .before .before .before .gains .result .of) (c .before .before .before .before .before .before .before .before .before .more .result .of) (c .before .before .before .before .before .before .before .before .before .before .before .before .before .before .before .before .set .ensures) (c .before .before .before .before .before .before .before .before .before .before .chance-of .ensures) (summing.decide-start _ _ _ _ _ (c .before .before .before .before .before .before .before .before .before .before .before .none3 .result .of) (c .before .before .before .before .before .before .before .before .before .before .before .none3 .ensures)) (omega (arith, y, c .before .before .before .before .before .before .before .before .before .before .before .before .before .before .if1 .left)) (c .before .before .before .before .before .before .before .before .before .before .before .before .gains .ensures) (c .before .before .before .before .before .before .before .before .behind .ensures) (c .before .before .before .before .before .before .before .before .before .more .ensures) in
-    let two = summing.decide-more _ _ _ _ _ _ _ _ _ _ (c .before .before .before .before .before .before .before .before .before .more .result .of) (c .before .before .before .before .before .before .before .gains2 .result .of) (c .before .before .before .before .before .more2 .result .of) (c .before .before .before .before .before .before .before .before .before .before .before .before .before .before .before .before .set .ensures) (c .before .before .before .before .before .before .chance-of2 .ensures) one (omega (arith, y, c .before .before .before .before .before .before .before .before .before .before .before .before .before .before .if1 .left)) (c .before .before .before .before .before .before .before .gains2 .ensures) (c .before .before .before .behind2 .ensures) (c .before .before .before .before .before .more2 .ensures) in
-    summing.decide-last _ _ _ _ _ _ _ _ _ (c .before .before .before .before .before .more2 .result .of) (c .before .before .gains3 .result .of) (c .more3 .result .of) (c .before .before .before .before .before .before .before .before .before .before .before .before .before .before .before .before .set .ensures) (c .before .chance-of3 .ensures) two (omega (arith, y, c .before .before .before .before .before .before .before .before .before .before .before .before .before .before .if1 .left, c .before .before .before .before .if3 .left)) (c .before .before .gains3 .ensures) (c .more3 .ensures)
+    let y = c .before .before .before .before .before .before .before .before .before .before .before .before .actions .ensures in
+    let one = both.decide-more _ _ _ _ _ _ _ _ _ (c .before .before .before .before .before .before .before .before .none3 .result) (c .before .before .before .before .before .before .before .before .before .gains .result) (c .before .before .before .before .before .before .before .moved .result) (c .before .before .before .before .before .before .before .before .before .before .before .before .before .set .ensures) (both.decide-start _ _ _ _ _ _ (c .before .before .before .before .before .before .before .before .none3 .result) (c .before .before .before .before .before .before .before .before .none3 .ensures)) (c .before .before .before .before .before .before .before .before .before .gains .ensures) (c .before .before .before .before .before .before .before .moved .ensures) _ (omega (arith, y, c .before .before .before .before .before .before .before .before .before .before .before .if1 .left)) (c .before .before .before .before .before .before .behind .ensures) in
+    let two = both.decide-more _ _ _ _ _ _ _ _ _ (c .before .before .before .before .before .before .before .moved .result) (c .before .before .before .before .before .gains2 .result) (c .before .before .before .before .moved2 .result) (c .before .before .before .before .before .before .before .before .before .before .before .before .before .set .ensures) one (c .before .before .before .before .before .gains2 .ensures) (c .before .before .before .before .moved2 .ensures) _ (omega (arith, y, c .before .before .before .before .before .before .before .before .before .before .before .if1 .left)) (c .before .before .behind2 .ensures) in
+    both.decide-last _ _ _ _ _ _ _ _ _ (c .before .before .before .before .moved2 .result) (c .before .gains3 .result) (c .moved3 .result) (c .before .before .before .before .before .before .before .before .before .before .before .before .before .set .ensures) two (c .before .gains3 .ensures) (c .moved3 .ensures) (omega (arith, y, c .before .before .before .before .before .before .before .before .before .before .before .if1 .left, c .before .before .before .if3 .left))
 
 gains-word-requires : (t : ℕ) → gains-lts.Need-word-requires (
   word-reads.Asked,
@@ -678,7 +588,7 @@ gains-paid-requires : (t : ℕ) → gains-lts.Need-paid-requires (
   unpaid-reads.Asked,
   unpaid-reads.Learnt,
 ) (gains-at t) gains.Post
-gains-paid-requires t c κs = search needs
+gains-paid-requires t c κs = c .before .before .before .before .before .pre .1 .seat
 
 gains-returns : (t : ℕ) → gains-lts.Need-returns (
   word-reads.Asked,
@@ -692,7 +602,7 @@ gains-returns : (t : ℕ) → gains-lts.Need-returns (
   unpaid-reads.Asked,
   unpaid-reads.Learnt,
 ) (gains-at t) gains.Post
-gains-returns t c = summing.gains-end _ _ _ _ (c .paid .result .of) _ (c .before .before .before .word .ensures) (sym (c .before .before .kind .ensures) ∙ c .before .if1 .taken) (c .paid .ensures)
+gains-returns t c = both.gains-end _ _ _ _ _ (c .paid .result) _ (c .before .before .before .word .ensures) (sym (c .before .before .kind .ensures) ∙ c .before .if1 .taken) (c .paid .ensures)
 
 gains-worths-requires : (t : ℕ) → gains-lts.Need-worths-requires (
   word-reads.Asked,
@@ -734,7 +644,7 @@ gains-returns-2 : (t : ℕ) → gains-lts.Need-returns-2 (
   unpaid-reads.Asked,
   unpaid-reads.Learnt,
 ) (gains-at t) gains.Post
-gains-returns-2 t c = summing.gains-other _ _ _ _ (c .unpaid .result .of) _ (c .before .before .before .before .word .ensures) (c .before .worths .result .of) (λ q. c .before .before .if1 .left (c .before .before .before .kind .ensures ∙ q)) (c .before .worths .ensures) (c .unpaid .ensures)
+gains-returns-2 t c = both.gains-other _ _ _ _ _ (c .unpaid .result) _ (c .before .before .before .before .word .ensures) (c .before .worths .result) (λ q. c .before .before .if1 .left (c .before .before .before .kind .ensures ∙ q)) (c .before .worths .ensures) (c .unpaid .ensures)
 
 worths-none-requires : (t : ℕ) → worths-lts.Need-none-requires (
   none-reads.Asked,
@@ -766,7 +676,7 @@ worths-returns : (t : ℕ) → worths-lts.Need-returns (
   decide-below t,
   decide.Post,
 ) (worths-at t) worths.Post
-worths-returns t c = summing.worths-shallow _ _ _ _ (c .none .result .of) (c .before .if1 .taken)
+worths-returns t c = both.worths-shallow _ _ _ _ _ (c .none .result) (c .before .if1 .taken)
 
 worths-word-requires : (t : ℕ) → worths-lts.Need-word-requires (
   none-reads.Asked,
@@ -830,7 +740,7 @@ worths-returns-2 : (t : ℕ) → worths-lts.Need-returns-2 (
   decide-below t,
   decide.Post,
 ) (worths-at t) worths.Post
-worths-returns-2 t c = summing.worths-end _ _ _ _ (c .none2 .result .of) _ (c .before .before .before .word .ensures) (sym (c .before .before .kind .ensures) ∙ c .before .if2 .taken) (c .none2 .ensures)
+worths-returns-2 t c = both.worths-end _ _ _ _ _ (c .none2 .result) _ (c .before .before .before .word .ensures) (sym (c .before .before .kind .ensures) ∙ c .before .if2 .taken) (c .none2 .ensures)
 
 worths-add-deal : (t : ℕ) → worths-lts.Need-add-deal (
   none-reads.Asked,
@@ -894,7 +804,7 @@ worths-deal-requires : (t : ℕ) → worths-lts.Need-deal-requires (
   decide-below t,
   decide.Post,
 ) (worths-at t) worths.Post
-worths-deal-requires t c κs = (omega (arith, c .before .before .before .before .before .before .before .before .pre .0, c .before .before .before .before .before .if1 .left), summing.walk-down _ _ (c .before .before .before .before .before .before .before .before .pre .1) (c .before .before .before .before .before .if1 .left))
+worths-deal-requires t c κs = (omega (arith, c .before .before .before .before .before .before .before .before .pre .0, c .before .before .before .before .before .if1 .left), both.walk-down _ _ _ (c .before .before .before .before .before .before .before .before .pre .1) (c .before .before .before .before .before .if1 .left))
 
 worths-returns-3 : (t : ℕ) → worths-lts.Need-returns-3 (
   none-reads.Asked,
@@ -910,7 +820,7 @@ worths-returns-3 : (t : ℕ) → worths-lts.Need-returns-3 (
   decide-below t,
   decide.Post,
 ) (worths-at t) worths.Post
-worths-returns-3 t c = summing.worths-chance _ _ _ _ (c .deal .result .of) _ (c .before .before .before .before .before .word .ensures) _ (sym (c .before .before .before .before .kind .ensures) ∙ c .before .before .if3 .taken) (c .before .next .ensures) (c .deal .ensures)
+worths-returns-3 t c = both.worths-chance _ _ _ _ _ (c .deal .result) _ (c .before .before .before .before .before .word .ensures) _ (sym (c .before .before .before .before .kind .ensures) ∙ c .before .before .if3 .taken) (c .before .next .ensures) (c .deal .ensures)
 
 worths-add-decide : (t : ℕ) → worths-lts.Need-add-decide (
   none-reads.Asked,
@@ -958,7 +868,7 @@ worths-decide-requires : (t : ℕ) → worths-lts.Need-decide-requires (
   decide-below t,
   decide.Post,
 ) (worths-at t) worths.Post
-worths-decide-requires t c κs = (omega (arith, c .before .before .before .before .before .before .before .pre .0, c .before .before .before .before .if1 .left), summing.walk-down _ _ (c .before .before .before .before .before .before .before .pre .1) (c .before .before .before .before .if1 .left))
+worths-decide-requires t c κs = (omega (arith, c .before .before .before .before .before .before .before .pre .0, c .before .before .before .before .if1 .left), both.walk-down _ _ _ (c .before .before .before .before .before .before .before .pre .1) (c .before .before .before .before .if1 .left))
 
 worths-returns-4 : (t : ℕ) → worths-lts.Need-returns-4 (
   none-reads.Asked,
@@ -974,7 +884,7 @@ worths-returns-4 : (t : ℕ) → worths-lts.Need-returns-4 (
   decide-below t,
   decide.Post,
 ) (worths-at t) worths.Post
-worths-returns-4 t c = summing.worths-decision _ _ _ _ (c .decide .result .of) _ (c .before .before .before .before .word .ensures) (λ q. c .before .before .if2 .left (c .before .before .before .kind .ensures ∙ q)) (λ q. c .before .if3 .left (c .before .before .before .kind .ensures ∙ q)) (c .decide .ensures)
+worths-returns-4 t c = both.worths-decision _ _ _ _ _ (c .decide .result) _ (c .before .before .before .before .word .ensures) (λ q. c .before .before .if2 .left (c .before .before .before .kind .ensures ∙ q)) (λ q. c .before .if3 .left (c .before .before .before .kind .ensures ∙ q)) (c .decide .ensures)
 
 pub +deal+decide+gains+worths-spec : {M : Type 1} → statement M
 +deal+decide+gains+worths-spec = close μ-deal μ-decide μ-gains μ-worths (λ t. deal-lts.spec (
@@ -1015,10 +925,8 @@ pub +deal+decide+gains+worths-spec : {M : Type 1} → statement M
       none-reads.Learnt,
       gains-below t,
       gains.Post,
-      chance-of-reads.Asked,
-      chance-of-reads.Learnt,
-      more-reads.Asked,
-      more-reads.Learnt,
+      moved-reads.Asked,
+      moved-reads.Learnt,
       behind-reads.Asked,
       behind-reads.Learnt,
     )
@@ -1033,17 +941,14 @@ pub +deal+decide+gains+worths-spec : {M : Type 1} → statement M
     (decide-returns-2 t)
     (decide-gains-requires t)
     (decide-none-requires-3 t)
-    (decide-chance-of-requires t)
-    (decide-more-requires t)
+    (decide-moved-requires t)
     (decide-behind-requires t)
     (decide-gains-requires-2 t)
-    (decide-chance-of-requires-2 t)
-    (decide-more-requires-2 t)
+    (decide-moved-requires-2 t)
     (decide-returns-3 t)
     (decide-behind-requires-2 t)
     (decide-gains-requires-3 t)
-    (decide-chance-of-requires-3 t)
-    (decide-more-requires-3 t)
+    (decide-moved-requires-3 t)
     (decide-returns-4 t))
     (λ t. gains-lts.spec (
       word-reads.Asked,

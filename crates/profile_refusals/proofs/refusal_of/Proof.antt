@@ -3,8 +3,8 @@ use mathlib.Core.Path.{sym, _∙_}
 use Rattle.tree_checks.specs.Checks.{tree-checks}
 use Rattle.tree_checks.proofs.Order.{first-refused, tree-known, tree-passed}
 use borrow.Author.Needs.{needs}
-use Rattle.best_response.proofs.refusal_of.Statement.{statement}
-use Rattle.best_response.proofs.refusal_of.Tie as tie
+use Rattle.profile_refusals.proofs.refusal_of.Statement.{statement}
+use Rattle.profile_refusals.proofs.refusal_of.Tie as tie
 
 tree-refusal-requires : tie.Need-tree-refusal-requires
 tree-refusal-requires c κs = search needs

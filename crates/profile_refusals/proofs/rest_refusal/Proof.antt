@@ -1,11 +1,11 @@
 use mathlib.Core.Path.{sym, ap, _∙_}
 use Rattle.refusals.specs.Refusals.{first}
-use Rattle.best_response.specs.Calls.{entry-checks}
-use Rattle.best_response.specs.Asked.{restOf}
-use Rattle.best_response.proofs.Checks.{seat-refused, seat-passed}
+use Rattle.profile_refusals.specs.Checks.{entry-checks}
+use Rattle.profile_refusals.specs.Asked.{restOf}
+use Rattle.profile_refusals.proofs.Checks.{seat-refused, seat-passed}
 use borrow.Author.Needs.{needs}
-use Rattle.best_response.proofs.rest_refusal.Statement.{statement}
-use Rattle.best_response.proofs.rest_refusal.Tie as tie
+use Rattle.profile_refusals.proofs.rest_refusal.Statement.{statement}
+use Rattle.profile_refusals.proofs.rest_refusal.Tie as tie
 
 enum-known-asked : tie.Need-enum-known-asked
 enum-known-asked c = search needs

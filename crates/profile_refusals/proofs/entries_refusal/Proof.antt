@@ -1,7 +1,6 @@
-use Rattle.best_response.proofs.Checks.{entries-refused, entries-passed}
-use borrow.Author.Needs.{needs}
-use Rattle.best_response.proofs.entries_refusal.Statement.{statement}
-use Rattle.best_response.proofs.entries_refusal.Tie as tie
+use Rattle.profile_refusals.proofs.Checks.{entries-refused, entries-passed}
+use Rattle.profile_refusals.proofs.entries_refusal.Statement.{statement}
+use Rattle.profile_refusals.proofs.entries_refusal.Tie as tie
 
 entries-requires : tie.Need-entries-requires
 entries-requires c κs = c .pre

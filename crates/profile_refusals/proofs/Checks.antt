@@ -1,14 +1,13 @@
 -- The checks of a call on a profile, refused and passed. Assumes nothing.
-use mathlib.Core.Path.{_≡_, refl, sym, ap, _∙_}
-use mathlib.Core.Bool.{Bool, true, false, not}
-use mathlib.Core.List.{List, [], _∷_, _++_}
-use Prim.Native.Nat.{ℕ, zero, suc, _≤_, _<_}
-use native.Mathlib.Omega.{arith}
+use mathlib.Core.Path.{_≡_, sym, ap, _∙_}
+use mathlib.Core.Bool.{false, not}
+use mathlib.Core.List.{List, [], _++_}
+use Prim.Native.Nat.{ℕ, _≤_, _<_}
 use lib.Dec.{eqb, leb}
 use lib.Ieee.{Float}
 use lib.ListN.{length}
 use borrow.Author.Tests.{eq-eqb, ne-eqb, eqb-true, le-leb, lt-leb, leb-false, not-false}
-use Rattle.refusals.specs.Refusals.{Check, _refuses_, first}
+use Rattle.refusals.specs.Refusals.{Check, first}
 use Rattle.refusals.proofs.Order.{refused, passed, fails-first, fails-rest}
 use Rattle.game.specs.Sets.{entries}
 use Rattle.tables.specs.declared.Game.{Game}
@@ -20,10 +19,10 @@ use Rattle.tables.proofs.Facts.{entries-are}
 use Rattle.tree_checks.proofs.Order.{tree-passed}
 use Rattle.whole.specs.Facts.{Known}
 use Rattle.whole.proofs.Passed.{game-known, tree-first}
-use Rattle.game_values.specs.Accepted.{Accepted}
-use Rattle.best_response.specs.Calls.{entry-checks}
-use Rattle.best_response.specs.Asked.{restOf, refusalOf, SeatOf}
-use Rattle.best_response.specs.declared.Asked.{Asked}
+use Rattle.profile_refusals.specs.Accepted.{Accepted}
+use Rattle.profile_refusals.specs.Checks.{entry-checks}
+use Rattle.profile_refusals.specs.Asked.{restOf, refusalOf, SeatOf}
+use Rattle.profile_refusals.specs.declared.Asked.{Asked}
 
 -- 7
 module _ (g : Game) (n m : ℕ) (o : seats-out g ≡ false) (q : m ≡ entriesOf g) where

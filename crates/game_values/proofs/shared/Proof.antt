@@ -4,8 +4,8 @@ use native.Mathlib.Omega.{arith}
 use lib.IntN.{pos}
 use lib.Ieee.{binary64, ofInt, div}
 use borrow.Author.Needs.{needs}
-use Rattle.best_response.proofs.shared.Statement.{statement}
-use Rattle.best_response.proofs.shared.Tie as tie
+use Rattle.game_values.proofs.shared.Statement.{statement}
+use Rattle.game_values.proofs.shared.Tie as tie
 
 cast-result : tie.Need-cast-result
 cast-result c = search needs
