@@ -1,4 +1,4 @@
--- The same for two seats at a time, and the places that a walk goes to. Assumes nothing.
+-- What a tree is worth to two seats, from what its children are, and the places that a walk goes to. Assumes nothing.
 use mathlib.Core.Path.{_≡_, refl}
 use mathlib.Core.List.{List}
 use Prim.Native.Nat.{ℕ, _+_, _-_, _≤_, _<_}
