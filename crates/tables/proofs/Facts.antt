@@ -25,7 +25,8 @@ use Rattle.leduc_betting.specs.Betting.{ends-with, folded, closes, behind, rais
 use Rattle.leduc_betting.specs.Cards.{left, remaining}
 use Rattle.leduc_rules.specs.Rules.{public-due, due}
 use Rattle.leduc_tree.specs.Turns.{joined, turns, isFirst, firstOnes, firstTurns, actionsInOrder}
-use Rattle.leduc_tree.proofs.Facts.{counts, actions-in-order}
+use Rattle.leduc_tree.proofs.Facts.{actions-in-order}
+use Rattle.leduc_facts.proofs.Facts.{counts}
 use Rattle.leduc_facts.proofs.Facts as LeducFacts
 use Rattle.tables.specs.Games.{treeOf, C, m, mostParts}
 use Rattle.tables.specs.Checks.{seats-out}
