@@ -1,7 +1,7 @@
 -- Tests of a whole tree that can be computed, each with what it says. Nothing is assumed.
-use mathlib.Core.Path.{_≡_, refl, ap, ap₂, _∙_}
+use mathlib.Core.Path.{_≡_, refl, ap₂}
 use mathlib.Core.Bool.{Bool, true, false, cond}
-use mathlib.Core.List.{List, [], _∷_}
+use mathlib.Core.List.{[], _∷_}
 use Prim.Native.Nat.{ℕ, suc, pred, _*_, _/_}
 use lib.Dec.{eqb, ltb}
 use borrow.Author.Tests.{ltb-true}
@@ -10,7 +10,7 @@ use Rattle.finite.proofs.Tests.{and-left, and-right}
 use Rattle.game.specs.Tree.{Key, Tree, end, chance, decide, Trees, nil, cons, fan, Splits, SplitsAll, Every, EveryAll}
 use Rattle.game.specs.Reply.{same}
 use Rattle.game.specs.Recall.{Path, moved, Recall, RecallAll, RecallKids}
-use Rattle.game.specs.Sets.{Decision, height, Heights, HeightsAll, Levels, LevelsAll}
+use Rattle.game.specs.Sets.{height, Heights, HeightsAll, Levels, LevelsAll}
 use Rattle.game.proofs.Tests.{T-of, same→eq, eqb-is, eqb-self}
 use Rattle.game.proofs.Sets.{clash}
 
@@ -172,24 +172,3 @@ module _ (i : ℕ) (H : Key → Path) (n : Key → ℕ) where
     recall-kids-sound : (b : Bool) (π : Path) (k : Key) (a : ℕ) (f : Trees) → recallKids b π k a f ≡ true → RecallKids i H n b π k a f
     recall-kids-sound b π k a nil e = tt
     recall-kids-sound b π k a (cons t f) e = (recall-sound (moved b k a π) t (and-left _ _ e), recall-kids-sound b π k (suc a) f (and-right _ _ e))
-
--- ---- two lists of decisions are the same
-unfoldable pub alike : List Decision → List Decision → Bool
-unfolding same
-alike [] [] = true
-alike [] (y ∷ ys) = false
-alike (x ∷ xs) [] = false
-alike (x ∷ xs) (y ∷ ys) = and (and (eqb (x .0) (y .0)) (and (same (x .1) (y .1)) (eqb (x .2) (y .2)))) (alike xs ys)
-
-pub alike-sound : (xs ys : List Decision) → alike xs ys ≡ true → xs ≡ ys
-unfolding alike
-alike-sound [] [] e = refl
-alike-sound [] (y ∷ ys) e = absurd (clash false e refl)
-alike-sound (x ∷ xs) [] e = absurd (clash false e refl)
-alike-sound (x ∷ xs) (y ∷ ys) e = ap₂ _∷_ (one (and-left _ _ e)) (alike-sound xs ys (and-right _ _ e))
-  where
-    one : and (eqb (x .0) (y .0)) (and (same (x .1) (y .1)) (eqb (x .2) (y .2))) ≡ true → x ≡ y
-    one d =
-        let c = and-right _ _ d in
-        ap (λ j. (j, x .1, x .2)) (eqb-is _ _ (and-left _ _ d))
-        ∙ ap₂ (λ k n. (y .0, k, n)) (same→eq _ _ (T-of (and-left _ _ c))) (eqb-is _ _ (and-right _ _ c))

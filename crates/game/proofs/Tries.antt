@@ -1,12 +1,11 @@
--- The sets of a tree by a store of keys that is fast to search, so that they can be computed. Nothing is assumed.
-use mathlib.Core.Path.{_≡_, refl, sym, ap, ap₂, _∙_}
+-- A store of keys that is fast to search, so that the sets of a tree can be computed. Nothing is assumed.
+use mathlib.Core.Path.{_≡_, refl, sym, ap, _∙_}
 use mathlib.Core.Bool.{Bool, true, false, cond}
-use mathlib.Core.List.{List, [], _∷_}
+use mathlib.Core.List.{[], _∷_}
 use Prim.Native.Nat.{ℕ}
 use lib.Dec.{eqb}
-use Rattle.game.specs.Tree.{Key, Tree}
+use Rattle.game.specs.Tree.{Key}
 use Rattle.game.specs.Reply.{same}
-use Rattle.game.specs.Sets.{Decision, decisions, isOf, met, firsts, sets}
 use Rattle.game.proofs.Tests.{Tested, is, isn't, tested, eqb-is, eqb-isn't, eqb-no, eqb-self}
 
 -- ---- keys by their first numbers
@@ -81,24 +80,3 @@ finds-add (branch b d s) (a ∷ l) (c ∷ k) = at (tested (eqb a b)) (tested (eq
     at (is e) (isn't f) h g = rw (e, f) (ap (λ x. cond x true (finds s (c ∷ k))) (sym (other-head a c l k (λ q. eqb-isn't c b f (sym q ∙ eqb-is a b e)))))
     at (isn't e) (is f) h g = rw (e, f) (ap (λ x. cond x true (finds d k)) (sym (other-head a c l k (λ q. eqb-isn't a b e (q ∙ eqb-is c b f)))))
     at (isn't e) (isn't f) h g = rw (e, f) g
-
--- ---- the decisions that are first of their set, those in the store being met
-unfoldable pub firstsOf : Trie → List Decision → List Decision
-unfolding finds add
-firstsOf t [] = []
-firstsOf t (x ∷ xs) = let r : List Decision = firstsOf (add t (x .0 ∷ x .1)) xs in cond (finds t (x .0 ∷ x .1)) r (x ∷ r)
-
-firsts-of : (t : Trie) (front xs : List Decision) → ((j : ℕ) (k : Key) → finds t (j ∷ k) ≡ met j k front) → firstsOf t xs ≡ firsts front xs
-unfolding firstsOf firsts met isOf same
-firsts-of t front [] h = refl
-firsts-of t front (x ∷ xs) h = ap₂ (λ b r. cond b r (x ∷ r)) (h (x .0) (x .1))
-    (firsts-of (add t (x .0 ∷ x .1)) (x ∷ front) xs (λ j k. finds-add t (x .0 ∷ x .1) (j ∷ k) ∙ ap (λ b. cond (isOf j k x) true b) (h j k)))
-
--- the sets of a tree, computed
-unfoldable pub setsOf : Tree → List Decision
-unfolding firstsOf decisions
-setsOf t = firstsOf none (decisions t)
-
-pub sets-of : (t : Tree) → sets t ≡ setsOf t
-unfolding sets setsOf met finds
-sets-of t = sym (firsts-of none [] (decisions t) (λ j k. refl))

@@ -1,4 +1,4 @@
--- What is computed over the whole of Leduc's tree of its fans and keys, for any stakes: the payoffs are not looked at. Assumes nothing.
+-- What is computed over the whole of Leduc's tree, for any stakes: the payoffs are not looked at. Assumes nothing.
 use mathlib.Core.Path.{_≡_, refl}
 use mathlib.Core.Bool.{Bool, true}
 use mathlib.Core.List.{[]}
@@ -10,13 +10,15 @@ use Rattle.finite.specs.Finite.{and, or, some, those, has}
 use Rattle.finite.proofs.Tests.{and-left, and-right}
 use Rattle.game.specs.Tree.{Key, Tree, Splits, Every}
 use Rattle.game.specs.Recall.{Recall}
-use Rattle.game.specs.Sets.{Heights, Levels}
+use Rattle.game.specs.Sets.{size, Heights, Levels}
 use Rattle.game.proofs.Checked.{splits, splits-sound, every, every-sound, heights, heights-sound, levels, levels-sound, recall, recall-sound}
 use Rattle.leduc_betting.specs.Betting.{ends-with, folded, closes, behind, raises, may, options, in-play, turn, ended}
 use Rattle.leduc_betting.specs.Cards.{left, remaining}
 use Rattle.leduc_rules.specs.Rules.{public-due, due, key}
 use Rattle.leduc_tree.specs.Tree.{next, each, below, leducTree, C, m}
+use Rattle.leduc_facts.specs.Shape.{withCards, hand}
 use Rattle.leduc_facts.proofs.Keys.{actionsOf, depthOf, levelOf, past}
+use Rattle.leduc_facts.proofs.Shape.{shaped, hands-fit}
 
 -- the key tells who acts and with how many actions, and those are two or three
 unfoldable keyed : ℕ → Key → ℕ → Bool
@@ -30,22 +32,30 @@ regular t = and (and (splits C m t) (every keyed t)) (and (heights (λ j k. dept
 unfoldable recalled : Tree → Bool
 recalled t = and (recall 0 past actionsOf [] t) (recall 1 past actionsOf [] t)
 
--- both, so that the tree is worked out once
-unfoldable checked : Tree → Bool
-checked t = and (regular t) (recalled t)
+-- all of it, so that the tree is worked out once: the nodes too, and that the hands of t have the shape of u
+unfoldable checked : Tree → Tree → Bool
+checked u t = and (eqb (size t) 9457) (and (hands-fit u t) (and (regular t) (recalled t)))
 
 module _ (ante raise₁ raise₂ : ℕ) where
-  is-checked : checked (leducTree ante raise₁ raise₂) ≡ true
-  unfolding checked regular keyed recalled splits every heights levels recall actionsOf depthOf levelOf past leducTree below next each and or some those has ends-with folded closes behind raises may options in-play turn ended left remaining public-due due key
+  is-checked : checked (hand ante raise₁ raise₂ (withCards 0 1)) (leducTree ante raise₁ raise₂) ≡ true
+  unfolding checked size hands-fit shaped hand regular keyed recalled splits every heights levels recall actionsOf depthOf levelOf past leducTree below next each and or some those has ends-with folded closes behind raises may options in-play turn ended left remaining public-due due key
   is-checked = refl
+
+  pub node-count : size (leducTree ante raise₁ raise₂) ≡ 9457
+  unfolding checked
+  node-count = eqb-true _ _ (and-left _ _ is-checked)
+
+  pub hands-alike : hands-fit (hand ante raise₁ raise₂ (withCards 0 1)) (leducTree ante raise₁ raise₂) ≡ true
+  unfolding checked
+  hands-alike = and-left _ _ (and-right _ _ is-checked)
 
   is-regular : regular (leducTree ante raise₁ raise₂) ≡ true
   unfolding checked
-  is-regular = and-left _ _ is-checked
+  is-regular = and-left _ _ (and-right _ _ (and-right _ _ is-checked))
 
   is-recalled : recalled (leducTree ante raise₁ raise₂) ≡ true
   unfolding checked
-  is-recalled = and-right _ _ is-checked
+  is-recalled = and-right _ _ (and-right _ _ (and-right _ _ is-checked))
 
   pub splitting : Splits C m (leducTree ante raise₁ raise₂)
   unfolding regular

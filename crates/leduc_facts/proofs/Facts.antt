@@ -4,10 +4,15 @@ use native.Mathlib.Omega.{arith}
 use lib.ListN.{getD}
 use Rattle.game.proofs.TableTheorem.{reply-table-rival, reply-table-worth, no-rival-table-better}
 use Rattle.leduc_tree.specs.Tree.{leducTree, C, m}
-use Rattle.leduc_facts.specs.Facts.{units, SeatByKey, ActionsByKey, DepthByKey, LevelsByKey, TwoOrThreeActions, Recalls, FansDivide, PayoffsBounded, ReplyBest}
+use Rattle.leduc_tree.proofs.Computed.{set-count, entry-count}
+use Rattle.leduc_facts.specs.Facts.{Counts, units, SeatByKey, ActionsByKey, DepthByKey, LevelsByKey, TwoOrThreeActions, Recalls, FansDivide, PayoffsBounded, ReplyBest, DealsFirst, OneShape}
 use Rattle.leduc_facts.proofs.Keys.{actionsOf, depthOf, levelOf, past}
-use Rattle.leduc_facts.proofs.Computed.{splitting, seats, actions, depths, leveling, few-actions, first-recalls, second-recalls}
+use Rattle.leduc_facts.proofs.Computed.{node-count, splitting, seats, actions, depths, leveling, few-actions, first-recalls, second-recalls}
 use Rattle.leduc_facts.proofs.Payoffs.{leduc-pays}
+use Rattle.leduc_facts.proofs.Hands as Hands
+
+pub counts : Counts
+counts ante raise₁ raise₂ = (node-count ante raise₁ raise₂, set-count ante raise₁ raise₂, entry-count ante raise₁ raise₂)
 
 pub seat-by-key : SeatByKey
 seat-by-key ante raise₁ raise₂ = ((λ k. getD k 0 0), seats ante raise₁ raise₂)
@@ -41,3 +46,9 @@ reply-best ante raise₁ raise₂ D i table l d v = (
   reply-table-worth (leducTree ante raise₁ raise₂) C m D i table d (fans-divide ante raise₁ raise₂) (actions-by-key ante raise₁ raise₂),
   λ z w. no-rival-table-better (leducTree ante raise₁ raise₂) C m D i table z d (fans-divide ante raise₁ raise₂) (recalls ante raise₁ raise₂ i l) (actions-by-key ante raise₁ raise₂) w,
 )
+
+pub deals-first : DealsFirst
+deals-first ante raise₁ raise₂ = Hands.deals-first ante raise₁ raise₂
+
+pub one-shape : OneShape
+one-shape ante raise₁ raise₂ c d e w = Hands.one-shape ante raise₁ raise₂ c d e w

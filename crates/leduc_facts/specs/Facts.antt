@@ -1,15 +1,26 @@
--- What the reply theorem asks of Leduc's tree, and what it says, statement by statement (document 01, "The tree and its sets" and "Whole units"). Each is proved in proofs/Facts.antt, which
--- assumes nothing. Throughout: any ante and raises; table a table with D parts in each set, i a seat, z a rival table.
+-- The counts of Leduc's tree, what the reply theorem asks of it, and what it says, statement by statement (document 01, "The tree and its sets" and "Whole units"). Each is proved in
+-- proofs/Facts.antt, which assumes nothing. Throughout: any ante and raises; table a table with D parts in each set, i a seat, z a rival table.
 use mathlib.Core.Path.{_≡_}
+use mathlib.Core.Bool.{true}
+use mathlib.Core.List.{[], _∷_}
 use Prim.Native.Nat.{ℕ, _≤_, _<_}
 use lib.Signed.{_≤ℤ_}
-use Rattle.game.specs.Tree.{Key, Tree, U, Splits, Pays, Every}
+use Rattle.game.specs.Tree.{Key, Tree, U, chance, Splits, Pays, Every}
 use Rattle.game.specs.Recall.{PerfectRecall}
-use Rattle.game.specs.Sets.{SameActions, SameHeights, Levels}
+use Rattle.game.specs.Sets.{size, setCount, entries, SameActions, SameHeights, Levels}
 use Rattle.game.specs.Table.{Table, ValidTable, RivalTable, tableWorth, tableBest, replyTable}
-use Rattle.leduc_tree.specs.Tree.{leducTree, C, m, largestPayoff}
+use Rattle.leduc_betting.specs.Cards.{left}
+use Rattle.leduc_tree.specs.Tree.{start, afterDeal, each, leducTree, C, m, largestPayoff}
+use Rattle.leduc_facts.specs.Shape.{bare, withCards, hand}
 
--- 1. Nodes with equal keys have the same seat, the same number of actions, the same remaining depth.
+-- 1. Document 01's table of counts, Leduc's row: nodes, sets, entries.
+abbrev pub Row : Tree → ℕ → ℕ → ℕ → Type 0
+Row t a b c = (size t ≡ a) × (setCount t ≡ b) × (entries t ≡ c)
+
+abbrev pub Counts : Type 0
+Counts = (ante raise₁ raise₂ : ℕ) → Row (leducTree ante raise₁ raise₂) 9457 936 2184
+
+-- 2. Nodes with equal keys have the same seat, the same number of actions, the same remaining depth.
 abbrev pub SeatByKey : Type 0
 SeatByKey = (ante raise₁ raise₂ : ℕ) → (seat : Key → ℕ) × Every (λ j k n. j ≡ seat k) (leducTree ante raise₁ raise₂)
 
@@ -27,7 +38,7 @@ LevelsByKey = (ante raise₁ raise₂ : ℕ) → (v : ℕ → Key → ℕ) × Le
 abbrev pub TwoOrThreeActions : Type 0
 TwoOrThreeActions = (ante raise₁ raise₂ : ℕ) → Every (λ j k n. (2 ≤ n) × (n ≤ 3)) (leducTree ante raise₁ raise₂)
 
--- 2. Both seats have perfect recall.
+-- 3. Both seats have perfect recall.
 abbrev pub Recalls : Type 0
 Recalls = (ante raise₁ raise₂ i : ℕ) → i < 2 → PerfectRecall i (leducTree ante raise₁ raise₂)
 
@@ -39,7 +50,7 @@ FansDivide = (ante raise₁ raise₂ : ℕ) → Splits C m (leducTree ante raise
 abbrev pub PayoffsBounded : Type 0
 PayoffsBounded = (ante raise₁ raise₂ i : ℕ) → Pays (largestPayoff ante raise₁ raise₂) i (leducTree ante raise₁ raise₂)
 
--- 3. The reply to a valid table is a rival table, its worth is the best value, and no rival table is worth more.
+-- 4. The reply to a valid table is a rival table, its worth is the best value, and no rival table is worth more.
 abbrev pub units : ℕ → ℕ
 units D = U C D m
 
@@ -51,3 +62,13 @@ BestReply t D i table = RivalTable t D i table (replyTable t D (units D) table i
 abbrev pub ReplyBest : Type 0
 ReplyBest = (ante raise₁ raise₂ D i : ℕ) (table : Table) → i < 2 → 0 < D → ValidTable (leducTree ante raise₁ raise₂) D table
     → BestReply (leducTree ante raise₁ raise₂) D i table
+
+-- 5. The tree is the deal of a card to each seat, and below each deal a hand.
+abbrev pub DealsFirst : Type 0
+DealsFirst = (ante raise₁ raise₂ : ℕ)
+    → leducTree ante raise₁ raise₂ ≡ chance (each (afterDeal start) (λ s. chance (each (afterDeal s) (hand ante raise₁ raise₂))))
+
+-- The betting shape below every deal is the same, with 315 nodes.
+abbrev pub OneShape : Type 0
+OneShape = (ante raise₁ raise₂ c d : ℕ) → left [] c ≡ true → left (c ∷ []) d ≡ true
+    → (bare (hand ante raise₁ raise₂ (withCards c d)) ≡ bare (hand ante raise₁ raise₂ (withCards 0 1))) × (size (hand ante raise₁ raise₂ (withCards c d)) ≡ 315)

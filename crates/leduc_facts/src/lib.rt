@@ -1,1 +1,1 @@
-// What the reply theorem asks of Leduc's tree, and the best reply: facts, no code.
+// The counts of Leduc's tree, what the reply theorem asks of it, and the best reply: facts, no code.

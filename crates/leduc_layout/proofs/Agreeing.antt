@@ -22,7 +22,7 @@ use Rattle.leduc_betting.specs.Cards.{left, remaining}
 use Rattle.leduc_rules.specs.Rules.{public-due, due, key, matched, bet, seated, after-round, contribution, folds, pairs, beats, wins, payoff}
 use Rattle.leduc_rules.specs.Stakes.{ante, raise₁, raise₂}
 use Rattle.leduc_tree.specs.Tree.{next, each, below, leducTree}
-use Rattle.leduc_tree.proofs.Facts.{counts}
+use Rattle.leduc_facts.proofs.Facts.{counts}
 use Rattle.leduc_layout.specs.Codes.{numberFrom, codeFrom, codeOf, codes}
 use Rattle.leduc_layout.specs.Layout.{plain, byteFor, endTree, raisedTree, calledTree, roundTree, only, rowTo, showdownFor, secondTree, publicTree, firstTree, dealTree, dealsTree}
 

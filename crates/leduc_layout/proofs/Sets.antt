@@ -13,7 +13,7 @@ use Rattle.arena.specs.Held.{Held}
 use Rattle.arena.specs.Index.{unlinked, Codes, Coded}
 use Rattle.leduc_rules.specs.Stakes.{ante, raise₁, raise₂}
 use Rattle.leduc_tree.specs.Tree.{leducTree}
-use Rattle.leduc_tree.proofs.Facts.{counts}
+use Rattle.leduc_facts.proofs.Facts.{counts}
 use Rattle.leduc_layout.specs.Codes.{codeOf, codes}
 use Rattle.leduc_layout.proofs.Agreeing.{keyOf, told, Told, leduc-told}
 

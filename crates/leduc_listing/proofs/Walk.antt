@@ -80,5 +80,5 @@ pub walked : leducListing ≡ recordsOf (turns fuel (next start) start)
 unfolding leducListing listing leducTree
 walked = listed-by-walk isFirst B tree (positions tree start) (map mark (turns fuel (next start) start)) start
     (below-marked (payoff ante raise₁ raise₂) fuel (next start) start (case start))
-    (tells-marked [] (turns fuel (next start) start) (turns-told ante raise₁ raise₂))
+    (tells-marked [] (turns fuel (next start) start) turns-told)
     ∙ kept-records (turns fuel (next start) start)

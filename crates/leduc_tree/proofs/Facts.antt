@@ -4,19 +4,15 @@ use mathlib.Core.List.{List, [], _∷_, map}
 use lib.ListN.{length}
 use Rattle.leduc_tree.specs.Tree.{Position, choices}
 use Rattle.leduc_tree.specs.Turns.{firstTurns, decisionAt, actionsInOrder}
-use Rattle.leduc_tree.specs.Facts.{FollowsRules, FuelEnough, Counts, FirstOfSet, ActionsInOrder, DealsFirst, OneShape}
+use Rattle.leduc_tree.specs.Facts.{FollowsRules, FuelEnough, FirstOfSet, ActionsInOrder}
 use Rattle.leduc_tree.proofs.Growth.{leduc-follows, leduc-fuel}
 use Rattle.leduc_tree.proofs.Computed as Computed
-use Rattle.leduc_tree.proofs.Hands as Hands
 
 pub follows-rules : FollowsRules
 follows-rules ante raise₁ raise₂ = leduc-follows ante raise₁ raise₂
 
 pub fuel-enough : FuelEnough
 fuel-enough ante raise₁ raise₂ x = leduc-fuel ante raise₁ raise₂ x
-
-pub counts : Counts
-counts ante raise₁ raise₂ = Computed.counts ante raise₁ raise₂
 
 pub first-of-set : FirstOfSet
 first-of-set ante raise₁ raise₂ = Computed.first-of-set ante raise₁ raise₂
@@ -28,9 +24,3 @@ actions-of (q ∷ qs) = ap (λ l. length (choices q) ∷ l) (actions-of qs)
 pub actions-in-order : ActionsInOrder
 unfolding actionsInOrder
 actions-in-order ante raise₁ raise₂ = ap (map (λ x. x .2)) (first-of-set ante raise₁ raise₂) ∙ actions-of firstTurns
-
-pub deals-first : DealsFirst
-deals-first ante raise₁ raise₂ = Hands.deals-first ante raise₁ raise₂
-
-pub one-shape : OneShape
-one-shape ante raise₁ raise₂ c d e w = Hands.one-shape ante raise₁ raise₂ c d e w

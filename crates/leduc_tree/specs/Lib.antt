@@ -2,5 +2,4 @@
 pub mod Tree
 pub mod Follows
 pub mod Turns
-pub mod Shape
 pub mod Facts

@@ -19,7 +19,7 @@ use Rattle.leduc_rules.specs.Stakes.{ante, raise₁, raise₂}
 use Rattle.kuhn_tree.specs.Tree.{kuhnTree}
 use Rattle.kuhn_tree.specs.Counts.{dealNodes, kuhnNodes}
 use Rattle.leduc_tree.specs.Tree.{leducTree}
-use Rattle.leduc_tree.proofs.Facts as Leduc-facts
+use Rattle.leduc_facts.proofs.Facts as Leduc-facts
 use Rattle.kuhn_layout.specs.Layout.{codeCount}
 use Rattle.leduc_layout.specs.Codes.{codeOf}
 use Rattle.leduc_layout.proofs.Sets.{leduc-coded}

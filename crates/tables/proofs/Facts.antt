@@ -21,7 +21,7 @@ use Rattle.kuhn_tree.proofs.Facts as KuhnFacts
 use Rattle.kuhn_tree.proofs.Facts.{counted}
 use Rattle.kuhn_tree.proofs.Units.{kuhn-every}
 use Rattle.leduc_tree.specs.Tree.{leducTree}
-use Rattle.leduc_tree.proofs.Facts.{counts}
+use Rattle.leduc_facts.proofs.Facts.{counts}
 use Rattle.leduc_facts.proofs.Facts as LeducFacts
 use Rattle.leduc_actions.specs.Actions.{leducActions}
 use Rattle.leduc_actions.proofs.Facts.{leduc-set-actions}

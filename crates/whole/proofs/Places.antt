@@ -11,7 +11,7 @@ use Rattle.game.specs.Tree.{Tree, end, chance, decide}
 use Rattle.kuhn_tree.specs.Counts.{dealNodes, kuhnNodes, kuhnEntries, kuhnSets}
 use Rattle.kuhn_tree.proofs.Shape.{deals, kuhn-deals}
 use Rattle.kuhn_layout.specs.Layout.{codeCount}
-use Rattle.leduc_tree.proofs.Facts as Leduc-facts
+use Rattle.leduc_facts.proofs.Facts as Leduc-facts
 use Rattle.tables.specs.declared.Game.{Game}
 use Rattle.tables.specs.Games.{treeOf}
 use Rattle.tables.specs.Facts.{nodesOf, entriesOf, setsOf}

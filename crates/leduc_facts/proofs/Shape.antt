@@ -8,7 +8,7 @@ use Rattle.finite.specs.Finite.{and}
 use Rattle.finite.proofs.Tests.{true≢false, and-left, and-right}
 use Rattle.game.specs.Tree.{Tree, end, chance, decide, Trees, nil, cons}
 use Rattle.game.specs.Sets.{size}
-use Rattle.leduc_tree.specs.Shape.{bare, bareAll}
+use Rattle.leduc_facts.specs.Shape.{bare, bareAll}
 
 -- ---- two trees have the same shape
 unfoldable mutual

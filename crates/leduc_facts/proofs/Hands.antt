@@ -14,10 +14,10 @@ use Rattle.game.proofs.Counting.{In}
 use Rattle.game.proofs.Numbers.{those-in}
 use Rattle.leduc_betting.specs.Cards.{left, remaining}
 use Rattle.leduc_rules.specs.Rules.{due}
 use Rattle.leduc_tree.specs.Tree.{Position, start, dealt, payoff, afterDeal, next, each, below, m, leducTree}
-use Rattle.leduc_tree.specs.Shape.{bare, withCards, hand}
-use Rattle.leduc_tree.proofs.Shape.{fits, fits-sound, every-tree, children, hands-fit}
-use Rattle.leduc_tree.proofs.Computed.{hands-alike}
+use Rattle.leduc_facts.specs.Shape.{bare, withCards, hand}
+use Rattle.leduc_facts.proofs.Shape.{fits, fits-sound, every-tree, children, hands-fit}
+use Rattle.leduc_facts.proofs.Computed.{hands-alike}
 
 -- what holds of every child holds behind each move
 each-holds : (p : Tree → Bool) (l : List ℕ) (move : ℕ → Position) (g : Position → Tree) → every-tree p (each (map move l) g) ≡ true → (c : ℕ) → In c l → p (g (move c)) ≡ true
