@@ -1,4 +1,4 @@
--- What the best reply of a seat is (the mission's third demand; document 01, "Whole units").
+-- What the best reply of a seat is (demand 3; document 01, "Whole units").
 use mathlib.Core.Path.{_≡_}
 use Prim.Native.Nat.{ℕ}
 use lib.IntN.{ℤ}

@@ -1,4 +1,4 @@
--- What the call for a seat's best value and reply answers (document 01, "Whole units"), and the mission's third demand of it.
+-- What the call for a seat's best value and reply answers (document 01, "Whole units"), and demand 3 of it.
 use mathlib.Core.List.{List, _++_}
 use Prim.Native.Nat.{ℕ, zero, suc}
 use lib.IntN.{ℤ, pos}

@@ -91,8 +91,8 @@ impl LeducPoker {
             };
         }
         let legal = legal_list(state, agent);
-        let n = legal.count;
-        if out.len() < n {
+        let count = legal.count;
+        if out.len() < count {
             return Written {
                 refusal: refusals::OUTPUT,
                 state,
@@ -100,11 +100,11 @@ impl LeducPoker {
             };
         }
         let actions = legal.actions;
-        write_at(out, 0, &actions[..n]);
+        write_at(out, 0, &actions[..count]);
         Written {
             refusal: refusals::ACCEPTED,
             state,
-            count: n,
+            count,
         }
     }
 
@@ -179,8 +179,8 @@ impl LeducPoker {
                 count: 0,
             };
         }
-        let n = 5 + state.acted1 + state.acted2;
-        if out.len() < n {
+        let bytes = 5 + state.acted1 + state.acted2;
+        if out.len() < bytes {
             return Written {
                 refusal: refusals::OUTPUT,
                 state,
@@ -191,7 +191,7 @@ impl LeducPoker {
         Written {
             refusal: refusals::ACCEPTED,
             state,
-            count: n,
+            count: bytes,
         }
     }
 

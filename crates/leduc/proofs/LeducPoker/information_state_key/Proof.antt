@@ -25,11 +25,11 @@ returns-2 c =
     let e = key-unfit (c .before .before .before .before .before .args .state) r (c .before .before .before .before .before .args .agent) (length (c .before .before .before .before .before .args .out .now)) (omega arith) in
     (rw e, rw e)
 
-add-n : tie.Need-add-n
-add-n c = omega (arith, reachable-short (c .before .before .before .before .before .before .args .state) (sym (c .before .before .before .before .is-reachable .ensures) ∙ not-false _ (c .before .before .before .if1 .left)) .first-short)
+add-bytes : tie.Need-add-bytes
+add-bytes c = omega (arith, reachable-short (c .before .before .before .before .before .before .args .state) (sym (c .before .before .before .before .is-reachable .ensures) ∙ not-false _ (c .before .before .before .if1 .left)) .first-short)
 
-add-n-2 : tie.Need-add-n-2
-add-n-2 c =
+add-bytes-2 : tie.Need-add-bytes-2
+add-bytes-2 c =
     let w = reachable-short (c .before .before .before .before .before .before .before .args .state) (sym (c .before .before .before .before .before .is-reachable .ensures) ∙ not-false _ (c .before .before .before .before .if1 .left)) in
     omega (arith, w .first-short, w .second-short)
 
@@ -64,8 +64,8 @@ information-state-key-spec =
     is-reachable-requires
     returns
     returns-2
-    add-n
-    add-n-2
+    add-bytes
+    add-bytes-2
     returns-3
     write-key-requires
     same-length
