@@ -6,7 +6,7 @@ use native.Mathlib.Omega.{arith}
 use lib.IntN.{pos}
 use lib.ListN.{length}
 use Rattle.finite.specs.Finite as Finite
-use Rattle.finite.specs.Finite.{and, or, some, every, those, has}
+use Rattle.finite.specs.Finite.{and, or, some, every, those, has, places}
 use Rattle.game.specs.Sums.{_·_, sum, sumℕ}
 use Rattle.game.specs.Reply.{best, value, withKey, highest}
 use Rattle.game.specs.Sets.{sets, setActions, entriesOf, entries, before}
@@ -21,7 +21,7 @@ use Rattle.leduc_tree.specs.Tree as Leduc
 use Rattle.leduc_tree.specs.Turns.{joined, turns, isFirst, firstOnes, firstTurns}
 use Rattle.tables.specs.Games.{treeOf}
 use Rattle.tables.specs.Facts.{rootUnits}
-use Rattle.leduc_actions.specs.Actions.{leducActions}
+use Rattle.leduc_actions.specs.Actions.{threes, actionsAt, leducActions}
 use Rattle.tables.specs.Actions.{actionsOf}
 use Rattle.tables.specs.declared.Game.{Game}
 use Rattle.tables.proofs.Facts.{counted-games, actions-listed, reply-best}
@@ -67,7 +67,7 @@ unfolding calls callsAt firstTurns firstOnes isFirst turns joined Leduc.next and
 calls-length = refl
 
 calls-add-up : addUp 1 leducActions calls ≡ true
-unfolding addUp leducActions calls callsAt firstTurns firstOnes isFirst turns joined Leduc.next and or some those has Betting.ends-with Betting.folded Betting.closes Betting.behind Betting.raises Betting.may Betting.options Betting.in-play Betting.turn Betting.ended Cards.left Cards.remaining Rules.public-due Rules.due
+unfolding addUp leducActions actionsAt threes places calls callsAt firstTurns firstOnes isFirst turns joined Leduc.next and or some those has Betting.ends-with Betting.folded Betting.closes Betting.behind Betting.raises Betting.may Betting.options Betting.in-play Betting.turn Betting.ended Cards.left Cards.remaining Rules.public-due Rules.due
 calls-add-up = refl
 
 leduc-actions : setActions (treeOf leduc) ≡ leducActions

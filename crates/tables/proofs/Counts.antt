@@ -8,10 +8,10 @@ use native.Mathlib.Omega.{arith}
 use lib.Dec.{ltb}
 use borrow.Author.Tests.{eq-eqb, ne-eqb, ltb-false}
 use lib.ListN.{length, getD, take, replicate, length-replicate, getD-replicate}
-use Rattle.finite.specs.Finite.{or}
+use Rattle.finite.specs.Finite.{or, places}
 use Rattle.finite.proofs.Tests.{or-false-left, or-false-right}
 use Rattle.kuhn_tree.specs.Counts.{dealNodes, kuhnNodes, kuhnSets, kuhnEntries}
-use Rattle.leduc_actions.specs.Actions.{leducActions}
+use Rattle.leduc_actions.specs.Actions.{threes, actionsAt, leducActions}
 use Rattle.leduc_actions.proofs.Facts.{actions-in-all}
 use Rattle.tables.specs.Seats.{seats-out}
 use Rattle.tables.specs.Facts.{nodesOf, setsOf, entriesOf}
@@ -92,7 +92,7 @@ module _ (g : Game) (k : g .number ≡ 0 → ⊥) where
 -- ---- the actions of all sets
 
 leduc-total : total leducActions ≡ 2184
-unfolding total leducActions
+unfolding total leducActions actionsAt threes places
 leduc-total = refl
 
 pub actions-counted : (g : Game) → length (actionsOf g) ≡ setsOf g

@@ -1,24 +1,26 @@
--- A set's constant actions. Assumes nothing.
+-- A set's bit. Assumes nothing.
 use borrow.Author.Needs.{needs}
-use mathlib.Core.Path.{_≡_}
 use native.Mathlib.Omega.{arith}
-use lib.ListN.{getD}
-use Rattle.leduc_actions.specs.Actions.{leducActions}
-use Rattle.leduc_actions.proofs.Facts.{leduc-at-most}
+use Rattle.leduc_actions.specs.Actions.{threes}
+use Rattle.leduc_actions.proofs.Facts.{actions-at}
 use Rattle.leduc_actions.proofs.actions.Statement.{statement}
 use Rattle.leduc_actions.proofs.actions.Tie as tie
 
-array-read-two-or-three : tie.Need-array-read-two-or-three
-array-read-two-or-three c = search needs
+mul-bits : tie.Need-mul-bits
+mul-bits c = search needs
 
-two-or-three-requires : tie.Need-two-or-three-requires
-two-or-three-requires c κs = search needs
+array-read-bits : tie.Need-array-read-bits
+array-read-bits c = search needs
+
+shr-bits : tie.Need-shr-bits
+shr-bits c = search needs
+
+add-result : tie.Need-add-result
+add-result c = search needs
 
 returns : tie.Need-returns
-unfolding leducActions
-returns c =
-    let read : c .two-or-three .result ≡ getD leducActions (c .before .args .set) 0 = c .two-or-three .ensures in
-    (read, omega (arith, leduc-at-most (c .before .args .set)))
+unfolding threes
+returns c = (actions-at (c .args .set) (c .pre), omega arith)
 
 pub actions-spec : {M : Type 1} → statement M
-actions-spec = tie.close (tie.spec array-read-two-or-three two-or-three-requires returns)
+actions-spec = tie.close (tie.spec mul-bits array-read-bits shr-bits add-result returns)
