@@ -3,6 +3,9 @@ RUST ?= ../shared/docs/src
 
 CARGO_FLAGS := --offline --locked
 
+# The first tool that a host build needs and this machine lacks: cargo, or the C compiler by which it links.
+MISSING = $(firstword $(foreach tool,cargo $(CC),$(if $(shell command -v $(tool) 2>/dev/null),,$(tool))))
+
 # How many crates `rt` proves side by side, each in up to 1 GB: a row of crates waits for its slowest, so it is more than the cores.
 RT_JOBS ?= 6
 export RT_JOBS
@@ -51,8 +54,8 @@ test: host-tests
 
 # Host builds live in build/, which `rt ci` leaves alone.
 host-tests:
-	if ! command -v cargo >/dev/null; then \
-	    echo 'skipped: the comparison with the Rust (there is no cargo)'; \
+	if test -n '$(MISSING)'; then \
+	    echo 'skipped: the comparison with the Rust (there is no $(MISSING))'; \
 	elif ! test -f '$(RUST)/crates/reinfors-games/src/kuhn.rs'; then \
 	    echo 'skipped: the comparison with the Rust (its source is not at RUST=$(RUST))'; \
 	else \
@@ -63,7 +66,7 @@ host-tests:
 product: $(PRODUCT)
 
 $(PRODUCT): $(shell find crates crates.txt rust -type f)
-	command -v cargo >/dev/null || { echo 'the command line needs cargo; make sample runs a proved program without it'; exit 1; }
+	test -z '$(MISSING)' || { echo 'the command line needs $(MISSING); make sample runs a proved program without it'; exit 1; }
 	$(MAKE) --no-print-directory $(ARCHIVE)
 	cd rust && cargo build -q $(CARGO_FLAGS) --release --bin chukkanalli
 	mkdir -p build/bin
@@ -71,8 +74,8 @@ $(PRODUCT): $(shell find crates crates.txt rust -type f)
 
 # The product's tests; the archive is made first where it is missing or older than a file of crates/.
 product-test:
-	if ! command -v cargo >/dev/null; then \
-	    echo "skipped: the product's tests (there is no cargo)"; \
+	if test -n '$(MISSING)'; then \
+	    echo "skipped: the product's tests (there is no $(MISSING))"; \
 	else \
 	    $(MAKE) --no-print-directory cases && cd rust && cargo test -q $(CARGO_FLAGS); \
 	fi

@@ -6,9 +6,11 @@
 #include <stdlib.h>
 #include <string.h>
 
-static void expect(const char *name, int holds) {
+#define expect(name, holds) expect_at(__LINE__, name, holds)
+
+static void expect_at(int line, const char *name, int holds) {
     if (!holds) {
-        fprintf(stderr, "case %s differs\n", name);
+        fprintf(stderr, "compare/cases.c:%d: case %s differs\n", line, name);
         exit(1);
     }
 }
@@ -173,17 +175,17 @@ static int f64_near(chukkanalli_values answer, uint64_t count, double zero, doub
 
 static void f64_cases(void) {
     static uint64_t work[12 * 58 + 1];
-    const uint64_t words = 12 * 58, kuhn = CHUKKANALLI_KUHN_POKER;
+    const uint64_t words = 12 * 58, game = CHUKKANALLI_KUHN_POKER;
     double profile[24];
     for (int entry = 0; entry < 24; entry++) {
         profile[entry] = 0.5;
     }
     work[words] = 9;
-    expect("a best response value", f64_near(chukkanalli_best_response_value(kuhn, 2, work, words + 1, 1, profile, 24), 1, 5.0 / 12, 0));
-    expect("best response values", f64_near(chukkanalli_best_response_values(kuhn, 2, work, words + 1, profile, 24), 2, 1.0 / 2, 5.0 / 12));
-    expect("profile values", f64_near(chukkanalli_profile_values(kuhn, 2, work, words + 1, profile, 24), 2, 1.0 / 8, -1.0 / 8));
-    expect("NashConv", f64_near(chukkanalli_nash_conv(kuhn, 2, work, words + 1, profile, 24), 1, 11.0 / 12, 0));
-    expect("exploitability", f64_near(chukkanalli_exploitability(kuhn, 2, work, words + 1, profile, 24), 1, 11.0 / 24, 0));
+    expect("a best response value", f64_near(chukkanalli_best_response_value(game, 2, work, words + 1, 1, profile, 24), 1, 5.0 / 12, 0));
+    expect("best response values", f64_near(chukkanalli_best_response_values(game, 2, work, words + 1, profile, 24), 2, 1.0 / 2, 5.0 / 12));
+    expect("profile values", f64_near(chukkanalli_profile_values(game, 2, work, words + 1, profile, 24), 2, 1.0 / 8, -1.0 / 8));
+    expect("NashConv", f64_near(chukkanalli_nash_conv(game, 2, work, words + 1, profile, 24), 1, 11.0 / 12, 0));
+    expect("exploitability", f64_near(chukkanalli_exploitability(game, 2, work, words + 1, profile, 24), 1, 11.0 / 24, 0));
     expect("what f64 calls leave", work[words] == 9);
 }
 

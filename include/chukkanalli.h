@@ -7,8 +7,9 @@
  * accepted deal or step, else the one handed in, to the byte. Every other field of a refused answer is 0. A call touches no memory but what
  * it is lent, and keeps no state.
  *
- * What a caller owes: a pointer is valid for reading and writing as many elements as the length beside it says, and is null only where that
- * length is 0; no two slices lent to one call overlap, nor does any thread use them during the call.
+ * What a caller owes: a pointer is aligned and valid for reading, and unless it is const for writing, as many elements as the length beside it
+ * says, and is null only where that length is 0; what is lent for writing overlaps nothing else lent to the call, and no other thread uses it during the
+ * call; what is lent for reading no thread writes.
  */
 #ifndef CHUKKANALLI_H
 #define CHUKKANALLI_H
