@@ -82,7 +82,7 @@ product-test:
 
 # Random tables and command lines, held to a model.
 fuzz: $(ARCHIVE)
-	cd rust && cargo run -q $(CARGO_FLAGS) --release --bin fuzz -- $(SECONDS) $(or $(SEED),1)
+	cd rust && cargo run -q $(CARGO_FLAGS) --release -p fuzz -- $(SECONDS) $(or $(SEED),1)
 
 # Writes the committed lists anew, from the unchanged Rust.
 lists:

@@ -6,9 +6,6 @@ use std::path::Path;
 
 fn main() {
     println!("cargo::rerun-if-env-changed=ARCHIVE");
-    if env::var_os("CARGO_FEATURE_ARCHIVE").is_none() {
-        return;
-    }
     let root = Path::new(env!("CARGO_MANIFEST_DIR")).join("../..");
     let given = env::var("ARCHIVE").ok().filter(|folder| !folder.is_empty());
     let folder = root.join(given.unwrap_or_else(|| "target/staticlib".to_string()));

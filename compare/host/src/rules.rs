@@ -1,6 +1,6 @@
 //! The rules calls and saved-position checks of either game.
 
-use chukkanalli::archive::{self, Moved, Paid, Written};
+use chukkanalli::archive::{self, Moved, Payoffs, Written};
 use chukkanalli::{KuhnPosition, LeducPosition};
 
 /// The calls of a game on its positions.
@@ -14,7 +14,7 @@ pub trait Calls {
     fn deal(&self, position: Self::Position, outcome: u64) -> Moved<Self::Position>;
     fn step(&self, position: Self::Position, action: u64) -> Moved<Self::Position>;
     fn key(&self, position: Self::Position, seat: u64, out: &mut [u8]) -> Written<Self::Position>;
-    fn payoff(&self, position: Self::Position) -> Paid<Self::Position>;
+    fn payoff(&self, position: Self::Position) -> Payoffs<Self::Position>;
     fn saved(&self, position: Self::Position, done: u64) -> Moved<Self::Position>;
 }
 
@@ -50,7 +50,7 @@ impl Calls for Kuhn {
         archive::kuhn_information_state_key(self.0, position, seat, out)
     }
 
-    fn payoff(&self, position: KuhnPosition) -> Paid<KuhnPosition> {
+    fn payoff(&self, position: KuhnPosition) -> Payoffs<KuhnPosition> {
         archive::kuhn_payouts(self.0, position)
     }
 
@@ -87,7 +87,7 @@ impl Calls for Leduc {
         archive::leduc_information_state_key(position, seat, out)
     }
 
-    fn payoff(&self, position: LeducPosition) -> Paid<LeducPosition> {
+    fn payoff(&self, position: LeducPosition) -> Payoffs<LeducPosition> {
         archive::leduc_payouts(position)
     }
 

@@ -4,7 +4,7 @@ use std::ffi::{OsStr, OsString};
 use std::path::PathBuf;
 
 use crate::help;
-use crate::reader::quoted;
+use crate::words::quoted;
 
 /// The commands.
 #[derive(Clone, Copy, Debug, PartialEq, Eq)]
@@ -115,13 +115,13 @@ impl Misuse {
 /// Understands the arguments behind the program's name.
 pub fn parse(args: &[OsString]) -> Result<Request, Misuse> {
     let Some((first, rest)) = args.split_first() else {
-        return Err(Misuse { verb: None, sentence: format!("a command is missing: {}", verb_names()) });
+        return Err(Misuse { verb: None, sentence: format!("a command is missing; there are {}", verb_names()) });
     };
     if help::is_asked_by(first) {
         return Ok(Request::Help(None));
     }
     let Some(verb) = Verb::by_name(first) else {
-        let sentence = format!("{} is no command: {}", quoted(&first.to_string_lossy()), verb_names());
+        let sentence = format!("{} is no command; there are {}", quoted(&first.to_string_lossy()), verb_names());
         return Err(Misuse { verb: None, sentence });
     };
     match sort(verb, rest)? {
@@ -159,7 +159,7 @@ fn sort(verb: Verb, args: &[OsString]) -> Result<Option<Sorted>, Misuse> {
         } else if let (Some(count), true) = (text.strip_prefix("--jobs="), verb.takes_many()) {
             sorted.jobs = Some(jobs_of(verb, count)?);
         } else if is_option(&text) {
-            let sentence = format!("{} is no option of it; -- before a file's name makes it one", quoted(&text));
+            let sentence = format!("there is no option {}; write -- before a file of that name", quoted(&text));
             return Err(Misuse::of(verb, sentence));
         } else {
             sorted.places.push(arg.clone());
@@ -210,7 +210,7 @@ fn number_of(verb: Verb, name: &str, arg: &OsStr) -> Result<Number, Misuse> {
     let word = arg.to_string_lossy().into_owned();
     match value_of(&word) {
         Some(value) => Ok(Number { word, value }),
-        None => Err(Misuse::of(verb, format!("{name} is {}, and a whole number is needed", quoted(&word)))),
+        None => Err(Misuse::of(verb, format!("{name} is {}, and a whole number from 0 is needed", quoted(&word)))),
     }
 }
 
@@ -283,23 +283,23 @@ mod tests {
 
     #[test]
     fn bad_use_has_a_sentence() {
-        assert_eq!(sentence(""), "a command is missing: evaluate, ladder, reply, template, f64");
-        assert_eq!(sentence("play"), "'play' is no command: evaluate, ladder, reply, template, f64");
+        assert_eq!(sentence(""), "a command is missing; there are evaluate, ladder, reply, template, f64");
+        assert_eq!(sentence("play"), "'play' is no command; there are evaluate, ladder, reply, template, f64");
         assert_eq!(sentence("evaluate"), "GAME is missing");
         assert_eq!(sentence("evaluate kuhn 2 1"), "TABLE is missing");
         assert_eq!(sentence("reply kuhn 2 1 t"), "SEAT is missing");
         assert_eq!(sentence("f64 kuhn 2"), "PROFILE is missing");
         assert_eq!(sentence("template kuhn 2 1 t"), "'t' is one argument too many");
         assert_eq!(sentence("f64 kuhn 2 p p"), "'p' is one argument too many");
-        assert_eq!(sentence("evaluate kuhn two 1 t"), "SEATS is 'two', and a whole number is needed");
-        assert_eq!(sentence("evaluate kuhn 2 -1 t"), "D is '-1', and a whole number is needed");
-        assert_eq!(sentence("reply kuhn 2 1 t x"), "SEAT is 'x', and a whole number is needed");
+        assert_eq!(sentence("evaluate kuhn two 1 t"), "SEATS is 'two', and a whole number from 0 is needed");
+        assert_eq!(sentence("evaluate kuhn 2 -1 t"), "D is '-1', and a whole number from 0 is needed");
+        assert_eq!(sentence("reply kuhn 2 1 t x"), "SEAT is 'x', and a whole number from 0 is needed");
         assert_eq!(sentence("ladder kuhn 2 1 t --jobs"), "--jobs takes a number, and it is missing");
         assert_eq!(sentence("ladder kuhn 2 1 t --jobs 0"), "--jobs is '0', and a number from 1 is needed");
         assert_eq!(sentence("ladder kuhn 2 1 t --jobs=x"), "--jobs is 'x', and a number from 1 is needed");
-        let unknown = "is no option of it; -- before a file's name makes it one";
-        assert_eq!(sentence("evaluate kuhn 2 1 -t"), format!("'-t' {unknown}"));
-        assert_eq!(sentence("template kuhn 2 1 --jobs 2"), format!("'--jobs' {unknown}"));
-        assert_eq!(sentence("f64 kuhn 2 p --jobs 2"), format!("'--jobs' {unknown}"));
+        let unknown = |option: &str| format!("there is no option '{option}'; write -- before a file of that name");
+        assert_eq!(sentence("evaluate kuhn 2 1 -t"), unknown("-t"));
+        assert_eq!(sentence("template kuhn 2 1 --jobs 2"), unknown("--jobs"));
+        assert_eq!(sentence("f64 kuhn 2 p --jobs 2"), unknown("--jobs"));
     }
 }

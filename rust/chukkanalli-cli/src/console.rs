@@ -1,4 +1,4 @@
-//! What is printed: results on one stream; complaints, and on a terminal how far the work is, on another.
+//! What is printed: results on one stream; complaints, and on a terminal how many tables are done, on another.
 
 use std::fmt::Display;
 use std::io::{self, Write};
@@ -14,10 +14,11 @@ pub struct Console<'a> {
     err: &'a mut dyn Write,
     terminal: bool,
     progress: Option<Progress>,
+    complained: bool,
 }
 
 struct Progress {
-    made: usize,
+    done: usize,
     total: usize,
     next_drawn: Instant,
     drawn: bool,
@@ -25,7 +26,7 @@ struct Progress {
 
 impl<'a> Console<'a> {
     pub fn new(out: &'a mut dyn Write, err: &'a mut dyn Write, terminal: bool) -> Self {
-        Console { out, err, terminal, progress: None }
+        Console { out, err, terminal, progress: None, complained: false }
     }
 
     /// Prints a result, at once.
@@ -37,33 +38,38 @@ impl<'a> Console<'a> {
 
     /// Prints a complaint. Where even that fails, the status is all that is left to tell.
     pub fn complain(&mut self, sentence: impl Display) {
+        self.complained = true;
         self.wipe();
         let _ = writeln!(self.err, "chukkanalli: {sentence}");
         let _ = self.err.flush();
     }
 
-    /// From here on so many calls are to be made.
-    pub fn expect_calls(&mut self, total: usize) {
+    pub fn has_complained(&self) -> bool {
+        self.complained
+    }
+
+    /// From here on so many tables are to be evaluated.
+    pub fn expect_tables(&mut self, total: usize) {
         if self.terminal {
-            self.progress = Some(Progress { made: 0, total, next_drawn: Instant::now() + PATIENCE, drawn: false });
+            self.progress = Some(Progress { done: 0, total, next_drawn: Instant::now() + PATIENCE, drawn: false });
         }
     }
 
-    /// So many calls more were made.
-    pub fn count_calls(&mut self, made: usize) {
+    /// A table more is done.
+    pub fn count_table(&mut self) {
         let Some(progress) = &mut self.progress else { return };
-        progress.made += made;
+        progress.done += 1;
         let now = Instant::now();
         if now >= progress.next_drawn {
             progress.next_drawn = now + PACE;
             progress.drawn = true;
-            let _ = write!(self.err, "\r{} of {} evaluations", progress.made, progress.total);
+            let _ = write!(self.err, "\r{} of {} tables", progress.done, progress.total);
             let _ = self.err.flush();
         }
     }
 
-    /// All calls are made.
-    pub fn end_calls(&mut self) {
+    /// All tables are done.
+    pub fn end_tables(&mut self) {
         self.wipe();
         self.progress = None;
     }
@@ -86,14 +92,14 @@ mod tests {
     fn run(terminal: bool) -> (String, String) {
         let (mut out, mut err) = (Vec::new(), Vec::new());
         let mut console = Console::new(&mut out, &mut err, terminal);
-        console.expect_calls(3);
-        console.count_calls(1);
+        console.expect_tables(3);
+        console.count_table();
         std::thread::sleep(PATIENCE);
-        console.count_calls(1);
-        console.count_calls(1);
+        console.count_table();
+        console.count_table();
         console.print("first\n").unwrap();
         console.complain("second");
-        console.end_calls();
+        console.end_tables();
         (String::from_utf8(out).unwrap(), String::from_utf8(err).unwrap())
     }
 
@@ -101,7 +107,7 @@ mod tests {
     fn progress_is_shown_on_a_terminal_and_taken_away() {
         let (out, err) = run(true);
         assert_eq!(out, "first\n");
-        assert_eq!(err, "\r2 of 3 evaluations\r\x1b[Kchukkanalli: second\n");
+        assert_eq!(err, "\r2 of 3 tables\r\x1b[Kchukkanalli: second\n");
     }
 
     #[test]

@@ -8,17 +8,71 @@ pub fn is_asked_by(arg: &OsStr) -> bool {
     arg == "--help" || arg == "-h"
 }
 
-/// The help of a command, or of all.
-pub fn text(verb: Option<Verb>) -> &'static str {
+/// The help of a command, or of all: what it does, what each argument is, how it ends.
+pub fn text(verb: Option<Verb>) -> String {
+    let (own, arguments) = match verb {
+        None => (ALL, ARGUMENTS.map(|(name, _)| name).to_vec()),
+        Some(verb) => (about(verb), arguments_of(verb)),
+    };
+    let taken = ARGUMENTS.iter().filter(|(name, _)| arguments.contains(name));
+    let lines: String = taken.map(|(name, what)| format!("{name:9}{}\n", what.replace('\n', "\n         "))).collect();
+    format!("{own}\n{lines}\n{OUTCOME}")
+}
+
+fn arguments_of(verb: Verb) -> Vec<&'static str> {
+    let options = if verb.takes_many() { &["--jobs N", "--"][..] } else { &["--"] };
+    [verb.places(), options].concat()
+}
+
+fn about(verb: Verb) -> &'static str {
     match verb {
-        None => ALL,
-        Some(Verb::Evaluate) => EVALUATE,
-        Some(Verb::Ladder) => LADDER,
-        Some(Verb::Reply) => REPLY,
-        Some(Verb::Template) => TEMPLATE,
-        Some(Verb::F64) => F64,
+        Verb::Evaluate => EVALUATE,
+        Verb::Ladder => LADDER,
+        Verb::Reply => REPLY,
+        Verb::Template => TEMPLATE,
+        Verb::F64 => F64,
     }
 }
+
+/// What each argument and option is.
+const ARGUMENTS: [(&str, &str); 8] = [
+    ("GAME", "kuhn or leduc, in any case of letters"),
+    ("SEATS", "2 to 6 for kuhn, 2 for leduc"),
+    ("D", "the parts per set: 1 to 64, for kuhn with 5 or 6 seats 1 to 16"),
+    (
+        "TABLE",
+        "\
+a text file: set after set, in the order of `chukkanalli template`, the part of each
+action as a whole number; in each set they add up to D. A # begins a comment, which goes
+on to the end of the line",
+    ),
+    ("SEAT", "a seat, from 0"),
+    (
+        "PROFILE",
+        "\
+a text file: set after set, in the order of `chukkanalli template`, a decimal number, inf,
+-inf or NaN for each action. A # begins a comment, as in a table",
+    ),
+    (
+        "--jobs N",
+        "\
+for evaluate and ladder: N tables at a time, by default one a core, at most 256; what is
+printed is the same",
+    ),
+    (
+        "--",
+        "\
+behind it no word is an option, so that a file's name may begin with a dash; the name - is
+that of a file, not of stdin",
+    ),
+];
+
+const OUTCOME: &str = "\
+What cannot be evaluated is refused on stderr, with the file and the line, and with the number
+of the refusal where document 01, the paper behind the calls, has one.
+Status: 0; 1 where a table or profile was refused or cannot be read, the output cannot be written
+or there is too little memory; 2 for bad use.
+";
 
 const ALL: &str = "\
 Evaluates strategy tables for Kuhn and Leduc poker, exactly or in f64, by proved calls.
@@ -29,18 +83,6 @@ Evaluates strategy tables for Kuhn and Leduc poker, exactly or in f64, by proved
   chukkanalli template GAME SEATS D            a table to fill in, with each set in words
   chukkanalli f64 GAME SEATS PROFILE           the same values of a profile, in floating point
   chukkanalli COMMAND --help                   more about a command
-
-GAME     kuhn or leduc
-SEATS    2 to 6 for kuhn, 2 for leduc
-D        the parts per set: 1 to 64, for kuhn with 5 or 6 seats 1 to 16
-TABLE    a text file: set after set, the part of each action as a whole number; in each set they
-         add up to D. A # begins a comment, which goes on to the end of the line.
-SEAT     a seat, from 0
-PROFILE  a text file as a table is, with a decimal number, inf, -inf or NaN for each action
-
-What cannot be evaluated is refused on stderr, with the file and the line, and with the number
-of the refusal where document 01, the paper behind the calls, has one.
-Status: 0; 1 where a table or profile was refused or cannot be read; 2 for bad use.
 ";
 
 const EVALUATE: &str = "\
@@ -49,9 +91,6 @@ chukkanalli evaluate GAME SEATS D TABLE... [--jobs N]
 Prints for each table what it is worth to each seat, each seat's best value (the most that any
 table gets it which differs in that seat's sets only) and NashConv, the sum of best value - worth:
 in units, in chips per hand as a fraction in lowest terms, and that rounded to nine decimals.
-
---jobs N   evaluates N tables at a time, by default one a core, at most 256; what is printed is
-           the same
 
   chukkanalli evaluate kuhn 2 1 samples/always-pass.txt
 ";
@@ -62,9 +101,6 @@ chukkanalli ladder GAME SEATS D TABLE... [--jobs N]
 Prints the tables in order of NashConv, the lowest and so the hardest to beat first. Tables with
 equal NashConv have the same rank; the comparison is exact. A table that was refused or cannot be
 read stands below, with the reason.
-
---jobs N   evaluates N tables at a time, by default one a core, at most 256; what is printed is
-           the same
 
   chukkanalli ladder kuhn 2 3 samples/equilibrium.txt samples/always-pass.txt
 ";
@@ -84,7 +120,7 @@ chukkanalli template GAME SEATS D
 
 Prints a table to fill in, a line for each set: the parts of its actions, and as a comment the
 names of the actions, the seat, its card, the public card (leduc) and what was played. Each set
-has D on its first action, so the table is valid as it is.
+has D on its first action, so the table is valid as it is. A table has its sets in this order.
 
   chukkanalli template kuhn 2 4 >mine.txt
 ";
@@ -117,6 +153,16 @@ mod tests {
             assert_eq!(text(Some(verb)).lines().next(), Some(usage.as_str()));
             let listed = usage.trim_end_matches(" [--jobs N]");
             assert!(text(None).contains(&format!("  {listed}  ")), "{listed}");
+        }
+    }
+
+    #[test]
+    fn every_help_says_what_its_arguments_are() {
+        for verb in Verb::ALL {
+            for name in arguments_of(verb) {
+                assert!(text(Some(verb)).contains(&format!("\n{name:9}")), "{name}");
+                assert!(text(None).contains(&format!("\n{name:9}")), "{name}");
+            }
         }
     }
 

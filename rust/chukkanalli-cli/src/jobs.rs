@@ -2,91 +2,49 @@
 
 use std::collections::BTreeMap;
 use std::sync::atomic::{AtomicUsize, Ordering};
-use std::sync::mpsc::{self, Sender};
+use std::sync::mpsc::{self, Receiver, Sender};
 use std::sync::Mutex;
 use std::thread;
 
-/// What a thread tells while it works: so many calls made, or the result of a piece of work.
-enum News<R> {
-    Steps(usize),
-    Done(usize, R),
-}
-
-/// Tells how many calls were made.
-pub struct Teller<'a, R>(&'a Sender<News<R>>);
-
-impl<R> Teller<'_, R> {
-    pub fn made(&self, steps: usize) {
-        // Nobody listens once the output has failed.
-        let _ = self.0.send(News::Steps(steps));
-    }
-}
-
-/// Who hears of steps, and of the results in order.
-pub trait Listener<R> {
-    type Error;
-    fn steps(&mut self, made: usize);
-    fn result(&mut self, place: usize, result: R) -> Result<(), Self::Error>;
-}
-
-/// Does the work of each place below `count`, a thread for each tool, and hands the results on in order. Stops early where the listener fails.
-pub fn side_by_side<T, R, L>(
+/// Does the work of each place below `count`, a thread for each tool, and hands the results on in order. Stops early where that fails.
+pub fn side_by_side<T: Send, R: Send, E>(
     tools: Vec<T>,
     count: usize,
-    work: impl Fn(&mut T, usize, &Teller<R>) -> R + Sync,
-    listener: &mut L,
-) -> Result<(), L::Error>
-where
-    T: Send,
-    R: Send,
-    L: Listener<R>,
-{
+    work: impl Fn(&mut T, usize) -> R + Sync,
+    hand_on: impl FnMut(usize, R) -> Result<(), E>,
+) -> Result<(), E> {
     let wanted = tools.len();
     let tools = Mutex::new(tools);
     let next = AtomicUsize::new(0);
-    let (sender, receiver) = mpsc::channel();
-    let run = |sender: Sender<News<R>>| {
+    let run = |sender: Sender<(usize, R)>| {
         let Some(mut tool) = tools.lock().ok().and_then(|mut tools| tools.pop()) else { return };
-        loop {
-            let place = next.fetch_add(1, Ordering::Relaxed);
-            if place >= count {
-                return;
-            }
-            let result = work(&mut tool, place, &Teller(&sender));
-            if sender.send(News::Done(place, result)).is_err() {
+        let places = || Some(next.fetch_add(1, Ordering::Relaxed)).filter(|&place| place < count);
+        while let Some(place) = places() {
+            // Nobody hears once the output has failed.
+            if sender.send((place, work(&mut tool, place))).is_err() {
                 return;
             }
         }
     };
     thread::scope(|scope| {
-        let mut started = 0;
-        for _ in 0..wanted {
-            let sender = sender.clone();
-            started += usize::from(thread::Builder::new().spawn_scoped(scope, || run(sender)).is_ok());
-        }
-        if started == 0 {
+        let (sender, receiver) = mpsc::channel();
+        let start = |sender| thread::Builder::new().spawn_scoped(scope, || run(sender)).is_ok();
+        if (0..wanted).filter(|_| start(sender.clone())).count() == 0 {
             run(sender.clone());
         }
         drop(sender);
-        let heard = hear(receiver, listener);
-        next.fetch_max(count, Ordering::Relaxed);
-        heard
+        in_order(receiver, hand_on)
     })
 }
 
-/// Hands steps on as they come, and each result once all before it were handed on.
-fn hear<R, L: Listener<R>>(receiver: mpsc::Receiver<News<R>>, listener: &mut L) -> Result<(), L::Error> {
+/// Hands each result on once all before it were handed on.
+fn in_order<R, E>(receiver: Receiver<(usize, R)>, mut hand_on: impl FnMut(usize, R) -> Result<(), E>) -> Result<(), E> {
     let mut waiting = BTreeMap::new();
     let mut due = 0;
-    for news in receiver {
-        match news {
-            News::Steps(made) => listener.steps(made),
-            News::Done(place, result) => {
-                waiting.insert(place, result);
-            }
-        }
+    for (place, result) in receiver {
+        waiting.insert(place, result);
         while let Some(result) = waiting.remove(&due) {
-            listener.result(due, result)?;
+            hand_on(due, result)?;
             due += 1;
         }
     }
@@ -98,38 +56,21 @@ mod tests {
     use super::*;
     use std::time::Duration;
 
-    #[derive(Default)]
-    struct Heard {
-        steps: usize,
-        results: Vec<(usize, usize)>,
-        fail_at: Option<usize>,
-    }
-
-    impl Listener<usize> for Heard {
-        type Error = usize;
-
-        fn steps(&mut self, made: usize) {
-            self.steps += made;
-        }
-
-        fn result(&mut self, place: usize, result: usize) -> Result<(), usize> {
-            if self.fail_at == Some(place) {
-                return Err(place);
-            }
-            self.results.push((place, result));
-            Ok(())
-        }
-    }
-
-    fn run(threads: usize, count: usize, fail_at: Option<usize>) -> (Heard, Result<(), usize>) {
-        let mut heard = Heard { fail_at, ..Heard::default() };
-        let work = |used: &mut usize, place: usize, teller: &Teller<usize>| {
+    /// What is handed on before it fails at a place, and what comes of it.
+    fn run(threads: usize, count: usize, fail_at: Option<usize>) -> (Vec<(usize, usize)>, Result<(), usize>) {
+        let mut heard = Vec::new();
+        let work = |used: &mut usize, place: usize| {
             *used += 1;
-            teller.made(2);
             thread::sleep(Duration::from_millis((count - place) as u64 % 3));
             place * place
         };
-        let answer = side_by_side(vec![0; threads], count, work, &mut heard);
+        let answer = side_by_side(vec![0; threads], count, work, |place, result| {
+            if fail_at == Some(place) {
+                return Err(place);
+            }
+            heard.push((place, result));
+            Ok(())
+        });
         (heard, answer)
     }
 
@@ -138,16 +79,15 @@ mod tests {
         for threads in [1, 2, 7, 40] {
             let (heard, answer) = run(threads, 30, None);
             assert_eq!(answer, Ok(()));
-            assert_eq!(heard.steps, 60);
-            assert_eq!(heard.results, (0..30).map(|place| (place, place * place)).collect::<Vec<_>>());
+            assert_eq!(heard, (0..30).map(|place| (place, place * place)).collect::<Vec<_>>());
         }
-        assert_eq!(run(3, 0, None).0.results, []);
+        assert_eq!(run(3, 0, None).0, []);
     }
 
     #[test]
-    fn a_listener_that_fails_ends_the_work() {
+    fn a_failure_ends_the_work() {
         let (heard, answer) = run(2, 1000, Some(3));
         assert_eq!(answer, Err(3));
-        assert_eq!(heard.results.len(), 3);
+        assert_eq!(heard.len(), 3);
     }
 }

@@ -1,18 +1,15 @@
-//! The command line of chukkanalli. The modules before `commands` need no archive, and their tests run without one.
+//! The command line of chukkanalli. The fuzzer calls the reader, the console and `run`.
 
-pub mod args;
-pub mod columns;
-pub mod console;
-pub mod figures;
-pub mod fraction;
-pub mod help;
-pub mod jobs;
-pub mod ranks;
-pub mod reader;
-pub mod words;
-
-#[cfg(feature = "archive")]
+mod args;
+mod columns;
 mod commands;
+pub mod console;
+mod figures;
+mod fraction;
+mod help;
+mod jobs;
+mod ranks;
+pub mod reader;
+mod words;
 
-#[cfg(feature = "archive")]
 pub use commands::run;

@@ -6,11 +6,10 @@ use std::fs::File;
 use std::io::{ErrorKind, Read};
 use std::path::Path;
 
+use crate::words::quoted;
+
 /// The bytes of a file at most; a table of 2,688 entries with a line of words for each takes a hundredth of it.
 const MOST_BYTES: usize = 16 << 20;
-
-/// The characters of a word that a sentence quotes at most.
-const MOST_QUOTED: usize = 24;
 
 /// A number of a file: a part in a table, an f64 in a profile.
 pub trait Entry: Sized {
@@ -89,7 +88,7 @@ pub fn read_file<T: Entry>(path: &Path) -> Result<Entries<T>, Fault> {
 fn unreadable(error: std::io::Error) -> Fault {
     match error.kind() {
         ErrorKind::NotFound => Fault::of_file("there is no such file"),
-        ErrorKind::PermissionDenied => Fault::of_file("this file may not be read"),
+        ErrorKind::PermissionDenied => Fault::of_file("there is no permission to read it"),
         _ => Fault::of_file(format!("this file cannot be read: {error}")),
     }
 }
@@ -158,9 +157,7 @@ impl Entry for u8 {
         let digits = |text: &str| !text.is_empty() && text.bytes().all(|byte| byte.is_ascii_digit());
         let range = "and a part is a whole number from 0 to 255";
         if digits(word) {
-            let significant = word.trim_start_matches('0');
-            let part = if significant.is_empty() { Ok(0) } else { significant.parse() };
-            return part.map_err(|_| format!("{} is above 255, {range}", quoted(word)));
+            return word.parse().map_err(|_| format!("{} is above 255, {range}", quoted(word)));
         }
         let fault = match word.strip_prefix('-') {
             Some(rest) if digits(rest) => "is negative",
@@ -177,33 +174,6 @@ impl Entry for f64 {
         let needed = "and a decimal number, inf, -inf or NaN is needed";
         word.parse().map_err(|_| format!("{} is not a number, {needed}", quoted(word)))
     }
-}
-
-/// A word in a sentence: cut where it is long, with what does not print written out.
-pub fn quoted(word: &str) -> String {
-    let mut shown = String::from("'");
-    for c in word.chars().take(MOST_QUOTED) {
-        shown.extend(c.escape_debug());
-    }
-    shown.push_str(if word.chars().nth(MOST_QUOTED).is_some() { "...'" } else { "'" });
-    shown
-}
-
-/// A file's name in a sentence: with control characters written out, in quotes where it is empty.
-pub fn file_name(path: &Path) -> String {
-    let name = path.to_string_lossy();
-    if name.is_empty() {
-        return "''".to_string();
-    }
-    let mut shown = String::new();
-    for c in name.chars() {
-        if c.is_control() {
-            shown.extend(c.escape_debug());
-        } else {
-            shown.push(c);
-        }
-    }
-    shown
 }
 
 #[cfg(test)]
@@ -297,14 +267,8 @@ mod tests {
         assert_eq!(endless.sentence, "this is no table: it has more than 16777216 bytes");
         let folder = read_file::<f64>(Path::new("/")).unwrap_err();
         assert_eq!(folder.sentence, "this is a folder, not a profile");
+        let closed = unreadable(ErrorKind::PermissionDenied.into());
+        assert_eq!(closed.sentence, "there is no permission to read it");
         assert_eq!(Fault::in_line(3, "odd").at("name").to_string(), "name:3: odd");
-    }
-
-    #[test]
-    fn names_and_words_are_shown_on_one_line() {
-        assert_eq!(quoted("a\nb\u{1b}"), "'a\\nb\\u{1b}'");
-        assert_eq!(file_name(Path::new("a\nb")), "a\\nb");
-        assert_eq!(file_name(Path::new("")), "''");
-        assert_eq!(file_name(Path::new("folder/tä ble.txt")), "folder/tä ble.txt");
     }
 }

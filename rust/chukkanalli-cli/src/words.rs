@@ -1,6 +1,32 @@
-//! Games and sets in words.
+//! Games and sets in words; words and files' names in sentences.
+
+use std::path::Path;
 
 use chukkanalli::{Game, InfoSet};
+
+/// The characters of a word that a sentence quotes at most.
+const MOST_QUOTED: usize = 24;
+
+/// A word in a sentence: cut where it is long, with what does not print written out.
+pub fn quoted(word: &str) -> String {
+    let front: String = word.chars().take(MOST_QUOTED).collect();
+    let cut = if front.len() < word.len() { "..." } else { "" };
+    format!("'{}{cut}'", front.escape_debug())
+}
+
+/// A file's name in a sentence: with what does not print written out, in quotes where it is empty.
+pub fn file_name(path: &Path) -> String {
+    let name = path.to_string_lossy();
+    if name.is_empty() {
+        return quoted(&name);
+    }
+    name.escape_debug().to_string().replace(r"\'", "'").replace(r#"\""#, "\"")
+}
+
+/// A game's name on the command line.
+pub fn game_word(game: Game) -> String {
+    game.name().to_lowercase()
+}
 
 /// A game with its seats, as `Kuhn with 2 seats`.
 pub fn game_words(game: Game) -> String {
@@ -65,6 +91,20 @@ mod tests {
             legal: Vec::new(),
             first_entry: 0,
         }
+    }
+
+    #[test]
+    fn words_and_names_are_shown_on_one_line() {
+        assert_eq!(quoted("a\nb\u{1b}"), r"'a\nb\u{1b}'");
+        assert_eq!(quoted(&"ä".repeat(25)), format!("'{}...'", "ä".repeat(24)));
+        assert_eq!(quoted(&"ä".repeat(24)), format!("'{}'", "ä".repeat(24)));
+        let named = |name: &str| file_name(Path::new(name));
+        assert_eq!(named("a\nb\u{202e}c\u{2028}d\te"), r"a\nb\u{202e}c\u{2028}d\te");
+        assert_eq!(named(""), "''");
+        for name in ["folder/tä ble.txt", "it's", "\"a\"'b'", "हिन्दी", "e\u{301}"] {
+            assert_eq!(named(name), name);
+        }
+        assert_eq!(named(r"a\'b\n"), r"a\\'b\\n");
     }
 
     #[test]

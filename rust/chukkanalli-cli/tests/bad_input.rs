@@ -11,7 +11,7 @@ const SEATS: &str = "refused with 2: the seat count is outside 2 to 10 for Kuhn,
 const TREE: &str = "refused with 3: the tree has more than 4,000,000 nodes, which is Kuhn with 7 to 10 seats";
 const PARTS: &str =
     "refused with 6: D, the parts per set, is 0, or above 64 (Leduc, Kuhn 2 to 4) or above 16 (Kuhn 5 and 6)";
-const LENGTH: &str = "refused with 7: the table's length is not exactly the entry count";
+const LENGTH: &str = "refused with 7: the table's or profile's length is not exactly the entry count";
 const SUM: &str = "refused with 8: in some set the parts do not add up to D";
 const ABOVE_64_BITS: &str = "18446744073709551616";
 
@@ -51,28 +51,31 @@ fn refused(complaint: &str) -> Run {
 
 /// The commands refuse this table of Kuhn 2 with D 1; `behind` follows its name.
 fn all_refused(path: &str, behind: &str) {
-    let complaint = format!("{path}{behind}");
-    assert_eq!(run(["evaluate", "kuhn", "2", "1", path]), refused(&complaint));
-    assert_eq!(run(["reply", "kuhn", "2", "1", path, "1"]), refused(&complaint));
+    all_refused_as(path, &format!("{path}{behind}"));
+}
+
+fn all_refused_as(path: &str, complaint: &str) {
+    assert_eq!(run(["evaluate", "kuhn", "2", "1", path]), refused(complaint));
+    assert_eq!(run(["reply", "kuhn", "2", "1", path, "1"]), refused(complaint));
     let ladder = run(["ladder", "kuhn", "2", "1", path]);
     let out = format!("Kuhn with 2 seats, D 1\n\nnot ranked:\n{complaint}\n");
-    assert_eq!(ladder, Run { out, ..refused(&complaint) });
+    assert_eq!(ladder, Run { out, ..refused(complaint) });
 }
 
 #[test]
 fn unknown_games_are_refused_with_1() {
-    for game in ["chess", "Kuhn", "KUHN", "kuhn2", "0", "1", "leduc\u{200b}"] {
-        let sentence = format!(
-            "GAME is '{}': refused with 1: the game is neither Kuhn nor Leduc",
-            game.replace('\u{200b}', "\\u{200b}")
-        );
+    let sentence = |shown: &str| {
+        format!("GAME is '{shown}': refused with 1: the game is neither Kuhn nor Leduc; write kuhn or leduc")
+    };
+    for game in ["chess", "kuhn2", "kühn", "0", "1", "leduc\u{200b}"] {
+        let sentence = sentence(&game.replace('\u{200b}', "\\u{200b}"));
         all_misused(game, "2", "1", &sentence);
         all_misused(game, "99", "0", &sentence);
     }
     let empty = run(["template", "", "2", "1"]);
-    assert_eq!(empty, misused("template", "GAME is '': refused with 1: the game is neither Kuhn nor Leduc"));
+    assert_eq!(empty, misused("template", &sentence("")));
     let bytes = run([OsStr::new("template"), OsStr::from_bytes(b"\xff"), OsStr::new("2"), OsStr::new("1")]);
-    assert_eq!(bytes, misused("template", "GAME is '\u{fffd}': refused with 1: the game is neither Kuhn nor Leduc"));
+    assert_eq!(bytes, misused("template", &sentence("\u{fffd}")));
 }
 
 #[test]
@@ -113,11 +116,11 @@ fn seats_are_refused_with_5() {
 #[test]
 fn what_is_no_number_is_bad_use() {
     for word in ["two", "-1", "+2", "2.0", "2^64", "0x2"] {
-        all_misused("kuhn", word, "1", &format!("SEATS is '{word}', and a whole number is needed"));
-        parts_misused("kuhn", "2", word, &format!("D is '{word}', and a whole number is needed"));
+        all_misused("kuhn", word, "1", &format!("SEATS is '{word}', and a whole number from 0 is needed"));
+        parts_misused("kuhn", "2", word, &format!("D is '{word}', and a whole number from 0 is needed"));
     }
     let seat = run_line("reply kuhn 2 1 samples/always-pass.txt -1");
-    assert_eq!(seat, misused("reply", "SEAT is '-1', and a whole number is needed"));
+    assert_eq!(seat, misused("reply", "SEAT is '-1', and a whole number from 0 is needed"));
 }
 
 #[test]
@@ -128,9 +131,9 @@ fn command_lines_that_say_too_little_or_too_much_are_bad_use() {
         out: String::new(),
         err: format!("chukkanalli: {sentence}\nchukkanalli: `chukkanalli --help` says more\n"),
     };
-    assert_eq!(run_line(""), all(format!("a command is missing: {names}")));
-    assert_eq!(run_line("solve kuhn 2 1"), all(format!("'solve' is no command: {names}")));
-    assert_eq!(run([""]), all(format!("'' is no command: {names}")));
+    assert_eq!(run_line(""), all(format!("a command is missing; there are {names}")));
+    assert_eq!(run_line("solve kuhn 2 1"), all(format!("'solve' is no command; there are {names}")));
+    assert_eq!(run([""]), all(format!("'' is no command; there are {names}")));
     assert_eq!(run_line("evaluate kuhn 2 1"), misused("evaluate", "TABLE is missing"));
     assert_eq!(run_line("reply kuhn 2 1 samples/always-pass.txt"), misused("reply", "SEAT is missing"));
     assert_eq!(run_line("f64 kuhn 2"), misused("f64", "PROFILE is missing"));
@@ -138,7 +141,7 @@ fn command_lines_that_say_too_little_or_too_much_are_bad_use() {
     let surplus = run_line("reply kuhn 2 1 samples/always-pass.txt 0 1");
     assert_eq!(surplus, misused("reply", "'1' is one argument too many"));
     let option = run_line("evaluate kuhn 2 1 --fast");
-    assert_eq!(option, misused("evaluate", "'--fast' is no option of it; -- before a file's name makes it one"));
+    assert_eq!(option, misused("evaluate", "there is no option '--fast'; write -- before a file of that name"));
     assert_eq!(run_line("evaluate kuhn 2 1 -- --fast"), refused("--fast: there is no such file"));
     let jobs = run_line("ladder kuhn 2 1 x --jobs -1");
     assert_eq!(jobs, misused("ladder", "--jobs is '-1', and a number from 1 is needed"));
@@ -147,6 +150,8 @@ fn command_lines_that_say_too_little_or_too_much_are_bad_use() {
 #[test]
 fn files_of_the_wrong_length_are_refused_with_7() {
     let has = |count: usize| format!("{LENGTH}: {count} numbers, and Kuhn with 2 seats has 24 entries");
+    let one = format!(":1: {LENGTH}: 1 number, and Kuhn with 2 seats has 24 entries");
+    all_refused(&table("one.txt", "1"), &one);
     all_refused(&table("empty.txt", ""), &format!(": {}", has(0)));
     all_refused("/dev/null", &format!(": {}", has(0)));
     all_refused(&table("mark.txt", "\u{feff}"), &format!(": {}", has(0)));
@@ -223,6 +228,7 @@ fn files_that_are_none_are_told() {
     let odd: [OsString; 5] =
         [b"evaluate".as_slice(), b"kuhn", b"2", b"1", b"a\xffb\n"].map(|arg| OsStr::from_bytes(arg).to_os_string());
     assert_eq!(run(odd), refused("a\u{fffd}b\\n: there is no such file"));
+    all_refused_as("it's \u{202e}a\u{2028}b", r"it's \u{202e}a\u{2028}b: there is no such file");
 }
 
 #[test]

@@ -3,7 +3,8 @@
 mod common;
 
 use common::{program, run, run_line, table, Run};
-use std::process::Stdio;
+use std::os::fd::OwnedFd;
+use std::os::unix::net::UnixStream;
 
 /// A run that goes well and prints this.
 fn prints(text: &str) -> Run {
@@ -23,6 +24,15 @@ seat 1 best value      6               1  1.000000000
 NashConv              12               2  2.000000000
 ";
     assert_eq!(run_line("evaluate kuhn 2 1 samples/always-pass.txt"), prints(text));
+}
+
+#[test]
+fn games_have_their_names_in_any_case_of_letters() {
+    for game in ["kuhn", "Kuhn", "KUHN", "kUHN", "leduc", "Leduc", "LEDUC"] {
+        let plain = run_line(&format!("template {} 2 3", game.to_lowercase()));
+        assert_eq!((plain.status, plain.err.as_str()), (0, ""));
+        assert_eq!(run_line(&format!("template {game} 2 3")), plain);
+    }
 }
 
 #[test]
@@ -142,7 +152,8 @@ not ranked:
 #[test]
 fn ladder_without_a_ranked_table_still_lists_all() {
     let run = run_line("ladder leduc 2 3 nowhere.txt samples/equilibrium.txt");
-    let length = "samples/equilibrium.txt:15: refused with 7: the table's length is not exactly the entry count: \
+    let length =
+        "samples/equilibrium.txt:15: refused with 7: the table's or profile's length is not exactly the entry count: \
                   24 numbers, and Leduc with 2 seats has 2184 entries";
     let missing = "nowhere.txt: there is no such file";
     let text = format!("Leduc with 2 seats, D 3\n\nnot ranked:\n{missing}\n{length}\n");
@@ -299,13 +310,27 @@ fn help_is_there_for_each_and_for_all() {
     assert!(help.out.starts_with("chukkanalli f64 GAME SEATS PROFILE\n"));
 }
 
+/// Runs the words of a line with an output that nobody reads any more.
+fn run_unread(line: &str) -> Run {
+    let (reader, output) = UnixStream::pair().unwrap();
+    drop(reader);
+    program().args(line.split_whitespace()).stdout(OwnedFd::from(output)).output().unwrap().into()
+}
+
 #[test]
 fn a_reader_that_leaves_early_is_no_fault() {
-    let mut child =
-        program().args(["template", "kuhn", "6", "16"]).stdout(Stdio::piped()).stderr(Stdio::piped()).spawn().unwrap();
-    drop(child.stdout.take());
-    let run: Run = child.wait_with_output().unwrap().into();
-    assert_eq!(run, prints(""));
+    for line in ["template kuhn 6 16", "evaluate kuhn 2 1 samples/always-pass.txt", "--help"] {
+        assert_eq!(run_unread(line), prints(""), "{line}");
+    }
+}
+
+#[test]
+fn a_refused_table_is_told_even_if_the_reader_leaves_early() {
+    for command in ["evaluate", "ladder"] {
+        let run = run_unread(&format!("{command} kuhn 2 1 nowhere.txt samples/always-pass.txt"));
+        let err = "chukkanalli: nowhere.txt: there is no such file\n".to_string();
+        assert_eq!(run, Run { status: 1, out: String::new(), err }, "{command}");
+    }
 }
 
 #[test]

@@ -1,9 +1,9 @@
-//! The calls as the archive has them: on any numbers, positions and lengths, with every field of the answer, refused or not. A call has the name
-//! that include/chukkanalli.h gives it, and the header says what it does; a pointer with its length is a slice. [`KuhnPoker`](crate::KuhnPoker),
-//! [`LeducPoker`](crate::LeducPoker) and [`Evaluator`](crate::Evaluator) make these calls.
+//! The calls as the archive has them: on any numbers, positions and lengths, with every field of the answer, refused or not. A call has its name in
+//! include/chukkanalli.h without `chukkanalli_`, and the header says what it does; an answer has its name in crates/; a pointer with its length is a
+//! slice. [`KuhnPoker`](crate::KuhnPoker), [`LeducPoker`](crate::LeducPoker) and [`Evaluator`](crate::Evaluator) make these calls.
 
 use crate::exports;
-use crate::{KuhnPosition, LeducPosition, Payoffs, PerSeat, Refusal};
+use crate::{KuhnPosition, LeducPosition, PerSeat, Refusal};
 
 /// What a start, a deal, a step or a saved-position check answers.
 #[repr(C)]
@@ -25,7 +25,7 @@ pub struct Written<P> {
 /// What a payoff answers: a number for each of `count` seats, 0 past them.
 #[repr(C)]
 #[derive(Clone, Copy, Debug, PartialEq, Eq)]
-pub struct Paid<P> {
+pub struct Payoffs<P> {
     pub refusal: u64,
     pub position: P,
     pub count: u64,
@@ -35,7 +35,7 @@ pub struct Paid<P> {
 /// What the listing answers: the nodes and the sets of the game's tree.
 #[repr(C)]
 #[derive(Clone, Copy, Debug, PartialEq, Eq)]
-pub struct Listed {
+pub struct ListingAnswer {
     pub refusal: u64,
     pub nodes: u64,
     pub sets: u64,
@@ -44,7 +44,7 @@ pub struct Listed {
 /// What the worths answer: a number for each of `count` seats, 0 past them.
 #[repr(C)]
 #[derive(Clone, Copy, Debug, PartialEq, Eq)]
-pub struct Weighed {
+pub struct WorthsAnswer {
     pub refusal: u64,
     pub count: u64,
     pub worths: [i64; 6],
@@ -53,7 +53,7 @@ pub struct Weighed {
 /// What a best reply answers: the seat's best value.
 #[repr(C)]
 #[derive(Clone, Copy, Debug, PartialEq, Eq)]
-pub struct Replied {
+pub struct ReplyAnswer {
     pub refusal: u64,
     pub value: i64,
 }
@@ -61,7 +61,7 @@ pub struct Replied {
 /// What NashConv answers in whole units, with the units to divide by.
 #[repr(C)]
 #[derive(Clone, Copy, Debug, PartialEq, Eq)]
-pub struct Summed {
+pub struct NashConvAnswer {
     pub refusal: u64,
     pub nash_conv: u64,
     pub units: u64,
@@ -70,7 +70,7 @@ pub struct Summed {
 /// What a call in f64 answers: `count` values, 0.0 past them.
 #[repr(C)]
 #[derive(Clone, Copy, Debug, PartialEq)]
-pub struct Valued {
+pub struct ValuesAnswer {
     pub refusal: u64,
     pub count: u64,
     pub values: [f64; 6],
@@ -115,7 +115,7 @@ pub fn kuhn_information_state_key(
 }
 
 /// Refuses with 2, 19, 20.
-pub fn kuhn_payouts(seats: u64, position: KuhnPosition) -> Paid<KuhnPosition> {
+pub fn kuhn_payouts(seats: u64, position: KuhnPosition) -> Payoffs<KuhnPosition> {
     unsafe { exports::chukkanalli_kuhn_payouts(seats, position) }
 }
 
@@ -150,7 +150,7 @@ pub fn leduc_information_state_key(position: LeducPosition, seat: u64, out: &mut
 }
 
 /// Refuses with 19, 20.
-pub fn leduc_payouts(position: LeducPosition) -> Paid<LeducPosition> {
+pub fn leduc_payouts(position: LeducPosition) -> Payoffs<LeducPosition> {
     unsafe { exports::chukkanalli_leduc_payouts(position) }
 }
 
@@ -160,19 +160,27 @@ pub fn leduc_validate_decoded_state(position: LeducPosition, done: u64) -> Moved
 }
 
 /// Writes a game's sets to an output. Refuses with 1, 2, 3, 4, 9.
-pub fn enumerate_infosets(game: u64, seats: u64, work: &[u64], out: &mut [u8]) -> Listed {
+pub fn enumerate_infosets(game: u64, seats: u64, work: &[u64], out: &mut [u8]) -> ListingAnswer {
     let (to, room) = (out.as_mut_ptr(), out.len());
     unsafe { exports::chukkanalli_enumerate_infosets(game, seats, work.as_ptr(), work.len(), to, room) }
 }
 
 /// Refuses with 1, 2, 3, 4, 6, 7, 8.
-pub fn worths(game: u64, seats: u64, work: &mut [u64], d: u64, table: &[u8]) -> Weighed {
+pub fn worths(game: u64, seats: u64, work: &mut [u64], d: u64, table: &[u8]) -> WorthsAnswer {
     let (work, words) = (work.as_mut_ptr(), work.len());
     unsafe { exports::chukkanalli_worths(game, seats, work, words, d, table.as_ptr(), table.len()) }
 }
 
 /// Writes the reply to an output. Refuses with 1 to 9.
-pub fn best_reply(game: u64, seats: u64, work: &mut [u64], seat: u64, d: u64, table: &[u8], out: &mut [u8]) -> Replied {
+pub fn best_reply(
+    game: u64,
+    seats: u64,
+    work: &mut [u64],
+    seat: u64,
+    d: u64,
+    table: &[u8],
+    out: &mut [u8],
+) -> ReplyAnswer {
     let (work, words) = (work.as_mut_ptr(), work.len());
     let (from, length) = (table.as_ptr(), table.len());
     let (to, room) = (out.as_mut_ptr(), out.len());
@@ -180,38 +188,38 @@ pub fn best_reply(game: u64, seats: u64, work: &mut [u64], seat: u64, d: u64, ta
 }
 
 /// Refuses with 1, 2, 3, 4, 6, 7, 8.
-pub fn nash_conv_units(game: u64, seats: u64, work: &mut [u64], d: u64, table: &[u8]) -> Summed {
+pub fn nash_conv_units(game: u64, seats: u64, work: &mut [u64], d: u64, table: &[u8]) -> NashConvAnswer {
     let (work, words) = (work.as_mut_ptr(), work.len());
     unsafe { exports::chukkanalli_nash_conv_units(game, seats, work, words, d, table.as_ptr(), table.len()) }
 }
 
 /// Refuses with 1, 2, 3, 4, 5, 7.
-pub fn best_response_value(game: u64, seats: u64, work: &mut [u64], seat: u64, profile: &[f64]) -> Valued {
+pub fn best_response_value(game: u64, seats: u64, work: &mut [u64], seat: u64, profile: &[f64]) -> ValuesAnswer {
     let (work, words) = (work.as_mut_ptr(), work.len());
     let (from, length) = (profile.as_ptr(), profile.len());
     unsafe { exports::chukkanalli_best_response_value(game, seats, work, words, seat, from, length) }
 }
 
 /// Refuses with 1, 2, 3, 4, 7.
-pub fn best_response_values(game: u64, seats: u64, work: &mut [u64], profile: &[f64]) -> Valued {
+pub fn best_response_values(game: u64, seats: u64, work: &mut [u64], profile: &[f64]) -> ValuesAnswer {
     let (work, words) = (work.as_mut_ptr(), work.len());
     unsafe { exports::chukkanalli_best_response_values(game, seats, work, words, profile.as_ptr(), profile.len()) }
 }
 
 /// Refuses with 1, 2, 3, 4, 7.
-pub fn profile_values(game: u64, seats: u64, work: &mut [u64], profile: &[f64]) -> Valued {
+pub fn profile_values(game: u64, seats: u64, work: &mut [u64], profile: &[f64]) -> ValuesAnswer {
     let (work, words) = (work.as_mut_ptr(), work.len());
     unsafe { exports::chukkanalli_profile_values(game, seats, work, words, profile.as_ptr(), profile.len()) }
 }
 
 /// Refuses with 1, 2, 3, 4, 7.
-pub fn nash_conv(game: u64, seats: u64, work: &mut [u64], profile: &[f64]) -> Valued {
+pub fn nash_conv(game: u64, seats: u64, work: &mut [u64], profile: &[f64]) -> ValuesAnswer {
     let (work, words) = (work.as_mut_ptr(), work.len());
     unsafe { exports::chukkanalli_nash_conv(game, seats, work, words, profile.as_ptr(), profile.len()) }
 }
 
 /// Refuses with 1, 2, 3, 4, 7.
-pub fn exploitability(game: u64, seats: u64, work: &mut [u64], profile: &[f64]) -> Valued {
+pub fn exploitability(game: u64, seats: u64, work: &mut [u64], profile: &[f64]) -> ValuesAnswer {
     let (work, words) = (work.as_mut_ptr(), work.len());
     unsafe { exports::chukkanalli_exploitability(game, seats, work, words, profile.as_ptr(), profile.len()) }
 }
@@ -234,6 +242,6 @@ pub(crate) fn written<P>(answer: Written<P>, out: &[u8]) -> Result<&[u8], Refusa
     accepted(answer.refusal).map(|()| &out[..answer.count as usize])
 }
 
-pub(crate) fn paid<P>(answer: Paid<P>) -> Result<Payoffs, Refusal> {
+pub(crate) fn payoffs<P>(answer: Payoffs<P>) -> Result<crate::Payoffs, Refusal> {
     accepted(answer.refusal).map(|()| PerSeat::new(answer.count, answer.payoffs))
 }

@@ -38,24 +38,13 @@ pub struct NashConv {
     pub units: u64,
 }
 
-impl Game {
-    /// The game of document 01's number, with so many seats. Refuses with 1, 2.
-    pub fn by_number(number: u64, seats: u64) -> Result<Game, Refusal> {
-        match list(number, seats, &[], &mut []) {
-            Err(refusal @ (Refusal::Game | Refusal::Seats)) => Err(refusal),
-            _ if number == Game::Leduc.number() => Ok(Game::Leduc),
-            _ => Ok(Game::Kuhn { seats }),
-        }
-    }
-}
-
 impl Evaluator {
     /// Takes the work memory of a game. Refuses with 2, 3, and with 4 where there is no memory to be had.
     pub fn new(game: Game) -> Result<Self, Refusal> {
         let none = Counts { nodes: 0, sets: 0, entries: 0 };
         let counts = game.counts().unwrap_or(none);
         let work = zeroed(WORDS * counts.nodes);
-        match list(game.number(), game.seats(), &work, &mut []) {
+        match list(game, &work, &mut []) {
             Ok(()) | Err(Refusal::Output) => Ok(Evaluator { game, counts, work }),
             Err(refusal) => Err(refusal),
         }
@@ -72,7 +61,7 @@ impl Evaluator {
     /// The game's information sets, in the order in which a table has them.
     pub fn sets(&self) -> Vec<InfoSet> {
         let mut out = vec![0; RECORD * self.counts.sets];
-        let listed = list(self.game.number(), self.game.seats(), &self.work, &mut out);
+        let listed = list(self.game, &self.work, &mut out);
         listed.expect("the work memory and the output have the lengths that the listing asks for");
         let mut next_entry = 0;
         let mut sets = Vec::with_capacity(self.counts.sets);
@@ -112,8 +101,8 @@ impl Evaluator {
 }
 
 /// The listing of a game's sets into an output.
-fn list(game: u64, seats: u64, work: &[u64], out: &mut [u8]) -> Result<(), Refusal> {
-    accepted(archive::enumerate_infosets(game, seats, work, out).refusal)
+fn list(game: Game, work: &[u64], out: &mut [u8]) -> Result<(), Refusal> {
+    accepted(archive::enumerate_infosets(game.number(), game.seats(), work, out).refusal)
 }
 
 /// The legal actions at a set's first node.
@@ -133,7 +122,8 @@ fn legal_of(game: Game, set: &InfoSet) -> Vec<u8> {
     legal.expect("a listed set's first node can be reached").to_vec()
 }
 
-/// So many words, all 0; none where there is no memory for them, and calls then refuse with 4.
+/// So many words, all 0; none where there is no memory for them, and calls then refuse with 4. By `alloc_zeroed`: `vec!` would end the
+/// program, and to fill what was reserved would touch every page, while a page that nothing touches costs nothing.
 fn zeroed(words: usize) -> Vec<u64> {
     let layout = match Layout::array::<u64>(words) {
         Ok(layout) if words > 0 => layout,

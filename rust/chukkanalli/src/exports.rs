@@ -1,6 +1,6 @@
 //! The calls of libchukkanalli.a, as include/chukkanalli.h declares them. Nothing checks these lines against it: the tests run them.
 
-use crate::archive::{Listed, Moved, Paid, Replied, Summed, Valued, Weighed, Written};
+use crate::archive::{ListingAnswer, Moved, NashConvAnswer, Payoffs, ReplyAnswer, ValuesAnswer, WorthsAnswer, Written};
 use crate::{KuhnPosition, LeducPosition};
 
 extern "C" {
@@ -22,7 +22,7 @@ extern "C" {
         out: *mut u8,
         out_len: usize,
     ) -> Written<KuhnPosition>;
-    pub fn chukkanalli_kuhn_payouts(seats: u64, position: KuhnPosition) -> Paid<KuhnPosition>;
+    pub fn chukkanalli_kuhn_payouts(seats: u64, position: KuhnPosition) -> Payoffs<KuhnPosition>;
     pub fn chukkanalli_kuhn_validate_decoded_state(
         seats: u64,
         position: KuhnPosition,
@@ -44,7 +44,7 @@ extern "C" {
         out: *mut u8,
         out_len: usize,
     ) -> Written<LeducPosition>;
-    pub fn chukkanalli_leduc_payouts(position: LeducPosition) -> Paid<LeducPosition>;
+    pub fn chukkanalli_leduc_payouts(position: LeducPosition) -> Payoffs<LeducPosition>;
     pub fn chukkanalli_leduc_validate_decoded_state(position: LeducPosition, done: u64) -> Moved<LeducPosition>;
 
     pub fn chukkanalli_enumerate_infosets(
@@ -54,7 +54,7 @@ extern "C" {
         work_len: usize,
         out: *mut u8,
         out_len: usize,
-    ) -> Listed;
+    ) -> ListingAnswer;
 
     pub fn chukkanalli_worths(
         game: u64,
@@ -64,7 +64,7 @@ extern "C" {
         d: u64,
         table: *const u8,
         table_len: usize,
-    ) -> Weighed;
+    ) -> WorthsAnswer;
     pub fn chukkanalli_best_reply(
         game: u64,
         seats: u64,
@@ -76,7 +76,7 @@ extern "C" {
         table_len: usize,
         out: *mut u8,
         out_len: usize,
-    ) -> Replied;
+    ) -> ReplyAnswer;
     pub fn chukkanalli_nash_conv_units(
         game: u64,
         seats: u64,
@@ -85,7 +85,7 @@ extern "C" {
         d: u64,
         table: *const u8,
         table_len: usize,
-    ) -> Summed;
+    ) -> NashConvAnswer;
 
     pub fn chukkanalli_best_response_value(
         game: u64,
@@ -95,7 +95,7 @@ extern "C" {
         seat: u64,
         profile: *const f64,
         profile_len: usize,
-    ) -> Valued;
+    ) -> ValuesAnswer;
     pub fn chukkanalli_best_response_values(
         game: u64,
         seats: u64,
@@ -103,7 +103,7 @@ extern "C" {
         work_len: usize,
         profile: *const f64,
         profile_len: usize,
-    ) -> Valued;
+    ) -> ValuesAnswer;
     pub fn chukkanalli_profile_values(
         game: u64,
         seats: u64,
@@ -111,7 +111,7 @@ extern "C" {
         work_len: usize,
         profile: *const f64,
         profile_len: usize,
-    ) -> Valued;
+    ) -> ValuesAnswer;
     pub fn chukkanalli_nash_conv(
         game: u64,
         seats: u64,
@@ -119,7 +119,7 @@ extern "C" {
         work_len: usize,
         profile: *const f64,
         profile_len: usize,
-    ) -> Valued;
+    ) -> ValuesAnswer;
     pub fn chukkanalli_exploitability(
         game: u64,
         seats: u64,
@@ -127,5 +127,5 @@ extern "C" {
         work_len: usize,
         profile: *const f64,
         profile_len: usize,
-    ) -> Valued;
+    ) -> ValuesAnswer;
 }

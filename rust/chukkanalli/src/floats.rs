@@ -1,10 +1,10 @@
 //! The values of profiles in f64, rounded in the order that document 01 says.
 
-use crate::archive::{self, accepted, Valued};
+use crate::archive::{self, accepted, ValuesAnswer};
 use crate::{Evaluator, PerSeat, Refusal, Values};
 
 /// A call that is handed no seat.
-type ProfileCall = fn(u64, u64, &mut [u64], &[f64]) -> Valued;
+type ProfileCall = fn(u64, u64, &mut [u64], &[f64]) -> ValuesAnswer;
 
 impl Evaluator {
     /// The best response value of a seat. Refuses with 5, 7.
@@ -33,17 +33,17 @@ impl Evaluator {
         one(self.valued(archive::exploitability, profile))
     }
 
-    fn valued(&mut self, call: ProfileCall, profile: &[f64]) -> Valued {
+    fn valued(&mut self, call: ProfileCall, profile: &[f64]) -> ValuesAnswer {
         let (game, seats) = (self.game().number(), self.game().seats());
         call(game, seats, &mut self.work, profile)
     }
 }
 
-fn one(answer: Valued) -> Result<f64, Refusal> {
+fn one(answer: ValuesAnswer) -> Result<f64, Refusal> {
     accepted(answer.refusal).map(|()| answer.values[0])
 }
 
-fn each(answer: Valued) -> Result<Values, Refusal> {
+fn each(answer: ValuesAnswer) -> Result<Values, Refusal> {
     accepted(answer.refusal).map(|()| PerSeat::new(answer.count, answer.values))
 }
 
@@ -59,7 +59,7 @@ mod tests {
     type Lent = (u64, u64, usize, u64, usize);
 
     /// The five answers to a profile of halves, that of a seat first; the words that no call may touch are checked.
-    fn answers((game, seats, words, seat, entries): Lent, kept: usize) -> Vec<Valued> {
+    fn answers((game, seats, words, seat, entries): Lent, kept: usize) -> Vec<ValuesAnswer> {
         let mut work = vec![9; words];
         let profile = vec![0.5; entries];
         let mut answers = vec![archive::best_response_value(game, seats, &mut work, seat, &profile)];
@@ -69,7 +69,7 @@ mod tests {
     }
 
     /// Whether all is 0, to the bit, but the refusal.
-    fn is_refused(answer: &Valued, refusal: Refusal) -> bool {
+    fn is_refused(answer: &ValuesAnswer, refusal: Refusal) -> bool {
         let zeros = answer.values.iter().all(|value| value.to_bits() == 0);
         answer.refusal == refusal.number() && answer.count == 0 && zeros
     }

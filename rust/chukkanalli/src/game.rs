@@ -1,6 +1,7 @@
 //! The two games, and the counts of their trees.
 
-use crate::{KuhnPoker, LeducPoker};
+use crate::archive::{self, accepted};
+use crate::{KuhnPoker, LeducPoker, Refusal};
 
 /// A game with its seats.
 #[derive(Clone, Copy, Debug, PartialEq, Eq, Hash)]
@@ -20,6 +21,15 @@ pub struct Counts {
 }
 
 impl Game {
+    /// The game of document 01's number, with so many seats. Refuses with 1, 2.
+    pub fn by_number(number: u64, seats: u64) -> Result<Game, Refusal> {
+        match accepted(archive::enumerate_infosets(number, seats, &[], &mut []).refusal) {
+            Err(refusal @ (Refusal::Game | Refusal::Seats)) => Err(refusal),
+            _ if number == Game::Leduc.number() => Ok(Game::Leduc),
+            _ => Ok(Game::Kuhn { seats }),
+        }
+    }
+
     /// The game's number in document 01.
     pub fn number(self) -> u64 {
         match self {

@@ -34,7 +34,6 @@ impl InfoSet {
     }
 
     /// The set of a listed record, without its legal actions.
-    #[cfg_attr(not(feature = "archive"), allow(dead_code))]
     pub(crate) fn of_record(game: Game, record: &[u8], first_entry: usize) -> Self {
         let key = &record[2..][..usize::from(record[1])];
         let (public_card, rounds) = match game {

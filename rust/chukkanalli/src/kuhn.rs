@@ -1,5 +1,8 @@
 //! Kuhn poker: its positions, and the rules calls on them.
 
+use crate::archive::{self, accepted, moved, payoffs, written};
+use crate::{Payoffs, Refusal};
+
 /// Kuhn poker for so many seats. Any count may stand here; calls refuse those outside 2 to 10.
 #[derive(Clone, Copy, Debug, PartialEq, Eq, Hash)]
 pub struct KuhnPoker {
@@ -56,58 +59,46 @@ pub(crate) fn front(places: &[u8], length: u64) -> &[u8] {
     &places[..length.min(places.len() as u64) as usize]
 }
 
-#[cfg(feature = "archive")]
-mod calls {
-    use super::{KuhnPoker, KuhnPosition};
-    use crate::archive::{self, accepted, moved, paid, written};
-    use crate::{Payoffs, Refusal};
+impl KuhnPoker {
+    /// Refuses a seat count with 2.
+    pub fn validate(self) -> Result<(), Refusal> {
+        accepted(archive::kuhn_validate(self.seats))
+    }
 
-    impl KuhnPoker {
-        /// Refuses a seat count with 2.
-        pub fn validate(self) -> Result<(), Refusal> {
-            accepted(archive::kuhn_validate(self.seats))
-        }
+    /// The start: no card dealt, no action made. Refuses with 2.
+    pub fn initial_state(self) -> Result<KuhnPosition, Refusal> {
+        moved(archive::kuhn_initial_state(self.seats))
+    }
 
-        /// The start: no card dealt, no action made. Refuses with 2.
-        pub fn initial_state(self) -> Result<KuhnPosition, Refusal> {
-            moved(archive::kuhn_initial_state(self.seats))
-        }
+    /// The legal actions of a seat, written to the front of an output; none for a seat whose turn it is not, while a card is due and
+    /// after the end. Refuses with 2, 19, 9.
+    pub fn legal_actions(self, position: KuhnPosition, seat: u64, out: &mut [u8]) -> Result<&[u8], Refusal> {
+        written(archive::kuhn_legal_actions(self.seats, position, seat, out), out)
+    }
 
-        /// The legal actions of a seat, written to the front of an output; none for a seat whose turn it is not, while a card is due and
-        /// after the end. Refuses with 2, 19, 9.
-        pub fn legal_actions(self, position: KuhnPosition, seat: u64, out: &mut [u8]) -> Result<&[u8], Refusal> {
-            written(archive::kuhn_legal_actions(self.seats, position, seat, out), out)
-        }
+    /// The next seat gets the card of an outcome, which counts those left from the lowest. Refuses with 2, 19, 20.
+    pub fn apply_chance_node(self, position: KuhnPosition, outcome: u64) -> Result<KuhnPosition, Refusal> {
+        moved(archive::kuhn_apply_chance_node(self.seats, position, outcome))
+    }
 
-        /// The next seat gets the card of an outcome, which counts those left from the lowest. Refuses with 2, 19, 20.
-        pub fn apply_chance_node(self, position: KuhnPosition, outcome: u64) -> Result<KuhnPosition, Refusal> {
-            moved(archive::kuhn_apply_chance_node(self.seats, position, outcome))
-        }
+    /// The seat whose turn it is acts; every action above 1 counts as BET. Refuses with 2, 19, 20.
+    pub fn step(self, position: KuhnPosition, action: u64) -> Result<KuhnPosition, Refusal> {
+        moved(archive::kuhn_step(self.seats, position, action))
+    }
 
-        /// The seat whose turn it is acts; every action above 1 counts as BET. Refuses with 2, 19, 20.
-        pub fn step(self, position: KuhnPosition, action: u64) -> Result<KuhnPosition, Refusal> {
-            moved(archive::kuhn_step(self.seats, position, action))
-        }
+    /// The key of a seat that has a card, written to the front of an output: seat, card, history. Refuses with 2, 19, 20, 9.
+    pub fn information_state_key(self, position: KuhnPosition, seat: u64, out: &mut [u8]) -> Result<&[u8], Refusal> {
+        written(archive::kuhn_information_state_key(self.seats, position, seat, out), out)
+    }
 
-        /// The key of a seat that has a card, written to the front of an output: seat, card, history. Refuses with 2, 19, 20, 9.
-        pub fn information_state_key(
-            self,
-            position: KuhnPosition,
-            seat: u64,
-            out: &mut [u8],
-        ) -> Result<&[u8], Refusal> {
-            written(archive::kuhn_information_state_key(self.seats, position, seat, out), out)
-        }
+    /// What each seat gains at the end of a hand. Refuses with 2, 19, 20.
+    pub fn payouts(self, position: KuhnPosition) -> Result<Payoffs, Refusal> {
+        payoffs(archive::kuhn_payouts(self.seats, position))
+    }
 
-        /// What each seat gains at the end of a hand. Refuses with 2, 19, 20.
-        pub fn payouts(self, position: KuhnPosition) -> Result<Payoffs, Refusal> {
-            paid(archive::kuhn_payouts(self.seats, position))
-        }
-
-        /// Checks a saved position with its end mark, 0 for a live hand and 1 for one that has ended. Refuses with 2, 10 to 14, 18.
-        pub fn validate_decoded_state(self, position: KuhnPosition, done: u64) -> Result<(), Refusal> {
-            moved(archive::kuhn_validate_decoded_state(self.seats, position, done)).map(drop)
-        }
+    /// Checks a saved position with its end mark, 0 for a live hand and 1 for one that has ended. Refuses with 2, 10 to 14, 18.
+    pub fn validate_decoded_state(self, position: KuhnPosition, done: u64) -> Result<(), Refusal> {
+        moved(archive::kuhn_validate_decoded_state(self.seats, position, done)).map(drop)
     }
 }
 

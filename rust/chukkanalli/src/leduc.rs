@@ -1,6 +1,8 @@
 //! Leduc hold'em: its positions, and the rules calls on them.
 
+use crate::archive::{self, moved, payoffs, written};
 use crate::kuhn::{fill, front};
+use crate::{Payoffs, Refusal};
 
 /// Leduc hold'em, for two seats.
 #[derive(Clone, Copy, Debug, PartialEq, Eq, Hash)]
@@ -63,50 +65,43 @@ impl LeducPosition {
     }
 }
 
-#[cfg(feature = "archive")]
-mod calls {
-    use super::{LeducPoker, LeducPosition};
-    use crate::archive::{self, moved, paid, written};
-    use crate::{Payoffs, Refusal};
+impl LeducPoker {
+    /// The start: no card dealt, no action made.
+    pub fn initial_state() -> LeducPosition {
+        archive::leduc_initial_state().position
+    }
 
-    impl LeducPoker {
-        /// The start: no card dealt, no action made.
-        pub fn initial_state() -> LeducPosition {
-            archive::leduc_initial_state().position
-        }
+    /// The legal actions of a seat, written to the front of an output; none for a seat whose turn it is not, while a card is due and
+    /// after the end. Refuses with 19, 9.
+    pub fn legal_actions(position: LeducPosition, seat: u64, out: &mut [u8]) -> Result<&[u8], Refusal> {
+        written(archive::leduc_legal_actions(position, seat, out), out)
+    }
 
-        /// The legal actions of a seat, written to the front of an output; none for a seat whose turn it is not, while a card is due and
-        /// after the end. Refuses with 19, 9.
-        pub fn legal_actions(position: LeducPosition, seat: u64, out: &mut [u8]) -> Result<&[u8], Refusal> {
-            written(archive::leduc_legal_actions(position, seat, out), out)
-        }
+    /// Deals a seat's card, or the public card once round 1 has closed; an outcome counts the cards left from the lowest. Refuses with
+    /// 19, 20.
+    pub fn apply_chance_node(position: LeducPosition, outcome: u64) -> Result<LeducPosition, Refusal> {
+        moved(archive::leduc_apply_chance_node(position, outcome))
+    }
 
-        /// Deals a seat's card, or the public card once round 1 has closed; an outcome counts the cards left from the lowest. Refuses with
-        /// 19, 20.
-        pub fn apply_chance_node(position: LeducPosition, outcome: u64) -> Result<LeducPosition, Refusal> {
-            moved(archive::leduc_apply_chance_node(position, outcome))
-        }
+    /// The seat whose turn it is acts; an illegal action becomes FOLD if that is legal, else CALL. Refuses with 19, 20.
+    pub fn step(position: LeducPosition, action: u64) -> Result<LeducPosition, Refusal> {
+        moved(archive::leduc_step(position, action))
+    }
 
-        /// The seat whose turn it is acts; an illegal action becomes FOLD if that is legal, else CALL. Refuses with 19, 20.
-        pub fn step(position: LeducPosition, action: u64) -> Result<LeducPosition, Refusal> {
-            moved(archive::leduc_step(position, action))
-        }
+    /// The key of a seat that has a card, written to the front of an output: seat, card, public card or 255, then each round's length
+    /// and actions. Refuses with 19, 20, 9.
+    pub fn information_state_key(position: LeducPosition, seat: u64, out: &mut [u8]) -> Result<&[u8], Refusal> {
+        written(archive::leduc_information_state_key(position, seat, out), out)
+    }
 
-        /// The key of a seat that has a card, written to the front of an output: seat, card, public card or 255, then each round's length
-        /// and actions. Refuses with 19, 20, 9.
-        pub fn information_state_key(position: LeducPosition, seat: u64, out: &mut [u8]) -> Result<&[u8], Refusal> {
-            written(archive::leduc_information_state_key(position, seat, out), out)
-        }
+    /// What each seat gains at the end of a hand. Refuses with 19, 20.
+    pub fn payouts(position: LeducPosition) -> Result<Payoffs, Refusal> {
+        payoffs(archive::leduc_payouts(position))
+    }
 
-        /// What each seat gains at the end of a hand. Refuses with 19, 20.
-        pub fn payouts(position: LeducPosition) -> Result<Payoffs, Refusal> {
-            paid(archive::leduc_payouts(position))
-        }
-
-        /// Checks a saved position with its end mark, 0 for a live hand and 1 for one that has ended. Refuses with 10 to 18.
-        pub fn validate_decoded_state(position: LeducPosition, done: u64) -> Result<(), Refusal> {
-            moved(archive::leduc_validate_decoded_state(position, done)).map(drop)
-        }
+    /// Checks a saved position with its end mark, 0 for a live hand and 1 for one that has ended. Refuses with 10 to 18.
+    pub fn validate_decoded_state(position: LeducPosition, done: u64) -> Result<(), Refusal> {
+        moved(archive::leduc_validate_decoded_state(position, done)).map(drop)
     }
 }
 

@@ -26,6 +26,10 @@
 //! # Ok::<(), Refusal>(())
 //! ```
 
+pub mod archive;
+mod evaluator;
+mod exports;
+mod floats;
 mod game;
 mod info_set;
 mod kuhn;
@@ -33,16 +37,6 @@ mod leduc;
 mod per_seat;
 mod refusal;
 
-#[cfg(feature = "archive")]
-pub mod archive;
-#[cfg(feature = "archive")]
-mod evaluator;
-#[cfg(feature = "archive")]
-mod exports;
-#[cfg(feature = "archive")]
-mod floats;
-
-#[cfg(feature = "archive")]
 pub use evaluator::{BestReply, Evaluator, NashConv};
 pub use game::{Counts, Game};
 pub use info_set::{InfoSet, RECORD};

@@ -20,7 +20,6 @@ pub type Payoffs = PerSeat<i64, 10>;
 pub type Values = PerSeat<f64, 6>;
 
 impl<T, const N: usize> PerSeat<T, N> {
-    #[cfg(feature = "archive")]
     pub(crate) fn new(count: u64, numbers: [T; N]) -> Self {
         PerSeat { seats: count as usize, numbers }
     }

@@ -73,7 +73,7 @@ impl Refusal {
             Refusal::Memory => "the work memory has fewer than 12 words of 64 bits per node of the tree",
             Refusal::Seat => "the seat is not below the seat count",
             Refusal::Parts => "D, the parts per set, is 0, or above 64 (Leduc, Kuhn 2 to 4) or above 16 (Kuhn 5 and 6)",
-            Refusal::Table => "the table's length is not exactly the entry count",
+            Refusal::Table => "the table's or profile's length is not exactly the entry count",
             Refusal::Sum => "in some set the parts do not add up to D",
             Refusal::Output => "an output is shorter than its answer",
             Refusal::CardCount => "a saved position does not hold one card per seat",

@@ -4,8 +4,7 @@ use std::path::PathBuf;
 
 use chukkanalli::{Evaluator, Game, NashConv, Refusal, Worths};
 
-use super::batch::Batch;
-use super::{game, Stop, DONE, REFUSED};
+use super::{batch, game, Stop, DONE, REFUSED};
 use crate::args::{Setting, Verb};
 use crate::console::Console;
 use crate::figures::Figures;
@@ -22,10 +21,12 @@ pub fn run(setting: &Setting, tables: &[PathBuf], jobs: Option<u64>, console: &m
     let (game, d) = (first.game(), setting.d.value);
     let evaluators = game::one_a_thread(first, jobs, tables.len());
     let mut gap = "";
-    let refused = Batch { tables, d, calls: 2 + game.seats() as usize }.evaluate(
+    let refused = batch::evaluated(
+        tables,
+        d,
         evaluators,
         console,
-        |evaluator, parts, made| evaluate(evaluator, d, parts, made),
+        |evaluator, parts| evaluate(evaluator, d, parts),
         |console, name, evaluation| {
             console.print(&format!("{gap}{}", block(&name, game, d, &evaluation)))?;
             gap = "\n";
@@ -35,17 +36,14 @@ pub fn run(setting: &Setting, tables: &[PathBuf], jobs: Option<u64>, console: &m
     Ok(if refused.is_empty() { DONE } else { REFUSED })
 }
 
-fn evaluate(evaluator: &mut Evaluator, d: u64, parts: &[u8], made: &mut dyn FnMut()) -> Result<Evaluation, Refusal> {
+fn evaluate(evaluator: &mut Evaluator, d: u64, parts: &[u8]) -> Result<Evaluation, Refusal> {
     let worths = evaluator.worths(d, parts)?;
-    made();
     let mut best = Vec::new();
     let mut reply = vec![0; parts.len()];
     for seat in 0..evaluator.game().seats() {
         best.push(evaluator.best_reply_into(seat, d, parts, &mut reply)?);
-        made();
     }
     let conv = evaluator.nash_conv_units(d, parts)?;
-    made();
     Ok(Evaluation { worths, best, conv })
 }
 

@@ -4,15 +4,11 @@ use std::path::Path;
 
 use chukkanalli::{Evaluator, Game, Refusal, Values};
 
-use super::{game, table, Stop, DONE, REFUSED};
+use super::{game, report, table, Stop};
 use crate::args::{Asked, Verb};
 use crate::columns::{self, Side};
 use crate::console::Console;
-use crate::reader::file_name;
-use crate::words::game_words;
-
-/// The calls that are made.
-const CALLS: usize = 4;
+use crate::words::{file_name, game_words};
 
 struct Evaluation {
     best: Values,
@@ -24,30 +20,15 @@ struct Evaluation {
 pub fn run(asked: &Asked, path: &Path, console: &mut Console) -> Result<u8, Stop> {
     let mut evaluator = game::evaluator(Verb::F64, asked)?;
     let name = file_name(path);
-    console.expect_calls(CALLS);
-    let outcome = table::valued(path, &mut evaluator, |evaluator, profile| evaluate(evaluator, profile, console));
-    console.end_calls();
-    match outcome {
-        Ok(evaluation) => {
-            console.print(&text(&name, evaluator.game(), &evaluation))?;
-            Ok(DONE)
-        }
-        Err(fault) => {
-            console.complain(fault.at(&name));
-            Ok(REFUSED)
-        }
-    }
+    let evaluation = table::valued(path, &mut evaluator, evaluate);
+    report(&name, evaluation.map(|evaluation| text(&name, evaluator.game(), &evaluation)), console)
 }
 
-fn evaluate(evaluator: &mut Evaluator, profile: &[f64], console: &mut Console) -> Result<Evaluation, Refusal> {
+fn evaluate(evaluator: &mut Evaluator, profile: &[f64]) -> Result<Evaluation, Refusal> {
     let best = evaluator.best_response_values(profile)?;
-    console.count_calls(1);
     let worths = evaluator.profile_values(profile)?;
-    console.count_calls(1);
     let nash_conv = evaluator.nash_conv(profile)?;
-    console.count_calls(1);
     let exploitability = evaluator.exploitability(profile)?;
-    console.count_calls(1);
     Ok(Evaluation { best, worths, nash_conv, exploitability })
 }
 

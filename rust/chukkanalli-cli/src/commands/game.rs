@@ -1,27 +1,28 @@
 //! GAME SEATS and D: every refusal of them comes from the proved calls.
 
+use std::fmt::Display;
 use std::thread;
 
 use chukkanalli::{Evaluator, Game, Refusal};
 
 use super::Stop;
 use crate::args::{Asked, Misuse, Number, Setting, Verb};
-use crate::reader::quoted;
+use crate::words::{game_word, quoted};
 
 /// The threads at most, whatever is asked for: each takes memory of its own.
 const MOST_THREADS: usize = 256;
 
-/// The number that a game's name stands for; that of no game for any other name.
+/// The games that a name may stand for; the seats come later.
+const GAMES: [Game; 2] = [Game::Kuhn { seats: 0 }, Game::Leduc];
+
+/// The number that a game's name stands for, in any case of letters; that of no game for any other name.
 fn number_of(name: &str) -> u64 {
-    match name {
-        "kuhn" => Game::Kuhn { seats: 0 }.number(),
-        "leduc" => Game::Leduc.number(),
-        _ => u64::MAX,
-    }
+    let named = GAMES.into_iter().find(|&game| name.eq_ignore_ascii_case(game.name()));
+    named.map_or(u64::MAX, Game::number)
 }
 
 /// What is said of a word of the command line that is refused.
-fn refused(verb: Verb, name: &str, word: &str, refusal: Refusal) -> Stop {
+fn refused(verb: Verb, name: &str, word: &str, refusal: impl Display) -> Stop {
     Stop::Misuse(Misuse::of(verb, format!("{name} is {}: {refusal}", quoted(word))))
 }
 
@@ -29,7 +30,9 @@ fn refused(verb: Verb, name: &str, word: &str, refusal: Refusal) -> Stop {
 pub fn evaluator(verb: Verb, asked: &Asked) -> Result<Evaluator, Stop> {
     let seats = &asked.seats;
     let game = Game::by_number(number_of(&asked.game), seats.value).map_err(|refusal| match refusal {
-        Refusal::Game => refused(verb, "GAME", &asked.game, refusal),
+        Refusal::Game => {
+            refused(verb, "GAME", &asked.game, format!("{refusal}; write {}", GAMES.map(game_word).join(" or ")))
+        }
         _ => refused(verb, "SEATS", &seats.word, refusal),
     })?;
     Evaluator::new(game).map_err(|refusal| match refusal {

@@ -4,8 +4,7 @@ use std::path::PathBuf;
 
 use chukkanalli::{Game, NashConv};
 
-use super::batch::Batch;
-use super::{game, Stop, DONE, REFUSED};
+use super::{batch, game, Stop, DONE, REFUSED};
 use crate::args::{Setting, Verb};
 use crate::columns::{self, Side};
 use crate::console::Console;
@@ -18,10 +17,12 @@ pub fn run(setting: &Setting, tables: &[PathBuf], jobs: Option<u64>, console: &m
     let (game, d) = (first.game(), setting.d.value);
     let evaluators = game::one_a_thread(first, jobs, tables.len());
     let mut ranked = Vec::new();
-    let unranked = Batch { tables, d, calls: 1 }.evaluate(
+    let unranked = batch::evaluated(
+        tables,
+        d,
         evaluators,
         console,
-        |evaluator, parts, _| evaluator.nash_conv_units(d, parts),
+        |evaluator, parts| evaluator.nash_conv_units(d, parts),
         |_, name, conv| {
             ranked.push((name, conv));
             Ok(())

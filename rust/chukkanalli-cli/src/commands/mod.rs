@@ -17,6 +17,7 @@ use chukkanalli::Refusal;
 use crate::args::{self, Misuse, Request};
 use crate::console::Console;
 use crate::help;
+use crate::reader::Fault;
 
 /// The statuses that a run ends with.
 const DONE: u8 = 0;
@@ -49,10 +50,9 @@ pub fn run(args: &[OsString], console: &mut Console) -> u8 {
     match carry_out(args, console) {
         Ok(status) => status,
         Err(Stop::Misuse(misuse)) => {
-            let verb = misuse.verb.map_or(String::new(), |verb| format!("{} ", verb.name()));
-            let before = misuse.verb.map_or(String::new(), |verb| format!("{}: ", verb.name()));
-            console.complain(format_args!("{before}{}", misuse.sentence));
-            console.complain(format_args!("`chukkanalli {verb}--help` says more"));
+            let named = |behind: &str| misuse.verb.map_or(String::new(), |verb| format!("{}{behind} ", verb.name()));
+            console.complain(format_args!("{}{}", named(":"), misuse.sentence));
+            console.complain(format_args!("`chukkanalli {}--help` says more", named("")));
             MISUSED
         }
         Err(Stop::NoMemory(refusal)) => {
@@ -60,7 +60,13 @@ pub fn run(args: &[OsString], console: &mut Console) -> u8 {
             REFUSED
         }
         // Whoever read the output has enough of it.
-        Err(Stop::Unwritable(error)) if error.kind() == ErrorKind::BrokenPipe => DONE,
+        Err(Stop::Unwritable(error)) if error.kind() == ErrorKind::BrokenPipe => {
+            if console.has_complained() {
+                REFUSED
+            } else {
+                DONE
+            }
+        }
         Err(Stop::Unwritable(error)) => {
             console.complain(format_args!("the output cannot be written: {error}"));
             REFUSED
@@ -68,10 +74,24 @@ pub fn run(args: &[OsString], console: &mut Console) -> u8 {
     }
 }
 
+/// Prints what is to be said of a file, or complains of it.
+fn report(name: &str, text: Result<String, Fault>, console: &mut Console) -> Result<u8, Stop> {
+    match text {
+        Ok(text) => {
+            console.print(&text)?;
+            Ok(DONE)
+        }
+        Err(fault) => {
+            console.complain(fault.at(name));
+            Ok(REFUSED)
+        }
+    }
+}
+
 fn carry_out(args: &[OsString], console: &mut Console) -> Result<u8, Stop> {
     match args::parse(args)? {
         Request::Help(verb) => {
-            console.print(help::text(verb))?;
+            console.print(&help::text(verb))?;
             Ok(DONE)
         }
         Request::Evaluate { setting, tables, jobs } => evaluate::run(&setting, &tables, jobs, console),

@@ -4,12 +4,11 @@ use std::path::Path;
 
 use chukkanalli::{BestReply, Evaluator, Game, InfoSet, Refusal};
 
-use super::{game, table, Stop, DONE, REFUSED};
+use super::{game, report, table, Stop};
 use crate::args::{Number, Setting, Verb};
 use crate::console::Console;
 use crate::figures::Figures;
-use crate::reader::file_name;
-use crate::words::{action_words, set_words};
+use crate::words::{action_words, file_name, set_words};
 
 /// A best reply, beside what the table itself is worth to the seat.
 struct Answer {
@@ -21,34 +20,24 @@ struct Answer {
 pub fn run(setting: &Setting, path: &Path, seat: &Number, console: &mut Console) -> Result<u8, Stop> {
     let mut evaluator = game::evaluator_of_parts(Verb::Reply, setting, Some(seat))?;
     let (name, d) = (file_name(path), setting.d.value);
-    console.expect_calls(3);
-    let answer =
-        table::evaluated(path, &mut evaluator, d, |evaluator, parts| reply(evaluator, seat.value, d, parts, console));
-    console.end_calls();
-    match answer {
-        Ok(answer) => {
-            let game = evaluator.game();
-            let mut figures = Figures::new(&name, game, d, answer.units);
-            figures.add_seat(seat.value, answer.worth, answer.best.value);
-            let lines = lines(game, evaluator.sets(), seat.value, &answer.best.table);
-            console.print(&format!("{figures}\nthe perfect reply of seat {}:\n{lines}", seat.value))?;
-            Ok(DONE)
-        }
-        Err(fault) => {
-            console.complain(fault.at(&name));
-            Ok(REFUSED)
-        }
-    }
+    let answer = table::evaluated(path, &mut evaluator, d, |evaluator, parts| reply(evaluator, seat.value, d, parts));
+    let text = answer.map(|answer| text(&name, &evaluator, seat.value, d, &answer));
+    report(&name, text, console)
 }
 
-fn reply(evaluator: &mut Evaluator, seat: u64, d: u64, parts: &[u8], console: &mut Console) -> Result<Answer, Refusal> {
+fn reply(evaluator: &mut Evaluator, seat: u64, d: u64, parts: &[u8]) -> Result<Answer, Refusal> {
     let best = evaluator.best_reply(seat, d, parts)?;
-    console.count_calls(1);
     let worth = evaluator.worths(d, parts)?[seat as usize];
-    console.count_calls(1);
     let units = evaluator.nash_conv_units(d, parts)?.units;
-    console.count_calls(1);
     Ok(Answer { worth, best, units })
+}
+
+fn text(name: &str, evaluator: &Evaluator, seat: u64, d: u64, answer: &Answer) -> String {
+    let game = evaluator.game();
+    let mut figures = Figures::new(name, game, d, answer.units);
+    figures.add_seat(seat, answer.worth, answer.best.value);
+    let lines = lines(game, evaluator.sets(), seat, &answer.best.table);
+    format!("{figures}\nthe perfect reply of seat {seat}:\n{lines}")
 }
 
 /// A line for each set of the seat, by its card, then by the public card, then in set order.

@@ -42,7 +42,8 @@ fn located<T>(refusal: Refusal, table: &Entries<T>, evaluator: &Evaluator) -> Fa
 fn wrong_length<T>(refusal: Refusal, table: &Entries<T>, evaluator: &Evaluator) -> Fault {
     let (has, entries) = (table.numbers.len(), evaluator.counts().entries);
     let game = game_words(evaluator.game());
-    let sentence = format!("{refusal}: {has} numbers, and {game} has {entries} entries");
+    let numbers = if has == 1 { "number" } else { "numbers" };
+    let sentence = format!("{refusal}: {has} {numbers}, and {game} has {entries} entries");
     match table.line_of(entries) {
         0 => Fault::of_file(sentence),
         line => Fault::in_line(line, sentence),

@@ -5,7 +5,7 @@ use chukkanalli::{Evaluator, Game, InfoSet};
 use super::{game, Stop, DONE};
 use crate::args::{Setting, Verb};
 use crate::console::Console;
-use crate::words::{action_words, game_words, set_words};
+use crate::words::{action_words, game_word, game_words, set_words};
 
 pub fn run(setting: &Setting, console: &mut Console) -> Result<u8, Stop> {
     let evaluator = game::evaluator_of_parts(Verb::Template, setting, None)?;
@@ -18,8 +18,8 @@ fn text(evaluator: &Evaluator, setting: &Setting) -> String {
     let mut text = format!("# {}, D {d}: {} sets, {} entries\n", game_words(game), counts.sets, counts.entries);
     text += "# A line for each set: the parts of its actions, and behind the # their names and what the seat knows.\n";
     text += &format!("# The parts of a set add up to {d}. Each set has all of them on its first action, so this\n");
-    let name = game.name().to_lowercase();
-    text += &format!("# table is valid as it is: chukkanalli evaluate {name} {} {d} FILE\n\n", game.seats());
+    text +=
+        &format!("# table is valid as it is: chukkanalli evaluate {} {} {d} FILE\n\n", game_word(game), game.seats());
     let sets = evaluator.sets();
     let width = sets.iter().map(|set| parts(set, d).len()).max().unwrap_or(0);
     for set in &sets {

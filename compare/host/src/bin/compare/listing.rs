@@ -2,7 +2,7 @@
 
 use crate::number::some_number;
 use crate::Counts;
-use chukkanalli::archive::{enumerate_infosets, Listed};
+use chukkanalli::archive::{enumerate_infosets, ListingAnswer};
 use host::memory::Memory;
 use host::stack::stack_of;
 use judge::listing::RECORD;
@@ -51,8 +51,10 @@ fn listing(call: &Call, random: &mut Random) -> u64 {
     memory.fill_at_random(random);
     let answer = enumerate_infosets(call.game, call.seats, &memory.work, &mut memory.out);
     let (expected, records) = match call.asked() {
-        Ok(tree) => (Listed { refusal: 0, nodes: tree.nodes, sets: tree.sets.len() as u64 }, tree.sets.as_slice()),
-        Err(refusal) => (Listed { refusal, nodes: 0, sets: 0 }, [].as_slice()),
+        Ok(tree) => {
+            (ListingAnswer { refusal: 0, nodes: tree.nodes, sets: tree.sets.len() as u64 }, tree.sets.as_slice())
+        }
+        Err(refusal) => (ListingAnswer { refusal, nodes: 0, sets: 0 }, [].as_slice()),
     };
     assert_eq!(answer, expected, "{call:?}");
     for (number, (record, ours)) in records.iter().zip(memory.out.chunks(RECORD)).enumerate() {

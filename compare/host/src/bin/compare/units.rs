@@ -89,7 +89,7 @@ impl Asked {
         let mut memory = self.memory(random);
         let ours = worths(*game, *seats, &mut memory.work, *d, table);
         let judged = self.call.worths();
-        let expected = archive::Weighed { refusal: judged.refusal, count: judged.count, worths: judged.worths };
+        let expected = archive::WorthsAnswer { refusal: judged.refusal, count: judged.count, worths: judged.worths };
         assert_eq!(ours, expected, "the worths of {:?}", self.call);
         self.left(ours.refusal, 0, &memory);
         counts.count(ours.refusal);
@@ -100,7 +100,7 @@ impl Asked {
         let mut memory = self.memory(random);
         let ours = best_reply(*game, *seats, &mut memory.work, self.seat, *d, table, &mut memory.out);
         let judged = self.call.best_reply(self.seat, self.room);
-        let expected = archive::Replied { refusal: judged.refusal, value: judged.value };
+        let expected = archive::ReplyAnswer { refusal: judged.refusal, value: judged.value };
         assert_eq!(ours, expected, "the best value of seat {} in {:?}", self.seat, self.call);
         let reply = &memory.out[..judged.reply.len()];
         assert_eq!(reply, judged.reply, "the reply of seat {} in {:?}", self.seat, self.call);
@@ -113,7 +113,8 @@ impl Asked {
         let mut memory = self.memory(random);
         let ours = nash_conv_units(*game, *seats, &mut memory.work, *d, table);
         let judged = self.call.nash_conv();
-        let expected = archive::Summed { refusal: judged.refusal, nash_conv: judged.nash_conv, units: judged.units };
+        let expected =
+            archive::NashConvAnswer { refusal: judged.refusal, nash_conv: judged.nash_conv, units: judged.units };
         assert_eq!(ours, expected, "NashConv of {:?}", self.call);
         self.left(ours.refusal, 0, &memory);
         counts.count(ours.refusal);

@@ -50,7 +50,7 @@ const PARTS: [&str; 16] = [
     "18446744073709551617",
 ];
 const SEAT: [&str; 8] = ["0", "0", "1", "1", "2", "6", "256", "18446744073709551616"];
-const ODD: [&[u8]; 20] = [
+const ODD: [&[u8]; 21] = [
     b"",
     b"-",
     b"--",
@@ -71,6 +71,7 @@ const ODD: [&[u8]; 20] = [
     b"/",
     b"nowhere",
     b"\x1b[2J",
+    b"\xE2\x80\xAE",
 ];
 
 /// One of a list, in nine of ten cases of its first half.
@@ -117,7 +118,7 @@ fn sound(args: &[OsString], ran: &Ran) {
     assert_eq!(*status == 0, err.is_empty(), "status {status} of {args:?} with {err:?}");
     assert!(*status != 2 || out.is_empty(), "status 2 of {args:?} with {out:?}");
     assert!(err.lines().all(|line| line.starts_with("chukkanalli: ")), "{err:?} of {args:?}");
-    assert!(!err.contains(|c: char| c.is_control() && c != '\n'), "{err:?} of {args:?}");
+    assert!(!err.contains(|c: char| c.is_control() && c != '\n' || c == '\u{202e}'), "{err:?} of {args:?}");
     assert!(*status != 0 || !out.is_empty(), "nothing of {args:?}");
 }
 
@@ -136,7 +137,7 @@ impl Line {
         let mut line = Line {
             verb: random
                 .pick(&["evaluate", "evaluate", "ladder", "ladder", "reply", "reply", "template", "f64", "f64"]),
-            game: if random.one_in(20) { "chess" } else { random.pick(&["kuhn", "leduc"]) },
+            game: if random.one_in(20) { "chess" } else { random.pick(&["kuhn", "leduc", "Kuhn", "LEDUC"]) },
             seats: mostly_fit(random, &SEATS),
             d: mostly_fit(random, &PARTS),
             seat: mostly_fit(random, &SEAT),

@@ -1,7 +1,7 @@
 //! Random tables and profiles for the reader and random command lines for the commands, from a seed, for some seconds. Each answer is held to a
 //! model written from document 01's list, and the first that differs ends the run with all that is needed to repeat it.
 //!
-//!     cargo run --offline --release --bin fuzz -- 600 1
+//!     cargo run --offline --release -p fuzz -- 600 1
 
 mod lines;
 mod model;

@@ -56,7 +56,8 @@ pub fn games() -> Vec<Listed> {
 
 /// Document 01's 1, 2 or 3, or the game.
 pub fn game_of<'a>(games: &'a [Listed], name: &str, seats: u128) -> Result<&'a Listed, u64> {
-    let range = match name {
+    let name = name.to_ascii_lowercase();
+    let range = match &name[..] {
         "kuhn" => 2..=10,
         "leduc" => 2..=2,
         _ => return Err(1),
