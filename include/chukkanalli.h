@@ -30,7 +30,7 @@ enum {
     CHUKKANALLI_MEMORY = 4,        /* the work memory has fewer than 12 words per node of the tree */
     CHUKKANALLI_SEAT = 5,          /* the seat is not below the seat count, in a call that evaluates one seat */
     CHUKKANALLI_PARTS = 6,         /* D, the parts per set, is 0, or above 64 (Leduc, Kuhn 2 to 4) or above 16 (Kuhn 5 and 6) */
-    CHUKKANALLI_TABLE = 7,         /* the table's length is not exactly the entry count */
+    CHUKKANALLI_TABLE = 7,         /* the table's or profile's length is not exactly the entry count */
     CHUKKANALLI_SUM = 8,           /* in some set the parts do not add up to D */
     CHUKKANALLI_OUTPUT = 9,        /* the output is shorter than its answer */
     CHUKKANALLI_CARD_COUNT = 10,   /* a saved position does not hold one card per seat */

@@ -1,11 +1,10 @@
-//! What is printed: results on one stream; complaints, and on a terminal how many tables are done, on another.
+//! What is printed: results on one stream; complaints, and on a terminal how many files are evaluated, on another.
 
 use std::fmt::Display;
 use std::io::{self, Write};
 use std::time::{Duration, Instant};
 
-/// How long work must take before its progress is shown, and how long a line of progress stands.
-const PATIENCE: Duration = Duration::from_millis(400);
+/// How long a line of progress stands at least.
 const PACE: Duration = Duration::from_millis(100);
 
 /// The two streams, and whether the second is a terminal.
@@ -48,30 +47,38 @@ impl<'a> Console<'a> {
         self.complained
     }
 
-    /// From here on so many tables are to be evaluated.
-    pub fn expect_tables(&mut self, total: usize) {
+    /// From here on so many files are evaluated.
+    pub fn expect(&mut self, total: usize) {
         if self.terminal {
-            self.progress = Some(Progress { done: 0, total, next_drawn: Instant::now() + PATIENCE, drawn: false });
+            self.progress = Some(Progress { done: 0, total, next_drawn: Instant::now(), drawn: false });
+            self.draw();
         }
     }
 
-    /// A table more is done.
-    pub fn count_table(&mut self) {
+    /// One more is evaluated.
+    pub fn count(&mut self) {
+        if let Some(progress) = &mut self.progress {
+            progress.done += 1;
+            self.draw();
+        }
+    }
+
+    /// All are evaluated.
+    pub fn end(&mut self) {
+        self.wipe();
+        self.progress = None;
+    }
+
+    /// Shows how far the work is, unless it was shown a moment ago.
+    fn draw(&mut self) {
         let Some(progress) = &mut self.progress else { return };
-        progress.done += 1;
         let now = Instant::now();
         if now >= progress.next_drawn {
             progress.next_drawn = now + PACE;
             progress.drawn = true;
-            let _ = write!(self.err, "\r{} of {} tables", progress.done, progress.total);
+            let _ = write!(self.err, "\r{} of {} evaluated", progress.done, progress.total);
             let _ = self.err.flush();
         }
-    }
-
-    /// All tables are done.
-    pub fn end_tables(&mut self) {
-        self.wipe();
-        self.progress = None;
     }
 
     /// Takes a line of progress away.
@@ -88,18 +95,18 @@ impl<'a> Console<'a> {
 mod tests {
     use super::*;
 
-    /// What comes on both streams of a run with two pauses that are long enough for progress.
+    /// What comes on both streams of a run with a pause that is long enough for progress.
     fn run(terminal: bool) -> (String, String) {
         let (mut out, mut err) = (Vec::new(), Vec::new());
         let mut console = Console::new(&mut out, &mut err, terminal);
-        console.expect_tables(3);
-        console.count_table();
-        std::thread::sleep(PATIENCE);
-        console.count_table();
-        console.count_table();
+        console.expect(3);
+        console.count();
+        std::thread::sleep(PACE);
+        console.count();
+        console.count();
         console.print("first\n").unwrap();
         console.complain("second");
-        console.end_tables();
+        console.end();
         (String::from_utf8(out).unwrap(), String::from_utf8(err).unwrap())
     }
 
@@ -107,7 +114,7 @@ mod tests {
     fn progress_is_shown_on_a_terminal_and_taken_away() {
         let (out, err) = run(true);
         assert_eq!(out, "first\n");
-        assert_eq!(err, "\r2 of 3 tables\r\x1b[Kchukkanalli: second\n");
+        assert_eq!(err, "\r0 of 3 evaluated\r2 of 3 evaluated\r\x1b[Kchukkanalli: second\n");
     }
 
     #[test]

@@ -80,7 +80,7 @@ Evaluates strategy tables for Kuhn and Leduc poker, exactly or in f64, by proved
   chukkanalli evaluate GAME SEATS D TABLE...   what tables are worth, best values, NashConv
   chukkanalli ladder GAME SEATS D TABLE...     tables in order of NashConv
   chukkanalli reply GAME SEATS D TABLE SEAT    the perfect reply of a seat to a table, in words
-  chukkanalli template GAME SEATS D            a table to fill in, with each set in words
+  chukkanalli template GAME SEATS D            an empty table, with each set in words
   chukkanalli f64 GAME SEATS PROFILE           the same values of a profile, in floating point
   chukkanalli COMMAND --help                   more about a command
 ";
@@ -118,9 +118,9 @@ more. Of equally good actions it takes the first.
 const TEMPLATE: &str = "\
 chukkanalli template GAME SEATS D
 
-Prints a table to fill in, a line for each set: the parts of its actions, and as a comment the
-names of the actions, the seat, its card, the public card (leduc) and what was played. Each set
-has D on its first action, so the table is valid as it is. A table has its sets in this order.
+Prints an empty table to fill in, a line for each set: the parts of its actions, and as a comment
+the names of the actions, the seat, its card, the public card (leduc) and what was played. A table
+has its sets in this order, and D parts in each: a set that is left empty is refused with 8.
 
   chukkanalli template kuhn 2 4 >mine.txt
 ";

@@ -170,10 +170,10 @@ fn files_with_a_wrong_sum_are_refused_with_8() {
         let file = table(&format!("sum-{}.txt", parts.replace(' ', "-")), format!("{first}{parts}\n{rest}"));
         all_refused(&file, &format!(":4: {SUM}: {set} has {added}, and D is 1"));
     }
-    let leduc = run_line("template leduc 2 2").out.replacen("2 0 0 ", "1 1 1 ", 1);
+    let leduc = run_line("template leduc 2 2").out.replace("\n0 ", "\n2 ").replacen("2 0 0 ", "1 1 1 ", 1);
     let file = table("sum-leduc.txt", leduc);
     let words = "set 4 (seat 0, card 0 (rank 0), public card 2 (rank 1), after CALL CALL, in round 2 after CALL RAISE)";
-    let complaint = format!("{file}:10: {SUM}: {words} has 1 + 1 + 1 = 3, and D is 2");
+    let complaint = format!("{file}:9: {SUM}: {words} has 1 + 1 + 1 = 3, and D is 2");
     assert_eq!(run(["evaluate", "leduc", "2", "2", &file]), refused(&complaint));
 }
 

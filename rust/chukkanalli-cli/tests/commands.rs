@@ -97,7 +97,7 @@ fn reply_goes_by_the_cards_whatever_the_order_of_the_sets() {
 
 #[test]
 fn reply_in_leduc_tells_the_public_card_and_both_rounds() {
-    let always_first = table("leduc-first.txt", run_line("template leduc 2 4").out);
+    let always_first = table("leduc-first.txt", always_first("leduc", 2, 4));
     let reply = run(["reply", "leduc", "2", "4", &always_first, "1"]);
     assert_eq!((reply.status, reply.err.as_str()), (0, ""));
     let lines: Vec<&str> = reply.out.lines().skip_while(|line| !line.starts_with("card")).collect();
@@ -161,22 +161,30 @@ fn ladder_without_a_ranked_table_still_lists_all() {
     assert_eq!(run, Run { status: 1, out: text, err });
 }
 
+/// The template of a game, filled in with all parts on each first action.
+fn always_first(game: &str, seats: usize, d: usize) -> String {
+    run_line(&format!("template {game} {seats} {d}")).out.replace("\n0 ", &format!("\n{d} "))
+}
+
 #[test]
-fn a_template_is_a_table_of_its_game() {
+fn a_template_is_an_empty_table_of_its_game() {
     for (game, seats, d, sets) in
         [("kuhn", 2, 1, 12), ("kuhn", 3, 64, 48), ("kuhn", 4, 7, 160), ("kuhn", 5, 16, 480), ("leduc", 2, 64, 936)]
     {
         let template = run_line(&format!("template {game} {seats} {d}"));
         assert_eq!((template.status, template.err.as_str()), (0, ""));
-        assert_eq!(template.out.lines().filter(|line| line.starts_with(&d.to_string())).count(), sets);
-        let file = table(&format!("template-{game}-{seats}-{d}.txt"), &template.out);
-        let evaluated = run(["evaluate", game, &seats.to_string(), &d.to_string(), &file]);
-        assert_eq!((evaluated.status, evaluated.err.as_str()), (0, ""));
+        assert_eq!(template.out.lines().filter(|line| line.starts_with("0 0 ")).count(), sets);
+        let evaluate = |file: &str| run(["evaluate", game, &seats.to_string(), &d.to_string(), file]);
+        let unfilled = evaluate(&table(&format!("template-{game}-{seats}-{d}.txt"), &template.out));
+        assert_eq!(unfilled.status, 1);
+        assert!(unfilled.err.contains(":5: refused with 8: "), "{}", unfilled.err);
+        let filled = evaluate(&table(&format!("filled-{game}-{seats}-{d}.txt"), always_first(game, seats, d)));
+        assert_eq!((filled.status, filled.err.as_str()), (0, ""));
     }
     let kuhn = run_line("template kuhn 2 1").out;
-    assert!(kuhn.contains("\n1 0  # PASS BET: seat 1, card 1, after PASS\n"), "{kuhn}");
+    assert!(kuhn.contains("\n0 0  # PASS BET: seat 1, card 1, after PASS\n"), "{kuhn}");
     let leduc = run_line("template leduc 2 4").out;
-    let line = "\n4 0 0  # FOLD CALL RAISE: seat 0, card 0 (rank 0), no public card, after CALL RAISE\n";
+    let line = "\n0 0 0  # FOLD CALL RAISE: seat 0, card 0 (rank 0), no public card, after CALL RAISE\n";
     assert!(leduc.contains(line), "{leduc}");
 }
 
@@ -222,7 +230,7 @@ exploitability              NaN
 #[test]
 fn f64_takes_a_table_with_d_1_in_every_game() {
     for (game, seats) in [("kuhn", 3), ("kuhn", 4), ("kuhn", 5), ("kuhn", 6), ("leduc", 2)] {
-        let file = table(&format!("f64-{game}-{seats}.txt"), run_line(&format!("template {game} {seats} 1")).out);
+        let file = table(&format!("f64-{game}-{seats}.txt"), always_first(game, seats, 1));
         let values = run(["f64", game, &seats.to_string(), &file]);
         assert_eq!((values.status, values.err.as_str()), (0, ""));
         assert_eq!(values.out.lines().count(), 2 + 2 * seats + 2);
@@ -287,7 +295,7 @@ fn what_is_printed_does_not_depend_on_the_threads() {
 
 #[test]
 fn kuhn_with_6_seats_shows_no_progress_in_a_pipe() {
-    let file = table("kuhn6.txt", run_line("template kuhn 6 16").out);
+    let file = table("kuhn6.txt", always_first("kuhn", 6, 16));
     let evaluated = run(["evaluate", "kuhn", "6", "16", &file, &file, "--jobs=2"]);
     assert_eq!((evaluated.status, evaluated.err.as_str()), (0, ""));
     assert!(evaluated.out.contains("NashConv           2659938529915699200              30  30.000000000\n"));

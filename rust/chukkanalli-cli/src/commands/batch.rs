@@ -21,7 +21,7 @@ pub fn evaluated<T: Send>(
     mut hand_on: impl FnMut(&mut Console, String, T) -> io::Result<()>,
 ) -> Result<Vec<String>, Stop> {
     let mut refused = Vec::new();
-    console.expect_tables(tables.len());
+    console.expect(tables.len());
     let work = |evaluator: &mut Evaluator, place: usize| table::evaluated(&tables[place], evaluator, d, &evaluation);
     side_by_side(evaluators, tables.len(), work, |place, outcome| {
         let name = file_name(&tables[place]);
@@ -33,9 +33,9 @@ pub fn evaluated<T: Send>(
                 refused.push(complaint);
             }
         }
-        console.count_table();
+        console.count();
         Ok::<(), Stop>(())
     })?;
-    console.end_tables();
+    console.end();
     Ok(refused)
 }

@@ -20,6 +20,7 @@ struct Evaluation {
 pub fn run(asked: &Asked, path: &Path, console: &mut Console) -> Result<u8, Stop> {
     let mut evaluator = game::evaluator(Verb::F64, asked)?;
     let name = file_name(path);
+    console.expect(1);
     let evaluation = table::valued(path, &mut evaluator, evaluate);
     report(&name, evaluation.map(|evaluation| text(&name, evaluator.game(), &evaluation)), console)
 }

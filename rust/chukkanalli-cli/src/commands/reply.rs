@@ -20,6 +20,7 @@ struct Answer {
 pub fn run(setting: &Setting, path: &Path, seat: &Number, console: &mut Console) -> Result<u8, Stop> {
     let mut evaluator = game::evaluator_of_parts(Verb::Reply, setting, Some(seat))?;
     let (name, d) = (file_name(path), setting.d.value);
+    console.expect(1);
     let answer = table::evaluated(path, &mut evaluator, d, |evaluator, parts| reply(evaluator, seat.value, d, parts));
     let text = answer.map(|answer| text(&name, &evaluator, seat.value, d, &answer));
     report(&name, text, console)

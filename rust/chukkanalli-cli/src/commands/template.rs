@@ -1,4 +1,4 @@
-//! `template`: a table to fill in, with each set in words.
+//! `template`: an empty table, with each set in words.
 
 use chukkanalli::{Evaluator, Game, InfoSet};
 
@@ -17,28 +17,26 @@ fn text(evaluator: &Evaluator, setting: &Setting) -> String {
     let (game, counts, d) = (evaluator.game(), evaluator.counts(), setting.d.value);
     let mut text = format!("# {}, D {d}: {} sets, {} entries\n", game_words(game), counts.sets, counts.entries);
     text += "# A line for each set: the parts of its actions, and behind the # their names and what the seat knows.\n";
-    text += &format!("# The parts of a set add up to {d}. Each set has all of them on its first action, so this\n");
-    text +=
-        &format!("# table is valid as it is: chukkanalli evaluate {} {} {d} FILE\n\n", game_word(game), game.seats());
+    text += &format!(
+        "# Fill in parts that add up to {d} in each set: chukkanalli evaluate {} {} {d} FILE\n\n",
+        game_word(game),
+        game.seats()
+    );
     let sets = evaluator.sets();
-    let width = sets.iter().map(|set| parts(set, d).len()).max().unwrap_or(0);
+    let width = sets.iter().map(|set| empty(set).len()).max().unwrap_or(0);
     for set in &sets {
-        text += &line(game, set, d, width);
+        text += &line(game, set, width);
     }
     text
 }
 
-fn line(game: Game, set: &InfoSet, d: u64, width: usize) -> String {
-    let parts = parts(set, d);
+fn line(game: Game, set: &InfoSet, width: usize) -> String {
+    let parts = empty(set);
     let actions = action_words(game, &set.legal);
     format!("{parts:width$}  # {actions}: seat {}, {}\n", set.seat, set_words(game, set))
 }
 
-/// All parts on the first action.
-fn parts(set: &InfoSet, d: u64) -> String {
-    let mut parts = d.to_string();
-    for _ in &set.legal[1..] {
-        parts += " 0";
-    }
-    parts
+/// No part on any action, so that a set which nobody fills in is refused.
+fn empty(set: &InfoSet) -> String {
+    vec!["0"; set.legal.len()].join(" ")
 }
