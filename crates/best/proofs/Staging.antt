@@ -227,7 +227,7 @@ module _ (g : Game) (D i : ℕ) (table : Table) (a : Accepted g D table) (l : i 
 
   -- ---- what is demanded of the reply
   pub best-reply : BestReply g D i table (tableBest T D U table i) (replyTable T D U table i)
-  best-reply = let r = reply-best g D i table (a .game .known) (a .game .seats) l (a .least) (a .valid) in record { rival = r .0; worth = r .1; unbeaten = r .2 }
+  best-reply = reply-best g D i table (a .game .known) (a .game .seats) l (a .least) (a .valid)
 
   pub unbeaten : (b : ℤ) → b ≡ tableBest T D U table i → Unbeaten g D i table b
   unbeaten b e = subst (Unbeaten g D i table) (sym e) (best-reply .unbeaten)

@@ -33,7 +33,7 @@ use Rattle.cases.specs.Tried.{KuhnTried, leduc, callsAt, calls, LeducTri
 -- the theorem, of a table that is accepted
 best-reply : (g : Game) (D i : ℕ) (table : Table) → Accepted g D table → i < g .seats
     → BestReply g D i table (tableBest (treeOf g) D (rootUnits g D) table i) (replyTable (treeOf g) D (rootUnits g D) table i)
-best-reply g D i table a l = let r = reply-best g D i table (a .game .known) (a .game .seats) l (a .least) (a .valid) in record { rival = r .0; worth = r .1; unbeaten = r .2 }
+best-reply g D i table a l = reply-best g D i table (a .game .known) (a .game .seats) l (a .least) (a .valid)
 
 -- ---- Kuhn 2, always PASS
 

@@ -6,12 +6,12 @@ use lib.IntN.{ℤ, pos, _-ℤ_, +ℤ-idl, -ℤ-+ℤ-cancel}
 use lib.ListN.{getD}
 use lib.Signed.{_≤ℤ_, ≤ℤ-refl}
 use Rattle.game.specs.Sums.{parts}
-use Rattle.game.specs.Tree.{Key, Tree, Strategy, all, Every, Keeps}
+use Rattle.game.specs.Tree.{Key, Tree, Strategy, all, U, Every, Keeps}
 use Rattle.game.specs.Reply.{replyTree, best, reply}
 use Rattle.game.specs.Sets.{sets, entriesOf, before, SameActions}
 use Rattle.game.specs.Table.{Table, strategyOf, tableOf, ValidTable, KeepsTable, tableWorth, tableBest, replyTable, nashConv}
 use Rattle.game.specs.Small.{small}
-use Rattle.game.specs.TableTheorem.{NodesCounted, DecisionsOfNodes, TableBack, StrategyBack, TableValid, StrategyValid, ValidMeans, TableRival, ReplyTableRival, ReplyTableWorth, NoRivalTableBetter}
+use Rattle.game.specs.TableTheorem.{NodesCounted, DecisionsOfNodes, TableBack, StrategyBack, TableValid, StrategyValid, ValidMeans, TableRival, ReplyTableRival, ReplyTableWorth, NoRivalTableBetter, ReplyTableBest}
 use Rattle.game.specs.TableTheorem.{ReplyTableEntries, OwnTableEntriesFree, TableUnitsAddUp, TableBounds, NashConvNotBelow, smallTable, SmallNoRivalTable}
 use Rattle.game.proofs.Integers.{+ℤ-mono, +ℤ-cancel}
 use Rattle.game.proofs.Against.{every-both, own-entries-free}
@@ -92,6 +92,13 @@ reply-table-worth t C m D i table d h g =
 pub no-rival-table-better : NoRivalTableBetter
 unfolding tableWorth tableBest
 no-rival-table-better t C m D i table z d h p g v = no-rival-better C m D i (strategyOf t table) (strategyOf t z) t d h p (table-rival t D i table z g v)
+
+pub reply-table-best : ReplyTableBest
+reply-table-best t C m D i table d s p h v = record {
+  rival = reply-table-rival t D (U C D m) i table d p h v;
+  worth = reply-table-worth t C m D i table d s h;
+  unbeaten = λ z r. no-rival-table-better t C m D i table z d s p h r;
+}
 
 pub own-table-entries-free : OwnTableEntriesFree
 unfolding tableBest

@@ -112,6 +112,10 @@ entriesOf xs = sumℕ (λ x. x .2) xs
 abbrev pub entries : Tree → ℕ
 entries t = entriesOf (sets t)
 
+-- a tree with so many nodes, sets and entries
+abbrev pub Sized : Tree → ℕ → ℕ → ℕ → Type 0
+Sized t a b c = (size t ≡ a) × (setCount t ≡ b) × (entries t ≡ c)
+
 -- of these sets, those before the set of seat j and key k
 unfoldable pub before : ℕ → Key → List Decision → List Decision
 unfolding isOf

@@ -6,6 +6,7 @@ use Prim.Native.Nat.{ℕ, zero, suc, _+_, _<_}
 use lib.Dec.{eqb}
 use lib.IntN.{ℤ, pos, _+ℤ_, _-ℤ_}
 use lib.ListN.{length, getD, drop}
+use lib.Signed.{_≤ℤ_}
 use Rattle.game.specs.Sums.{parts}
 use Rattle.game.specs.Tree.{Tree, Strategy, all, worth}
 use Rattle.game.specs.Reply.{replyTree, bestValue, reply}
@@ -75,3 +76,13 @@ module _ (t : Tree) (D u : ℕ) (table : Table) where
   unfolding tableBest tableWorth
   nashConv zero = pos 0
   nashConv (suc n) = nashConv n +ℤ (tableBest n -ℤ tableWorth n)
+
+-- no valid table that differs from the given one at most in seat i's entries, mixed or not, is worth more to the seat
+abbrev pub Unbeaten : (t : Tree) (D u i : ℕ) (table : Table) (value : ℤ) → Type 0
+Unbeaten t D u i table value = (z : Table) → RivalTable t D i table z → tableWorth t D u z i ≤ℤ value
+
+-- the reply is such a table: valid, with every other seat's entries as given; it is worth the value, and none is worth more
+pub record BestReply (t : Tree) (D u i : ℕ) (table : Table) (value : ℤ) (reply : Table) : Type 0 where
+  pub rival : RivalTable t D i table reply
+  pub worth : tableWorth t D u reply i ≡ value
+  pub unbeaten : Unbeaten t D u i table value

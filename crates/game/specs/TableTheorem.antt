@@ -11,7 +11,7 @@ use Rattle.game.specs.Tree.{Tree, Strategy, all, U, units, Splits, Pays,
 use Rattle.game.specs.Reply.{reply}
 use Rattle.game.specs.Recall.{PerfectRecall}
 use Rattle.game.specs.Sets.{size, preorder, decisions, decisionsOf, firsts, sets, setNumber, setMembers, entries, firstEntry, SameActions}
-use Rattle.game.specs.Table.{Table, strategyOf, tableOf, ValidTable, KeepsTable, RivalTable, tableWorth, tableBest, replyTable, nashConv}
+use Rattle.game.specs.Table.{Table, strategyOf, tableOf, ValidTable, KeepsTable, RivalTable, tableWorth, tableBest, replyTable, nashConv, BestReply}
 use Rattle.game.specs.Small.{small, given}
 
 -- 1. A tree has as many nodes as its size says.
@@ -64,6 +64,11 @@ ReplyTableWorth = (t : Tree) (C m D i : ℕ) (table : Table) → 0 < D → Split
 abbrev pub NoRivalTableBetter : Type 0
 NoRivalTableBetter = (t : Tree) (C m D i : ℕ) (table z : Table) → 0 < D → Splits C m t → PerfectRecall i t → SameActions t → RivalTable t D i table z
     → tableWorth t D (U C D m) z i ≤ℤ tableBest t D (U C D m) table i
+
+-- So it is a best reply.
+abbrev pub ReplyTableBest : Type 0
+ReplyTableBest = (t : Tree) (C m D i : ℕ) (table : Table) → 0 < D → Splits C m t → PerfectRecall i t → SameActions t → ValidTable t D table
+    → BestReply t D (U C D m) i table (tableBest t D (U C D m) table i) (replyTable t D (U C D m) table i)
 
 -- 5. Two tables that differ only in the seat's entries have the same best value.
 abbrev pub OwnTableEntriesFree : Type 0

@@ -4,7 +4,7 @@ use native.Mathlib.Omega.{arith}
 use lib.ListN.{getD, drop}
 use lib.Signed.{_≤ℤ_}
 use Rattle.game.specs.Table.{tableWorth}
-use Rattle.game.proofs.TableTheorem.{reply-table-rival, reply-table-worth, no-rival-table-better}
+use Rattle.game.proofs.TableTheorem.{reply-table-best}
 use Rattle.kuhn_tree.specs.Tree.{m, kuhnTree, C}
 use Rattle.kuhn_tree.specs.Facts.{rootUnits, FollowsRules, FuelEnough, SeatByKey, ActionsByKey, DepthByKey, LevelsByKey, TwoActions, Recalls, FansDivide, PayoffsBounded, PayoffsBalance, ReplyBest, CaseKUnbeaten, kuhn2, passes}
 use Rattle.kuhn_tree.proofs.Growth.{kuhn-follows, kuhn-fuel}
@@ -52,11 +52,7 @@ pub payoffs-balance : PayoffsBalance
 payoffs-balance ante bet n l = kuhn-balance ante bet n l
 
 pub reply-best : ReplyBest
-reply-best ante bet n D i table d v = (
-  reply-table-rival (kuhnTree ante bet n) D (rootUnits n D) i table d (recalls ante bet n i) (actions-by-key ante bet n) v,
-  reply-table-worth (kuhnTree ante bet n) (C n) (m n) D i table d (fans-divide ante bet n) (actions-by-key ante bet n),
-  λ z w. no-rival-table-better (kuhnTree ante bet n) (C n) (m n) D i table z d (fans-divide ante bet n) (recalls ante bet n i) (actions-by-key ante bet n) w,
-)
+reply-best ante bet n D i table d v = reply-table-best (kuhnTree ante bet n) (C n) (m n) D i table d (fans-divide ante bet n) (recalls ante bet n i) (actions-by-key ante bet n) v
 
 pub case-k-unbeaten : CaseKUnbeaten
-case-k-unbeaten z v = subst (λ x. tableWorth kuhn2 1 (rootUnits 2 1) z 0 ≤ℤ x) (case-k .3) (reply-best 1 1 2 1 0 passes (omega arith) (case-k .0) .2 z v)
+case-k-unbeaten z v = subst (λ x. tableWorth kuhn2 1 (rootUnits 2 1) z 0 ≤ℤ x) (case-k .3) (reply-best 1 1 2 1 0 passes (omega arith) (case-k .0) .unbeaten z v)

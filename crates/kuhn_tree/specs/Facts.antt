@@ -9,8 +9,8 @@ use lib.Signed.{_≤ℤ_}
 use Rattle.finite.specs.Finite.{sumℤ}
 use Rattle.game.specs.Tree.{Key, Tree, U, Splits, Pays, Every}
 use Rattle.game.specs.Recall.{PerfectRecall}
-use Rattle.game.specs.Sets.{size, sets, setCount, entries, SameActions, SameHeights, Levels, EveryEnd}
-use Rattle.game.specs.Table.{Table, ValidTable, RivalTable, tableWorth, tableBest, replyTable, nashConv}
+use Rattle.game.specs.Sets.{size, sets, Sized, SameActions, SameHeights, Levels, EveryEnd}
+use Rattle.game.specs.Table.{Table, ValidTable, RivalTable, tableWorth, tableBest, replyTable, nashConv, BestReply}
 use Rattle.kuhn_rules.specs.Reached.{Reached}
 use Rattle.kuhn_tree.specs.Tree.{next, below, m, fuel, kuhnTree, C, largestParts, largestPayoff}
 use Rattle.kuhn_tree.specs.Follows.{Follows, positions, positionOf}
@@ -32,16 +32,13 @@ abbrev pub FuelEnough : Type 0
 FuelEnough = (ante bet n x : ℕ) → 1 ≤ n → below ante bet n (x + fuel n) (next n [] []) [] [] ≡ kuhnTree ante bet n
 
 -- 2. The nodes, sets and entries of the tree are as many as Counts says.
-abbrev pub Row : Tree → ℕ → ℕ → ℕ → Type 0
-Row t a b c = (size t ≡ a) × (setCount t ≡ b) × (entries t ≡ c)
-
 abbrev pub Counted : Type 0
-Counted = (ante bet n : ℕ) → 1 ≤ n → Row (kuhnTree ante bet n) (kuhnNodes n) (kuhnSets n) (kuhnEntries n)
+Counted = (ante bet n : ℕ) → 1 ≤ n → Sized (kuhnTree ante bet n) (kuhnNodes n) (kuhnSets n) (kuhnEntries n)
 
 -- Document 01's table of counts, Kuhn's five rows.
 abbrev pub Counts : Type 0
-Counts = (ante bet : ℕ) → Row (kuhnTree ante bet 2) 58 12 24 × Row (kuhnTree ante bet 3) 617 48 96 × Row (kuhnTree ante bet 4) 7886 160 320
-    × Row (kuhnTree ante bet 5) 116437 480 960 × Row (kuhnTree ante bet 6) 1944020 1344 2688
+Counts = (ante bet : ℕ) → Sized (kuhnTree ante bet 2) 58 12 24 × Sized (kuhnTree ante bet 3) 617 48 96 × Sized (kuhnTree ante bet 4) 7886 160 320
+    × Sized (kuhnTree ante bet 5) 116437 480 960 × Sized (kuhnTree ante bet 6) 1944020 1344 2688
 
 -- With 7 to 10 seats there are more than 4,000,000 nodes.
 abbrev pub TooLarge : Type 0
@@ -101,9 +98,7 @@ rootUnits n D = U (C n) D (m n)
 -- 6. The reply to a valid table is a rival table, its worth is the best value, and no rival table is worth more.
 abbrev pub ReplyBest : Type 0
 ReplyBest = (ante bet n D i : ℕ) (table : Table) → 0 < D → ValidTable (kuhnTree ante bet n) D table
-    → RivalTable (kuhnTree ante bet n) D i table (replyTable (kuhnTree ante bet n) D (rootUnits n D) table i)
-    × (tableWorth (kuhnTree ante bet n) D (rootUnits n D) (replyTable (kuhnTree ante bet n) D (rootUnits n D) table i) i ≡ tableBest (kuhnTree ante bet n) D (rootUnits n D) table i)
-    × ((z : Table) → RivalTable (kuhnTree ante bet n) D i table z → tableWorth (kuhnTree ante bet n) D (rootUnits n D) z i ≤ℤ tableBest (kuhnTree ante bet n) D (rootUnits n D) table i)
+    → BestReply (kuhnTree ante bet n) D (rootUnits n D) i table (tableBest (kuhnTree ante bet n) D (rootUnits n D) table i) (replyTable (kuhnTree ante bet n) D (rootUnits n D) table i)
 
 -- At stakes 1 and 1 a worth and a best value fit a signed number of 64 bits, and NashConv an unsigned one: all that these can be, added up, is below 2^64.
 abbrev pub UnitsFit : Type 0

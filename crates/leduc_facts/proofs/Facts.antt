@@ -2,7 +2,7 @@
 use Prim.Native.Nat.{zero, suc}
 use native.Mathlib.Omega.{arith}
 use lib.ListN.{getD}
-use Rattle.game.proofs.TableTheorem.{reply-table-rival, reply-table-worth, no-rival-table-better}
+use Rattle.game.proofs.TableTheorem.{reply-table-best}
 use Rattle.leduc_tree.specs.Tree.{leducTree, C, m}
 use Rattle.leduc_tree.proofs.Computed.{set-count, entry-count}
 use Rattle.leduc_facts.specs.Facts.{Counts, units, SeatByKey, ActionsByKey, DepthByKey, LevelsByKey, TwoOrThreeActions, Recalls, FansDivide, PayoffsBounded, ReplyBest, DealsFirst, OneShape}
@@ -41,11 +41,8 @@ pub payoffs-bounded : PayoffsBounded
 payoffs-bounded ante raise₁ raise₂ i = leduc-pays ante raise₁ raise₂ i
 
 pub reply-best : ReplyBest
-reply-best ante raise₁ raise₂ D i table l d v = (
-  reply-table-rival (leducTree ante raise₁ raise₂) D (units D) i table d (recalls ante raise₁ raise₂ i l) (actions-by-key ante raise₁ raise₂) v,
-  reply-table-worth (leducTree ante raise₁ raise₂) C m D i table d (fans-divide ante raise₁ raise₂) (actions-by-key ante raise₁ raise₂),
-  λ z w. no-rival-table-better (leducTree ante raise₁ raise₂) C m D i table z d (fans-divide ante raise₁ raise₂) (recalls ante raise₁ raise₂ i l) (actions-by-key ante raise₁ raise₂) w,
-)
+reply-best ante raise₁ raise₂ D i table l d v =
+    reply-table-best (leducTree ante raise₁ raise₂) C m D i table d (fans-divide ante raise₁ raise₂) (recalls ante raise₁ raise₂ i l) (actions-by-key ante raise₁ raise₂) v
 
 pub deals-first : DealsFirst
 deals-first ante raise₁ raise₂ = Hands.deals-first ante raise₁ raise₂

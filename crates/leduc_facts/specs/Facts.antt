@@ -4,21 +4,17 @@ use mathlib.Core.Path.{_≡_}
 use mathlib.Core.Bool.{true}
 use mathlib.Core.List.{[], _∷_}
 use Prim.Native.Nat.{ℕ, _≤_, _<_}
-use lib.Signed.{_≤ℤ_}
 use Rattle.game.specs.Tree.{Key, Tree, U, chance, Splits, Pays, Every}
 use Rattle.game.specs.Recall.{PerfectRecall}
-use Rattle.game.specs.Sets.{size, setCount, entries, SameActions, SameHeights, Levels}
-use Rattle.game.specs.Table.{Table, ValidTable, RivalTable, tableWorth, tableBest, replyTable}
+use Rattle.game.specs.Sets.{size, Sized, SameActions, SameHeights, Levels}
+use Rattle.game.specs.Table.{Table, ValidTable, tableBest, replyTable, BestReply}
 use Rattle.leduc_betting.specs.Cards.{left}
 use Rattle.leduc_tree.specs.Tree.{start, afterDeal, each, leducTree, C, m, largestPayoff}
 use Rattle.leduc_facts.specs.Shape.{bare, withCards, hand}
 
 -- 1. Document 01's table of counts, Leduc's row: nodes, sets, entries.
-abbrev pub Row : Tree → ℕ → ℕ → ℕ → Type 0
-Row t a b c = (size t ≡ a) × (setCount t ≡ b) × (entries t ≡ c)
-
 abbrev pub Counts : Type 0
-Counts = (ante raise₁ raise₂ : ℕ) → Row (leducTree ante raise₁ raise₂) 9457 936 2184
+Counts = (ante raise₁ raise₂ : ℕ) → Sized (leducTree ante raise₁ raise₂) 9457 936 2184
 
 -- 2. Nodes with equal keys have the same seat, the same number of actions, the same remaining depth.
 abbrev pub SeatByKey : Type 0
@@ -54,14 +50,9 @@ PayoffsBounded = (ante raise₁ raise₂ i : ℕ) → Pays (largestPayoff ante r
 abbrev pub units : ℕ → ℕ
 units D = U C D m
 
-abbrev pub BestReply : Tree → ℕ → ℕ → Table → Type 0
-BestReply t D i table = RivalTable t D i table (replyTable t D (units D) table i)
-    × (tableWorth t D (units D) (replyTable t D (units D) table i) i ≡ tableBest t D (units D) table i)
-    × ((z : Table) → RivalTable t D i table z → tableWorth t D (units D) z i ≤ℤ tableBest t D (units D) table i)
-
 abbrev pub ReplyBest : Type 0
 ReplyBest = (ante raise₁ raise₂ D i : ℕ) (table : Table) → i < 2 → 0 < D → ValidTable (leducTree ante raise₁ raise₂) D table
-    → BestReply (leducTree ante raise₁ raise₂) D i table
+    → BestReply (leducTree ante raise₁ raise₂) D (units D) i table (tableBest (leducTree ante raise₁ raise₂) D (units D) table i) (replyTable (leducTree ante raise₁ raise₂) D (units D) table i)
 
 -- 5. The tree is the deal of a card to each seat, and below each deal a hand.
 abbrev pub DealsFirst : Type 0

@@ -12,7 +12,7 @@ use Rattle.finite.proofs.Tests.{Tested, holds, fails, tested}
 use Rattle.game.specs.Tree.{Splits, Pays}
 use Rattle.game.specs.Recall.{PerfectRecall}
 use Rattle.game.specs.Sets.{Decision, size, sets, setCount, setActions, entries, SameActions}
-use Rattle.game.proofs.TableTheorem.{reply-table-rival, reply-table-worth, no-rival-table-better}
+use Rattle.game.proofs.TableTheorem.{reply-table-best}
 use Rattle.game.proofs.Sets.{Each, every→sets}
 use Rattle.kuhn_tree.specs.Tree.{kuhnTree}
 use Rattle.kuhn_tree.specs.Tree as KuhnTree
@@ -135,8 +135,4 @@ games-fit g known out = by (tested (eqb (g .number) 0))
 
 pub reply-best : Reply-best
 reply-best g D i table known out w d v =
-    let f = games-fit g known out in (
-      reply-table-rival (treeOf g) D (rootUnits g D) i table d (f .recall i w) (f .actions) v,
-      reply-table-worth (treeOf g) (C g) (m g) D i table d (f .splits) (f .actions),
-      λ z r. no-rival-table-better (treeOf g) (C g) (m g) D i table z d (f .splits) (f .recall i w) (f .actions) r,
-    )
+    let f = games-fit g known out in reply-table-best (treeOf g) (C g) (m g) D i table d (f .splits) (f .recall i w) (f .actions) v

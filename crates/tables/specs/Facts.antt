@@ -2,11 +2,10 @@
 use mathlib.Core.Path.{_≡_}
 use mathlib.Core.Bool.{false, cond}
 use Prim.Native.Nat.{ℕ, _≤_, _<_}
-use lib.Signed.{_≤ℤ_}
 use Rattle.game.specs.Tree.{Tree, U, Splits, Pays}
 use Rattle.game.specs.Recall.{PerfectRecall}
-use Rattle.game.specs.Sets.{size, setCount, setActions, entries, SameActions}
-use Rattle.game.specs.Table.{Table, ValidTable, RivalTable, tableWorth, tableBest, replyTable}
+use Rattle.game.specs.Sets.{setActions, Sized, SameActions}
+use Rattle.game.specs.Table.{Table, ValidTable, tableBest, replyTable, BestReply}
 use Rattle.kuhn_tree.specs.Counts.{kuhnNodes, kuhnSets, kuhnEntries}
 use Rattle.tables.specs.Games.{isKuhn, treeOf, C, m, largestPayoff}
 use Rattle.tables.specs.Seats.{seats-out}
@@ -23,13 +22,9 @@ setsOf g = cond (isKuhn g) (kuhnSets (g .seats)) 936
 abbrev pub entriesOf : Game → ℕ
 entriesOf g = cond (isKuhn g) (kuhnEntries (g .seats)) 2184
 
--- a tree has so many nodes, sets and entries
-abbrev pub Row : Tree → ℕ → ℕ → ℕ → Type 0
-Row t a b c = (size t ≡ a) × (setCount t ≡ b) × (entries t ≡ c)
-
--- every game that numbers 1 and 2 let through has these
+-- every game that numbers 1 and 2 let through has so many nodes, sets and entries
 abbrev pub Counted : Type 0
-Counted = (g : Game) → seats-out g ≡ false → Row (treeOf g) (nodesOf g) (setsOf g) (entriesOf g)
+Counted = (g : Game) → seats-out g ≡ false → Sized (treeOf g) (nodesOf g) (setsOf g) (entriesOf g)
 
 -- and its sets, in order, these actions
 abbrev pub Actions-listed : Type 0
@@ -43,8 +38,8 @@ abbrev pub leduc : Game
 leduc = record { number = 1; seats = 2 }
 
 abbrev pub Table-of-counts : Type 0
-Table-of-counts = Row (treeOf (kuhn 2)) 58 12 24 × Row (treeOf (kuhn 3)) 617 48 96 × Row (treeOf (kuhn 4)) 7886 160 320
-    × Row (treeOf (kuhn 5)) 116437 480 960 × Row (treeOf (kuhn 6)) 1944020 1344 2688 × Row (treeOf leduc) 9457 936 2184
+Table-of-counts = Sized (treeOf (kuhn 2)) 58 12 24 × Sized (treeOf (kuhn 3)) 617 48 96 × Sized (treeOf (kuhn 4)) 7886 160 320
+    × Sized (treeOf (kuhn 5)) 116437 480 960 × Sized (treeOf (kuhn 6)) 1944020 1344 2688 × Sized (treeOf leduc) 9457 936 2184
 
 -- what the reply theorem asks of a tree: fans that divide C, at most m decisions on a path, perfect recall, equally many actions at equal keys, bounded payoffs
 pub record Fit (g : Game) : Type 0 where
@@ -62,6 +57,4 @@ rootUnits g D = U (C g) D (m g)
 
 abbrev pub Reply-best : Type 0
 Reply-best = (g : Game) (D i : ℕ) (table : Table) → g .number ≤ 1 → seats-out g ≡ false → i < g .seats → 0 < D → ValidTable (treeOf g) D table
-    → RivalTable (treeOf g) D i table (replyTable (treeOf g) D (rootUnits g D) table i)
-    × (tableWorth (treeOf g) D (rootUnits g D) (replyTable (treeOf g) D (rootUnits g D) table i) i ≡ tableBest (treeOf g) D (rootUnits g D) table i)
-    × ((z : Table) → RivalTable (treeOf g) D i table z → tableWorth (treeOf g) D (rootUnits g D) z i ≤ℤ tableBest (treeOf g) D (rootUnits g D) table i)
+    → BestReply (treeOf g) D (rootUnits g D) i table (tableBest (treeOf g) D (rootUnits g D) table i) (replyTable (treeOf g) D (rootUnits g D) table i)
