@@ -3,8 +3,8 @@ RUST ?= ../shared/docs/src
 
 CARGO_FLAGS := --offline --locked
 
-# The first tool that a host build needs and this machine lacks: cargo, or the C compiler by which it links.
-MISSING = $(firstword $(foreach tool,cargo $(CC),$(if $(shell command -v $(tool) 2>/dev/null),,$(tool))))
+# The first tool that a host build needs and this machine lacks: cargo, the compiler by which it links, or another C compiler in CC.
+MISSING = $(firstword $(foreach tool,cargo cc $(firstword $(CC)),$(if $(shell command -v $(tool) 2>/dev/null),,$(tool))))
 
 # How many crates `rt` proves side by side, each in up to 1 GB: a row of crates waits for its slowest, so it is more than the cores.
 RT_JOBS ?= 6

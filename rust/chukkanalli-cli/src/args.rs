@@ -44,6 +44,10 @@ impl Verb {
         matches!(self, Verb::Evaluate | Verb::Ladder)
     }
 
+    pub fn takes_a_file(self) -> bool {
+        self != Verb::Template
+    }
+
     fn by_name(name: &OsStr) -> Option<Verb> {
         Verb::ALL.into_iter().find(|verb| name == verb.name())
     }
@@ -159,8 +163,8 @@ fn sort(verb: Verb, args: &[OsString]) -> Result<Option<Sorted>, Misuse> {
         } else if let (Some(count), true) = (text.strip_prefix("--jobs="), verb.takes_many()) {
             sorted.jobs = Some(jobs_of(verb, count)?);
         } else if is_option(&text) {
-            let sentence = format!("there is no option {}; write -- before a file of that name", quoted(&text));
-            return Err(Misuse::of(verb, sentence));
+            let hint = if verb.takes_a_file() { "; write -- before a file of that name" } else { "" };
+            return Err(Misuse::of(verb, format!("there is no option {}{hint}", quoted(&text))));
         } else {
             sorted.places.push(arg.clone());
         }
@@ -210,7 +214,9 @@ fn number_of(verb: Verb, name: &str, arg: &OsStr) -> Result<Number, Misuse> {
     let word = arg.to_string_lossy().into_owned();
     match value_of(&word) {
         Some(value) => Ok(Number { word, value }),
-        None => Err(Misuse::of(verb, format!("{name} is {}, and a whole number from 0 is needed", quoted(&word)))),
+        None => {
+            Err(Misuse::of(verb, format!("{name} is {}, and a whole number without a sign is needed", quoted(&word))))
+        }
     }
 }
 
@@ -291,15 +297,15 @@ mod tests {
         assert_eq!(sentence("f64 kuhn 2"), "PROFILE is missing");
         assert_eq!(sentence("template kuhn 2 1 t"), "'t' is one argument too many");
         assert_eq!(sentence("f64 kuhn 2 p p"), "'p' is one argument too many");
-        assert_eq!(sentence("evaluate kuhn two 1 t"), "SEATS is 'two', and a whole number from 0 is needed");
-        assert_eq!(sentence("evaluate kuhn 2 -1 t"), "D is '-1', and a whole number from 0 is needed");
-        assert_eq!(sentence("reply kuhn 2 1 t x"), "SEAT is 'x', and a whole number from 0 is needed");
+        assert_eq!(sentence("evaluate kuhn two 1 t"), "SEATS is 'two', and a whole number without a sign is needed");
+        assert_eq!(sentence("evaluate kuhn 2 -1 t"), "D is '-1', and a whole number without a sign is needed");
+        assert_eq!(sentence("reply kuhn 2 1 t x"), "SEAT is 'x', and a whole number without a sign is needed");
         assert_eq!(sentence("ladder kuhn 2 1 t --jobs"), "--jobs takes a number, and it is missing");
         assert_eq!(sentence("ladder kuhn 2 1 t --jobs 0"), "--jobs is '0', and a number from 1 is needed");
         assert_eq!(sentence("ladder kuhn 2 1 t --jobs=x"), "--jobs is 'x', and a number from 1 is needed");
         let unknown = |option: &str| format!("there is no option '{option}'; write -- before a file of that name");
         assert_eq!(sentence("evaluate kuhn 2 1 -t"), unknown("-t"));
-        assert_eq!(sentence("template kuhn 2 1 --jobs 2"), unknown("--jobs"));
+        assert_eq!(sentence("template kuhn 2 1 --jobs 2"), "there is no option '--jobs'");
         assert_eq!(sentence("f64 kuhn 2 p --jobs 2"), unknown("--jobs"));
     }
 }

@@ -1,11 +1,7 @@
-//! What is printed: results on one stream; complaints, and on a terminal how many files are evaluated, on another.
+//! What is printed: results on one stream; complaints, and on a terminal how many files are done, on another.
 
 use std::fmt::Display;
 use std::io::{self, Write};
-use std::time::{Duration, Instant};
-
-/// How long a line of progress stands at least.
-const PACE: Duration = Duration::from_millis(100);
 
 /// The two streams, and whether the second is a terminal.
 pub struct Console<'a> {
@@ -19,7 +15,6 @@ pub struct Console<'a> {
 struct Progress {
     done: usize,
     total: usize,
-    next_drawn: Instant,
     drawn: bool,
 }
 
@@ -47,15 +42,15 @@ impl<'a> Console<'a> {
         self.complained
     }
 
-    /// From here on so many files are evaluated.
+    /// From here on so many files are to be done.
     pub fn expect(&mut self, total: usize) {
         if self.terminal {
-            self.progress = Some(Progress { done: 0, total, next_drawn: Instant::now(), drawn: false });
+            self.progress = Some(Progress { done: 0, total, drawn: false });
             self.draw();
         }
     }
 
-    /// One more is evaluated.
+    /// One more is done, evaluated or refused.
     pub fn count(&mut self) {
         if let Some(progress) = &mut self.progress {
             progress.done += 1;
@@ -63,20 +58,17 @@ impl<'a> Console<'a> {
         }
     }
 
-    /// All are evaluated.
+    /// All are done.
     pub fn end(&mut self) {
         self.wipe();
         self.progress = None;
     }
 
-    /// Shows how far the work is, unless it was shown a moment ago.
+    /// Shows how far the work is.
     fn draw(&mut self) {
-        let Some(progress) = &mut self.progress else { return };
-        let now = Instant::now();
-        if now >= progress.next_drawn {
-            progress.next_drawn = now + PACE;
+        if let Some(progress) = &mut self.progress {
             progress.drawn = true;
-            let _ = write!(self.err, "\r{} of {} evaluated", progress.done, progress.total);
+            let _ = write!(self.err, "\r{} of {} done", progress.done, progress.total);
             let _ = self.err.flush();
         }
     }
@@ -95,17 +87,16 @@ impl<'a> Console<'a> {
 mod tests {
     use super::*;
 
-    /// What comes on both streams of a run with a pause that is long enough for progress.
+    /// What comes on both streams of a run.
     fn run(terminal: bool) -> (String, String) {
         let (mut out, mut err) = (Vec::new(), Vec::new());
         let mut console = Console::new(&mut out, &mut err, terminal);
         console.expect(3);
-        console.count();
-        std::thread::sleep(PACE);
-        console.count();
-        console.count();
         console.print("first\n").unwrap();
+        console.count();
         console.complain("second");
+        console.count();
+        console.count();
         console.end();
         (String::from_utf8(out).unwrap(), String::from_utf8(err).unwrap())
     }
@@ -114,7 +105,10 @@ mod tests {
     fn progress_is_shown_on_a_terminal_and_taken_away() {
         let (out, err) = run(true);
         assert_eq!(out, "first\n");
-        assert_eq!(err, "\r0 of 3 evaluated\r2 of 3 evaluated\r\x1b[Kchukkanalli: second\n");
+        assert_eq!(
+            err,
+            "\r0 of 3 done\r\x1b[K\r1 of 3 done\r\x1b[Kchukkanalli: second\n\r2 of 3 done\r3 of 3 done\r\x1b[K"
+        );
     }
 
     #[test]

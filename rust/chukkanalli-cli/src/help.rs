@@ -20,8 +20,9 @@ pub fn text(verb: Option<Verb>) -> String {
 }
 
 fn arguments_of(verb: Verb) -> Vec<&'static str> {
-    let options = if verb.takes_many() { &["--jobs N", "--"][..] } else { &["--"] };
-    [verb.places(), options].concat()
+    let jobs = verb.takes_many().then_some("--jobs N");
+    let dashes = verb.takes_a_file().then_some("--");
+    verb.places().iter().copied().chain(jobs).chain(dashes).collect()
 }
 
 fn about(verb: Verb) -> &'static str {
@@ -71,7 +72,7 @@ const OUTCOME: &str = "\
 What cannot be evaluated is refused on stderr, with the file and the line, and with the number
 of the refusal where document 01, the paper behind the calls, has one.
 Status: 0; 1 where a table or profile was refused or cannot be read, the output cannot be written
-or there is too little memory; 2 for bad use.
+(a reader who leaves early is no such case) or there is too little memory; 2 for bad use.
 ";
 
 const ALL: &str = "\
@@ -134,7 +135,7 @@ per hand, in f64, each with the fewest digits that read back as the same number.
 
 A profile has a number for each action of each set: 0.25, 1, 1e-3, inf, -inf or NaN. No number is
 refused, nor need a set add up to 1. A table with D 1 is a profile too, so that `template` with D 1
-prints one to fill in.
+prints one to fill in; a set that is left empty counts as 0 on each action.
 
   chukkanalli f64 kuhn 2 samples/uniform-profile.txt
 ";

@@ -116,11 +116,11 @@ fn seats_are_refused_with_5() {
 #[test]
 fn what_is_no_number_is_bad_use() {
     for word in ["two", "-1", "+2", "2.0", "2^64", "0x2"] {
-        all_misused("kuhn", word, "1", &format!("SEATS is '{word}', and a whole number from 0 is needed"));
-        parts_misused("kuhn", "2", word, &format!("D is '{word}', and a whole number from 0 is needed"));
+        all_misused("kuhn", word, "1", &format!("SEATS is '{word}', and a whole number without a sign is needed"));
+        parts_misused("kuhn", "2", word, &format!("D is '{word}', and a whole number without a sign is needed"));
     }
     let seat = run_line("reply kuhn 2 1 samples/always-pass.txt -1");
-    assert_eq!(seat, misused("reply", "SEAT is '-1', and a whole number from 0 is needed"));
+    assert_eq!(seat, misused("reply", "SEAT is '-1', and a whole number without a sign is needed"));
 }
 
 #[test]
