@@ -2,15 +2,15 @@
 use Prim.Native.Nat.{ℕ}
 use lib.IntN.{ℤ}
 use Rattle.game.specs.Table.{Table}
-use Rattle.game.specs.Table as Tables
+use Rattle.game.specs.Table as AnyTree
 use Rattle.tables.specs.declared.Game.{Game}
 use Rattle.tables.specs.Games.{treeOf}
 use Rattle.tables.specs.Facts.{rootUnits}
 
 -- no valid table that differs from the given one at most in seat i's entries, mixed or not, is worth more to the seat
 abbrev pub Unbeaten : (g : Game) (D i : ℕ) (table : Table) (value : ℤ) → Type 0
-Unbeaten g D i table value = Tables.Unbeaten (treeOf g) D (rootUnits g D) i table value
+Unbeaten g D i table value = AnyTree.Unbeaten (treeOf g) D (rootUnits g D) i table value
 
 -- the reply is such a table: valid, with every other seat's entries as given; it is worth the value, and none is worth more
 abbrev pub BestReply : (g : Game) (D i : ℕ) (table : Table) (value : ℤ) (reply : Table) → Type 0
-BestReply g D i table value reply = Tables.BestReply (treeOf g) D (rootUnits g D) i table value reply
+BestReply g D i table value reply = AnyTree.BestReply (treeOf g) D (rootUnits g D) i table value reply

@@ -6,7 +6,7 @@ use native.Mathlib.Omega.{arith}
 use lib.IntN.{pos}
 use lib.ListN.{length}
 use Rattle.finite.specs.Finite as Finite
-use Rattle.finite.specs.Finite.{and, or, some, every, those, has, places}
+use Rattle.finite.specs.Finite.{and, or, some, every, those, has}
 use Rattle.game.specs.Sums.{_·_, sum, sumℕ}
 use Rattle.game.specs.Reply.{best, value, withKey, highest}
 use Rattle.game.specs.Sets.{sets, setActions, entriesOf, entries, before}
@@ -18,10 +18,9 @@ use Rattle.leduc_betting.specs.Betting as Betting
 use Rattle.leduc_betting.specs.Cards as Cards
 use Rattle.leduc_rules.specs.Rules as Rules
 use Rattle.leduc_tree.specs.Tree as Leduc
-use Rattle.leduc_tree.specs.Turns.{joined, turns, isFirst, firstOnes, firstTurns}
+use Rattle.leduc_tree.specs.Turns.{joined, turns, isFirst, firstOnes, firstTurns, actionsInOrder}
 use Rattle.tables.specs.Games.{treeOf}
 use Rattle.tables.specs.Facts.{rootUnits}
-use Rattle.leduc_actions.specs.Actions.{threes, actionsAt, leducActions}
 use Rattle.tables.specs.Actions.{actionsOf}
 use Rattle.tables.specs.declared.Game.{Game}
 use Rattle.tables.proofs.Facts.{counted-games, actions-listed, reply-best}
@@ -66,11 +65,11 @@ calls-length : length calls ≡ 2184
 unfolding calls callsAt firstTurns firstOnes isFirst turns joined Leduc.next and or some those has Betting.ends-with Betting.folded Betting.closes Betting.behind Betting.raises Betting.may Betting.options Betting.in-play Betting.turn Betting.ended Cards.left Cards.remaining Rules.public-due Rules.due
 calls-length = refl
 
-calls-add-up : addUp 1 leducActions calls ≡ true
-unfolding addUp leducActions actionsAt threes places calls callsAt firstTurns firstOnes isFirst turns joined Leduc.next and or some those has Betting.ends-with Betting.folded Betting.closes Betting.behind Betting.raises Betting.may Betting.options Betting.in-play Betting.turn Betting.ended Cards.left Cards.remaining Rules.public-due Rules.due
+calls-add-up : addUp 1 actionsInOrder calls ≡ true
+unfolding addUp actionsInOrder calls callsAt firstTurns firstOnes isFirst turns joined Leduc.next and or some those has Betting.ends-with Betting.folded Betting.closes Betting.behind Betting.raises Betting.may Betting.options Betting.in-play Betting.turn Betting.ended Cards.left Cards.remaining Rules.public-due Rules.due
 calls-add-up = refl
 
-leduc-actions : setActions (treeOf leduc) ≡ leducActions
+leduc-actions : setActions (treeOf leduc) ≡ actionsInOrder
 unfolding actionsOf
 leduc-actions = actions-listed leduc refl
 

@@ -2,7 +2,7 @@
 ghost use mathlib.Core.Path.{_≡_};
 ghost use Prim.Native.Nat.{_≤_, _<_};
 ghost use lib.ListN.{getD};
-ghost use Rattle.leduc_actions.specs.Actions.{leducActions};
+ghost use Rattle.leduc_tree.specs.Turns.{actionsInOrder};
 
 // 64 sets to a word, the first at its lowest bit, which is 1 where a set has three actions.
 const THREES: [u64; 15] = [
@@ -26,7 +26,7 @@ const THREES: [u64; 15] = [
 // How many actions a set has.
 pub fn actions(set: usize) -> usize
     requires { ⌜ set < 936 ⌝ }
-    ensures { λ r. ⌜ (r ≡ getD leducActions set 0) × (r ≤ 3) ⌝ }
+    ensures { λ r. ⌜ (r ≡ getD actionsInOrder set 0) × (r ≤ 3) ⌝ }
 {
     let bits = THREES[set / 64] >> (set % 64);
     2 + (bits % 2) as usize

@@ -11,8 +11,8 @@ use lib.ListN.{length, getD, take, replicate, length-replicate, getD-replicate}
 use Rattle.finite.specs.Finite.{or, places}
 use Rattle.finite.proofs.Tests.{or-false-left, or-false-right}
 use Rattle.kuhn_tree.specs.Counts.{dealNodes, kuhnNodes, kuhnSets, kuhnEntries}
-use Rattle.leduc_actions.specs.Actions.{threes, actionsAt, leducActions}
-use Rattle.leduc_actions.proofs.Facts.{actions-in-all}
+use Rattle.leduc_tree.specs.Turns.{actionsInOrder}
+use Rattle.leduc_actions.proofs.Facts.{threes, actionsAt, in-words, actions-in-all}
 use Rattle.tables.specs.Seats.{seats-out}
 use Rattle.tables.specs.Facts.{nodesOf, setsOf, entriesOf}
 use Rattle.tables.specs.Actions.{actionsOf}
@@ -73,7 +73,7 @@ module _ (g : Game) (k : g .number ≡ 0) where
 
   pub kuhn-actions : (x : ℕ) → x < setsOf g → 2 ≡ getD (actionsOf g) x 0
   unfolding actionsOf
-  kuhn-actions x w = sym (getD-replicate (kuhnSets (g .seats)) x 2 0 (rw (eq-eqb (g .number) 0 k) at w)) ∙ ap (λ t. getD (cond t (replicate (kuhnSets (g .seats)) 2) leducActions) x 0) (sym (eq-eqb (g .number) 0 k))
+  kuhn-actions x w = sym (getD-replicate (kuhnSets (g .seats)) x 2 0 (rw (eq-eqb (g .number) 0 k) at w)) ∙ ap (λ t. getD (cond t (replicate (kuhnSets (g .seats)) 2) actionsInOrder) x 0) (sym (eq-eqb (g .number) 0 k))
 
 module _ (g : Game) (k : g .number ≡ 0 → ⊥) where
   pub leduc-nodes : 9457 ≡ nodesOf g
@@ -85,21 +85,24 @@ module _ (g : Game) (k : g .number ≡ 0 → ⊥) where
   pub leduc-sets : 936 ≡ setsOf g
   leduc-sets = ap (λ t. cond t (kuhnSets (g .seats)) 936) (sym (ne-eqb (g .number) 0 k))
 
-  pub leduc-actions : (x : ℕ) → getD leducActions x 0 ≡ getD (actionsOf g) x 0
+  pub leduc-actions : (x : ℕ) → getD actionsInOrder x 0 ≡ getD (actionsOf g) x 0
   unfolding actionsOf
-  leduc-actions x = ap (λ t. getD (cond t (replicate (kuhnSets (g .seats)) 2) leducActions) x 0) (sym (ne-eqb (g .number) 0 k))
+  leduc-actions x = ap (λ t. getD (cond t (replicate (kuhnSets (g .seats)) 2) actionsInOrder) x 0) (sym (ne-eqb (g .number) 0 k))
 
 -- ---- the actions of all sets
 
-leduc-total : total leducActions ≡ 2184
-unfolding total leducActions actionsAt threes places
-leduc-total = refl
+words-total : total (places 936 actionsAt) ≡ 2184
+unfolding total actionsAt threes places
+words-total = refl
+
+leduc-total : total actionsInOrder ≡ 2184
+leduc-total = ap total in-words ∙ words-total
 
 pub actions-counted : (g : Game) → length (actionsOf g) ≡ setsOf g
 unfolding actionsOf
 actions-counted g = at (isKuhn g)
   where
-    at : (b : Bool) → length (cond b (replicate (kuhnSets (g .seats)) 2) leducActions) ≡ cond b (kuhnSets (g .seats)) 936
+    at : (b : Bool) → length (cond b (replicate (kuhnSets (g .seats)) 2) actionsInOrder) ≡ cond b (kuhnSets (g .seats)) 936
     at true = length-replicate (kuhnSets (g .seats)) 2
     at false = actions-in-all
 
@@ -107,7 +110,7 @@ pub actions-total : (g : Game) → total (actionsOf g) ≡ entriesOf g
 unfolding actionsOf
 actions-total g = at (isKuhn g)
   where
-    at : (b : Bool) → total (cond b (replicate (kuhnSets (g .seats)) 2) leducActions) ≡ cond b (kuhnEntries (g .seats)) 2184
+    at : (b : Bool) → total (cond b (replicate (kuhnSets (g .seats)) 2) actionsInOrder) ≡ cond b (kuhnEntries (g .seats)) 2184
     at true = total-same (kuhnSets (g .seats)) 2
     at false = leduc-total
 

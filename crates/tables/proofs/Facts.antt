@@ -23,8 +23,8 @@ use Rattle.kuhn_tree.proofs.Units.{kuhn-every}
 use Rattle.leduc_tree.specs.Tree.{leducTree}
 use Rattle.leduc_facts.proofs.Facts.{counts}
 use Rattle.leduc_facts.proofs.Facts as LeducFacts
-use Rattle.leduc_actions.specs.Actions.{leducActions}
-use Rattle.leduc_actions.proofs.Facts.{leduc-set-actions}
+use Rattle.leduc_tree.specs.Turns.{actionsInOrder}
+use Rattle.leduc_tree.proofs.Facts.{actions-in-order}
 use Rattle.tables.specs.Games.{treeOf, C, m, mostParts}
 use Rattle.tables.specs.Seats.{seats-out}
 use Rattle.tables.specs.Facts.{nodesOf, setsOf, entriesOf, Counted, kuhn, leduc, Table-of-counts, Fit, Games-fit, Actions-listed, rootUnits, Reply-best}
@@ -85,8 +85,8 @@ module _ (g : Game) where
 
     actions-by : Tested (eqb (g .number) 0) → setActions (treeOf g) ≡ actionsOf g
     unfolding actionsOf
-    actions-by (holds t) = ap setActions (kuhn-tree-is (eqb-true (g .number) 0 t)) ∙ kuhn-set-actions (g .seats) (kuhn-one (eqb-true (g .number) 0 t)) ∙ ap (λ b. cond b (replicate (kuhnSets (g .seats)) 2) leducActions) (sym t)
-    actions-by (fails t) = ap setActions (leduc-tree-is (eqb-false (g .number) 0 t)) ∙ leduc-set-actions ∙ ap (λ b. cond b (replicate (kuhnSets (g .seats)) 2) leducActions) (sym t)
+    actions-by (holds t) = ap setActions (kuhn-tree-is (eqb-true (g .number) 0 t)) ∙ kuhn-set-actions (g .seats) (kuhn-one (eqb-true (g .number) 0 t)) ∙ ap (λ b. cond b (replicate (kuhnSets (g .seats)) 2) actionsInOrder) (sym t)
+    actions-by (fails t) = ap setActions (leduc-tree-is (eqb-false (g .number) 0 t)) ∙ actions-in-order 1 2 4 ∙ ap (λ b. cond b (replicate (kuhnSets (g .seats)) 2) actionsInOrder) (sym t)
 
     pub actions-are : setActions (treeOf g) ≡ actionsOf g
     actions-are = actions-by (tested (eqb (g .number) 0))

@@ -1,13 +1,13 @@
--- The actions of each set in set order, as numbers that a program can hold: a tool of private contracts, equal to setActions of the tree (proofs/Facts.antt).
+-- The actions of each set in set order, by game number: a tool of private contracts, equal to setActions of the tree (proofs/Facts.antt).
 use mathlib.Core.Bool.{cond}
 use mathlib.Core.List.{List}
 use Prim.Native.Nat.{ℕ}
 use lib.ListN.{replicate}
 use Rattle.kuhn_tree.specs.Counts.{kuhnSets}
-use Rattle.leduc_actions.specs.Actions.{leducActions}
+use Rattle.leduc_tree.specs.Turns.{actionsInOrder}
 use Rattle.tables.specs.Games.{isKuhn}
 use Rattle.tables.specs.declared.Game.{Game}
 
--- two in each of Kuhn's sets, two or three in Leduc's
+-- two in each of Kuhn's sets, in Leduc's those of its first positions
 unfoldable pub actionsOf : Game → List ℕ
-actionsOf g = cond (isKuhn g) (replicate (kuhnSets (g .seats)) 2) leducActions
+actionsOf g = cond (isKuhn g) (replicate (kuhnSets (g .seats)) 2) actionsInOrder

@@ -1,8 +1,7 @@
 -- A set's bit. Assumes nothing.
 use borrow.Author.Needs.{needs}
 use native.Mathlib.Omega.{arith}
-use Rattle.leduc_actions.specs.Actions.{threes}
-use Rattle.leduc_actions.proofs.Facts.{actions-at}
+use Rattle.leduc_actions.proofs.Facts.{threes, actions-at}
 use Rattle.leduc_actions.proofs.actions.Statement.{statement}
 use Rattle.leduc_actions.proofs.actions.Tie as tie
 

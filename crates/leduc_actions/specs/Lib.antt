@@ -1,2 +1,0 @@
--- The actions of Leduc's sets.
-pub mod Actions
