@@ -7,8 +7,8 @@ use native.Mathlib.Nat as NatL
 use native.Mathlib.Omega.{arith}
 use lib.ListN.{length, getD, set, length-set}
 use lib.Seq.{getD-set-same, getD-set-other}
-use Rattle.game.specs.Tree.{Key, Tree, end, chance, decide, Trees, nil, cons, fan}
-use Rattle.game.specs.Sets.{size, sizes}
+use Rattle.game_tree.specs.Tree.{Key, Tree, end, chance, decide, Trees, nil, cons, fan}
+use Rattle.game_tree.specs.Sets.{size, sizes}
 use Rattle.arena.specs.Held.{Says, Held, HeldAll}
 use Rattle.arena.specs.Index.{unlinked, Kept}
 use Rattle.arena.specs.Built.{Built, Row}

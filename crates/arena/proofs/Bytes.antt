@@ -6,8 +6,8 @@ use lib.IntN.{pos, _-ℤ_}
 use mir.Syntax.{w64}
 use lib.Dec.{ltb}
 use mir.Val.{SFits, toZ, ofZ}
-use Rattle.finite.proofs.Amounts.{amount}
-use Rattle.finite.proofs.Tests.{Tested, holds, fails, tested}
+use Rattle.prelude.proofs.Amounts.{amount}
+use Rattle.prelude.proofs.Tests.{Tested, holds, fails, tested}
 use mir.ValLaws.{toZ-ofZ}
 use Rattle.arena.specs.Words.{byteOf}
 

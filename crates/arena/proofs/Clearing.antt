@@ -8,7 +8,7 @@ use lib.Dec.{eqb, ltb}
 use lib.ListN.{length, getD, set, length-set, List·getD-eq-default}
 use lib.Seq.{getD-set-same, getD-set-other}
 use borrow.Author.Tests.{ltb-true, ltb-false, eqb-true, eqb-false}
-use Rattle.finite.proofs.Tests.{Tested, holds, fails, tested}
+use Rattle.prelude.proofs.Tests.{Tested, holds, fails, tested}
 use Rattle.arena.specs.Index.{Cleared}
 
 pub set-zero : (w : List ℕ) (i : ℕ) → getD (set w i 0) i 0 ≡ 0

@@ -8,12 +8,12 @@ use native.Mathlib.Omega.{arith}
 use lib.Dec.{eqb}
 use lib.ListN.{getD, drop}
 use lib.Seq.{drop-cons, drop-length}
-use Rattle.finite.proofs.Tests.{Tested, holds, fails, tested}
-use Rattle.game.specs.Tree.{Key, Tree, end, chance, decide}
-use Rattle.game.specs.Reply.{same}
-use Rattle.game.specs.Sets.{size, preorder, decides, numbers, firstEntry, setMembers}
-use Rattle.game.proofs.Sets.{preorder-length, clash}
-use Rattle.game.proofs.Tests.{T-of, same→eq, eqb-is}
+use Rattle.prelude.proofs.Tests.{Tested, holds, fails, tested}
+use Rattle.game_tree.specs.Tree.{Key, Tree, end, chance, decide}
+use Rattle.game_tree.specs.Reply.{same}
+use Rattle.game_tree.specs.Sets.{size, preorder, decides, numbers, firstEntry, setMembers}
+use Rattle.game_tree.proofs.Sets.{preorder-length, clash}
+use Rattle.game_tree.proofs.Tests.{T-of, same→eq, eqb-is}
 use Rattle.arena.specs.Words.{laterOf}
 use Rattle.arena.specs.Held.{Says}
 use Rattle.arena.specs.Index.{firstOf, laterIn, Indexed, Linked}

@@ -5,9 +5,9 @@ use Prim.Native.Nat.{ℕ, zero, suc, _+_, _<_}
 use native.Mathlib.Nat as NatL
 use lib.IntN.{pos}
 use lib.ListN.{length, getD}
-use Rattle.game.specs.Tree.{Key, Tree, end, chance, decide, Trees, nil, cons}
-use Rattle.game.specs.Sets.{size, preorder, preorderAll}
-use Rattle.game.proofs.Sets.{preorder-length}
+use Rattle.game_tree.specs.Tree.{Key, Tree, end, chance, decide, Trees, nil, cons}
+use Rattle.game_tree.specs.Sets.{size, preorder, preorderAll}
+use Rattle.game_tree.proofs.Sets.{preorder-length}
 use Rattle.arena.specs.Held.{Says, SaysAll, Held, HeldAll}
 
 module _ (n : ℕ) (s : ℕ → Key → ℕ) (l : ℕ → ℕ → Key → ℕ) (w : List ℕ) where

@@ -5,8 +5,8 @@ use mathlib.Core.List.{List}
 use Prim.Native.Nat.{ℕ, _+_, _≤_, _<_}
 use native.Mathlib.Omega.{arith}
 use lib.ListN.{getD}
-use Rattle.game.specs.Tree.{Key, Tree, Trees}
-use Rattle.game.specs.Sets.{size, sizes, firstEntry}
+use Rattle.game_tree.specs.Tree.{Key, Tree, Trees}
+use Rattle.game_tree.specs.Sets.{size, sizes, firstEntry}
 use Rattle.arena.specs.Held.{Held, HeldAll}
 use Rattle.arena.specs.Index.{Kept, Alike}
 use Rattle.arena.proofs.Building.{held-same, held-same-all}

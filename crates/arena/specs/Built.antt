@@ -3,8 +3,8 @@ use mathlib.Core.Path.{_≡_}
 use mathlib.Core.List.{List}
 use Prim.Native.Nat.{ℕ, _+_, _≤_, _<_}
 use lib.ListN.{length}
-use Rattle.game.specs.Tree.{Key, Tree, Trees}
-use Rattle.game.specs.Sets.{size, sizes}
+use Rattle.game_tree.specs.Tree.{Key, Tree, Trees}
+use Rattle.game_tree.specs.Sets.{size, sizes}
 use Rattle.arena.specs.Held.{Held, HeldAll}
 use Rattle.arena.specs.Index.{unlinked, Kept}
 

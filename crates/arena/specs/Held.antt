@@ -3,8 +3,8 @@ use mathlib.Core.Path.{_≡_}
 use mathlib.Core.List.{List, [], _∷_}
 use Prim.Native.Nat.{ℕ, suc, _+_, _<_}
 use lib.ListN.{getD}
-use Rattle.game.specs.Tree.{Key, Tree, end, chance, decide, Trees, nil, cons, fan}
-use Rattle.game.specs.Sets.{size}
+use Rattle.game_tree.specs.Tree.{Key, Tree, end, chance, decide, Trees, nil, cons, fan}
+use Rattle.game_tree.specs.Sets.{size}
 use Rattle.arena.specs.Words.{END, CHANCE, DECISION, kindOf, actorOf, actionsOf, setOf, nextOf, laterOf, payoffOf}
 
 -- n seats; s gives each set its number, by seat and key; l gives the next member of a set behind a place

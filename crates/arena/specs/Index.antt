@@ -4,8 +4,8 @@ use mathlib.Core.Logic.{_⊎_}
 use mathlib.Core.List.{List, [], _∷_}
 use Prim.Native.Nat.{ℕ, suc, _+_, _≤_, _<_}
 use lib.ListN.{length, getD, drop}
-use Rattle.game.specs.Tree.{Key, Tree, Every}
-use Rattle.game.specs.Sets.{size, preorder, numbers, entries, firstEntry, setMembers}
+use Rattle.game_tree.specs.Tree.{Key, Tree, Every}
+use Rattle.game_tree.specs.Sets.{size, preorder, numbers, entries, firstEntry, setMembers}
 use Rattle.arena.specs.Words.{laterOf}
 use Rattle.arena.specs.Held.{Held}
 

@@ -1,8 +1,8 @@
 -- What a walk over a held tree and the entries of its sets counts on. Definitions only; nothing is assumed.
 use mathlib.Core.List.{List}
 use Prim.Native.Nat.{ℕ, suc, _+_, _≤_, max}
-use Rattle.game.specs.Tree.{Key, Tree, end, chance, decide, Trees, nil, cons, Every, EveryAll}
-use Rattle.game.specs.Sets.{size, sizes, firstEntry}
+use Rattle.game_tree.specs.Tree.{Key, Tree, end, chance, decide, Trees, nil, cons, Every, EveryAll}
+use Rattle.game_tree.specs.Sets.{size, sizes, firstEntry}
 use Rattle.arena.specs.Held.{Held, HeldAll}
 
 -- the most nodes on a path

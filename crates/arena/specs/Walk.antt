@@ -2,8 +2,8 @@
 use mathlib.Core.Path.{_≡_}
 use mathlib.Core.List.{List}
 use Prim.Native.Nat.{ℕ, _+_, _<_}
-use Rattle.game.specs.Tree.{Key, Tree, Trees, fan}
-use Rattle.game.specs.Sets.{size, sizes}
+use Rattle.game_tree.specs.Tree.{Key, Tree, Trees, fan}
+use Rattle.game_tree.specs.Sets.{size, sizes}
 use Rattle.arena.specs.Held.{Held, HeldAll}
 
 -- whatever tree is held at place a, below 2^22 with its end, r is the place behind it; r is below 2^22 in any case

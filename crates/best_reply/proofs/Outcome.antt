@@ -10,18 +10,18 @@ use lib.ListN.{length, take, drop}
 use lib.Seq.{sets, sets-eq, length-take-le, take-at}
 use borrow.Author.Tests.{eqb-true, eqb-false, leb-false, ltb-false}
 use Rattle.refusals.specs.Refusals.{Check, _refuses_, first}
-use Rattle.finite.proofs.Tests.{Tested, holds, fails, tested}
-use Rattle.game.specs.Sets.{entries}
-use Rattle.game.specs.Table.{Table, tableBest, replyTable}
-use Rattle.tables.specs.declared.Game.{Game}
-use Rattle.tables.specs.Games.{treeOf}
-use Rattle.tree_checks.specs.Checks.{tree-checks, seat-checks, parts-checks, table-checks, output-checks}
-use Rattle.tables.specs.Facts.{nodesOf, rootUnits}
-use Rattle.tree_checks.proofs.Order.{first-refused, tree-passed, table-passed}
-use Rattle.whole.specs.Facts.{Known}
-use Rattle.whole.specs.Accepted.{Accepted}
-use Rattle.whole.proofs.Passed.{game-known, enough-nodes, table-accepted}
-use Rattle.best.specs.Best.{BestReply}
+use Rattle.prelude.proofs.Tests.{Tested, holds, fails, tested}
+use Rattle.game_tree.specs.Sets.{entries}
+use Rattle.game_tree.specs.Table.{Table, tableBest, replyTable}
+use Rattle.games.specs.declared.Game.{Game}
+use Rattle.games.specs.Games.{treeOf}
+use Rattle.table_refusals.specs.Checks.{tree-checks, seat-checks, parts-checks, table-checks, output-checks}
+use Rattle.games.specs.Facts.{nodesOf, rootUnits}
+use Rattle.table_refusals.proofs.Order.{first-refused, tree-passed, table-passed}
+use Rattle.units_worths.specs.Facts.{Known}
+use Rattle.units_worths.specs.Accepted.{Accepted}
+use Rattle.units_worths.proofs.Passed.{game-known, enough-nodes, table-accepted}
+use Rattle.units_best.specs.Best.{BestReply}
 use Rattle.best_reply.specs.Calls.{reply-refusal, answer, written, Demand}
 
 -- checks that are followed by others refuse nothing, if all together refuse nothing

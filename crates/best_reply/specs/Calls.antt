@@ -4,13 +4,13 @@ use Prim.Native.Nat.{ℕ, zero, suc}
 use lib.IntN.{ℤ, pos}
 use lib.ListN.{take, drop}
 use Rattle.refusals.specs.Refusals.{first}
-use Rattle.game.specs.Sets.{entries}
-use Rattle.game.specs.Table.{Table, tableBest, replyTable}
-use Rattle.tables.specs.declared.Game.{Game}
-use Rattle.tables.specs.Games.{treeOf}
-use Rattle.tree_checks.specs.Checks.{reply-checks}
-use Rattle.tables.specs.Facts.{rootUnits}
-use Rattle.best.specs.Best.{BestReply}
+use Rattle.game_tree.specs.Sets.{entries}
+use Rattle.game_tree.specs.Table.{Table, tableBest, replyTable}
+use Rattle.games.specs.declared.Game.{Game}
+use Rattle.games.specs.Games.{treeOf}
+use Rattle.table_refusals.specs.Checks.{reply-checks}
+use Rattle.games.specs.Facts.{rootUnits}
+use Rattle.units_best.specs.Best.{BestReply}
 use Rattle.best_reply.specs.declared.ReplyAnswer.{ReplyAnswer}
 
 -- the refusal number, 1 to 9 in order, 0 if the call was accepted

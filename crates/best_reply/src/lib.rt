@@ -1,15 +1,15 @@
 // The best value of a seat against a table, in whole units, and the reply that is worth it.
-use tables::Game;
+use games::Game;
 ghost use mathlib.Core.Path.{_≡_};
 ghost use Prim.Native.Nat.{_*_, _≤_, _<_};
 ghost use lib.ListN.{length};
 ghost use lib.Seq.{sets};
-ghost use Rattle.game.specs.Table.{tableBest, replyTable};
-ghost use Rattle.tables.specs.Games.{gameOf, treeOf};
-ghost use Rattle.tables.specs.Facts.{nodesOf, rootUnits};
-ghost use Rattle.whole.specs.Memory.{Left};
-ghost use Rattle.whole.specs.Accepted.{Accepted};
-ghost use Rattle.best.specs.Best.{BestReply};
+ghost use Rattle.game_tree.specs.Table.{tableBest, replyTable};
+ghost use Rattle.games.specs.Games.{gameOf, treeOf};
+ghost use Rattle.games.specs.Facts.{nodesOf, rootUnits};
+ghost use Rattle.units_worths.specs.Memory.{Left};
+ghost use Rattle.units_worths.specs.Accepted.{Accepted};
+ghost use Rattle.units_best.specs.Best.{BestReply};
 ghost use Rattle.best_reply.specs.Calls.{reply-refusal, answer, written, Demand};
 
 // A call's refusal number, 0 if it was accepted, and the best value, 0 if it was refused. C has it as it is.
@@ -26,9 +26,9 @@ fn evaluate(g: Game, words: &mut [u64], seat: usize, d: usize, table: &[u8], out
         × (now (out .exit) ≡ sets (now (out .entry)) 0 (replyTable (treeOf g) d (rootUnits g d) (now (table .entry)) seat))
         × BestReply g d seat (now (table .entry)) r (replyTable (treeOf g) d (rootUnits g d) (now (table .entry)) seat) ⌝ }
 {
-    stored::store(g, words);
-    let value = best::best_value(g, words, seat, d, table);
-    best::best_table(g, words, seat, d, table, out);
+    arena_store::store(g, words);
+    let value = units_best::best_value(g, words, seat, d, table);
+    units_best::best_table(g, words, seat, d, table, out);
     value
 }
 
@@ -49,7 +49,7 @@ pub fn best_reply(
     ensures memory { λ r. ⌜ Left (r .refusal) (gameOf number seats) (now (work .entry)) (now (work .exit)) ⌝ }
 {
     let g = Game { number, seats };
-    let refusal = tree_checks::reply_refusal(g, work.len(), seat, d, table, out.len());
+    let refusal = table_refusals::reply_refusal(g, work.len(), seat, d, table, out.len());
     if refusal != refusals::ACCEPTED {
         return ReplyAnswer { refusal, value: 0 };
     }

@@ -5,7 +5,7 @@ use Prim.Native.Nat.{ℕ, zero, suc}
 use native.Mathlib.Omega.{arith}
 use lib.Ieee.{Float}
 use lib.ListN.{replicate}
-use Rattle.profiles.specs.Values.{nought}
+use Rattle.game_tree_f64.specs.Values.{nought}
 use Rattle.best_response.specs.Calls.{answer}
 use Rattle.best_response.specs.declared.ValuesAnswer.{ValuesAnswer}
 

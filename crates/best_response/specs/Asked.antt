@@ -2,8 +2,8 @@
 use mathlib.Core.List.{List}
 use Prim.Native.Nat.{ℕ}
 use lib.Ieee.{Float}
-use Rattle.tables.specs.declared.Game.{Game}
-use Rattle.game_values.specs.Values.{bestOf, bestsOf, worthsOf, nashConvOf, exploitabilityOf}
+use Rattle.games.specs.declared.Game.{Game}
+use Rattle.f64_games.specs.Values.{bestOf, bestsOf, worthsOf, nashConvOf, exploitabilityOf}
 use Rattle.profile_refusals.specs.declared.Asked.{Asked}
 use Rattle.best_response.specs.Calls.{single}
 

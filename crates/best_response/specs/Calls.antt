@@ -3,7 +3,7 @@ use mathlib.Core.List.{List, _∷_}
 use Prim.Native.Nat.{ℕ, zero, suc}
 use lib.Ieee.{Float}
 use lib.ListN.{replicate}
-use Rattle.profiles.specs.Values.{nought}
+use Rattle.game_tree_f64.specs.Values.{nought}
 use Rattle.best_response.specs.declared.ValuesAnswer.{ValuesAnswer}
 
 -- one value in place 0, and 0.0 in the others

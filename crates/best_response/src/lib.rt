@@ -1,16 +1,16 @@
 // The f64 values of a profile, under the Rust's names: best response values, worths, NashConv and exploitability.
+use games::Game;
 use profile_refusals::Asked;
-use tables::Game;
 ghost use mathlib.Core.Path.{_≡_};
 ghost use Prim.Native.Nat.{_*_, _≤_};
 ghost use lib.ListN.{length};
-ghost use Rattle.tables.specs.Games.{gameOf};
-ghost use Rattle.tables.specs.Facts.{nodesOf};
-ghost use Rattle.whole.specs.Memory.{Left};
+ghost use Rattle.games.specs.Games.{gameOf};
+ghost use Rattle.games.specs.Facts.{nodesOf};
+ghost use Rattle.units_worths.specs.Memory.{Left};
 ghost use Rattle.profile_refusals.specs.Checks.{value-refusal, values-refusal};
 ghost use Rattle.profile_refusals.specs.Asked.{refusalOf, SeatOf};
 ghost use Rattle.profile_refusals.specs.Accepted.{Accepted};
-ghost use Rattle.game_values.specs.Values.{bestOf, bestsOf, worthsOf, nashConvOf, exploitabilityOf};
+ghost use Rattle.f64_games.specs.Values.{bestOf, bestsOf, worthsOf, nashConvOf, exploitabilityOf};
 ghost use Rattle.best_response.specs.Calls.{single, answer};
 ghost use Rattle.best_response.specs.Asked.{countOf, valuesOf};
 
@@ -34,13 +34,13 @@ fn evaluate(g: Game, words: &mut [u64], asked: Asked, profile: &[f64]) -> [f64; 
     requires { ⌜ Accepted g (now profile) × (12 * nodesOf g ≤ length (now words)) × SeatOf asked g ⌝ }
     ensures { λ r. ⌜ r ≡ valuesOf asked g (now (profile .entry)) ⌝ }
 {
-    stored::store(g, words);
+    arena_store::store(g, words);
     match asked {
-        Asked::Best(seat) => alone(game_values::best_value(g, words, seat, profile)),
-        Asked::Bests => game_values::best_values(g, words, profile),
-        Asked::Worths => game_values::worths(g, words, profile),
-        Asked::NashConv => alone(game_values::nash_conv(g, words, profile)),
-        Asked::Exploitability => alone(game_values::exploitability(g, words, profile)),
+        Asked::Best(seat) => alone(f64_games::best_value(g, words, seat, profile)),
+        Asked::Bests => f64_games::best_values(g, words, profile),
+        Asked::Worths => f64_games::worths(g, words, profile),
+        Asked::NashConv => alone(f64_games::nash_conv(g, words, profile)),
+        Asked::Exploitability => alone(f64_games::exploitability(g, words, profile)),
     }
 }
 

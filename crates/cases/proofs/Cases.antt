@@ -1,6 +1,6 @@
 -- The definitions give what document 01 says, in all its cases at once: by computing. Assumes nothing.
 use mathlib.Core.Path.{refl}
-use Rattle.finite.specs.Finite.{and, or, some, every, sum, has, places, those}
+use Rattle.prelude.specs.Finite.{and, or, some, every, sum, has, places, those}
 use Rattle.kuhn_rules.specs.Rules.{bet-made, after-bet, ended, overrun, bets, stands, contribution, wins, paid-by-others, payoff}
 use Rattle.kuhn_rules.specs.Reached.{strange, twice, unknown, fair, played, possible}
 use Rattle.kuhn_rules.specs.Stakes.{payoffs-of}
@@ -12,15 +12,15 @@ use Rattle.leduc_rules.specs.Rules as LeducRules
 use Rattle.leduc_rules.specs.Reached as LeducReached
 use Rattle.leduc_positions.specs.Positions as LeducPositions
 use Rattle.leduc.specs.Calls as LeducCalls
-use Rattle.game.specs.Sums as Sums
-use Rattle.game.specs.Reply as Reply
-use Rattle.game.specs.Sets as Sets
-use Rattle.game.specs.Table as Table
+use Rattle.game_tree.specs.Sums as Sums
+use Rattle.game_tree.specs.Reply as Reply
+use Rattle.game_tree.specs.Sets as Sets
+use Rattle.game_tree.specs.Table as Table
 use Rattle.kuhn_rules.specs.Rules as KuhnRules
 use Rattle.kuhn_tree.specs.Tree as KuhnTree
-use Rattle.tables.specs.Games as Games
-use Rattle.tree_checks.specs.Checks as Checks
-use Rattle.whole.specs.Worths as Whole
+use Rattle.games.specs.Games as Games
+use Rattle.table_refusals.specs.Checks as Checks
+use Rattle.units_worths.specs.Worths as Whole
 use Rattle.cases.specs.Cases.{Agree, cases}
 
 pub cases-agree : Agree cases

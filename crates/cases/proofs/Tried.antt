@@ -5,12 +5,12 @@ use Prim.Native.Nat.{ℕ, _<_}
 use native.Mathlib.Omega.{arith}
 use lib.IntN.{pos}
 use lib.ListN.{length}
-use Rattle.finite.specs.Finite as Finite
-use Rattle.finite.specs.Finite.{and, or, some, every, those, has}
-use Rattle.game.specs.Sums.{_·_, sum, sumℕ}
-use Rattle.game.specs.Reply.{best, value, withKey, highest}
-use Rattle.game.specs.Sets.{sets, setActions, entriesOf, entries, before}
-use Rattle.game.specs.Table.{Table, addUp, tableBest, replyTable}
+use Rattle.prelude.specs.Finite as Finite
+use Rattle.prelude.specs.Finite.{and, or, some, every, those, has}
+use Rattle.game_tree.specs.Sums.{_·_, sum, sumℕ}
+use Rattle.game_tree.specs.Reply.{best, value, withKey, highest}
+use Rattle.game_tree.specs.Sets.{sets, setActions, entriesOf, entries, before}
+use Rattle.game_tree.specs.Table.{Table, addUp, tableBest, replyTable}
 use Rattle.kuhn_rules.specs.Rules.{bet-made, after-bet, ended, bets, stands, left, remaining, legal, contribution, wins, paid-by-others, payoff}
 use Rattle.kuhn_tree.specs.Tree as Kuhn
 use Rattle.kuhn_tree.specs.Counts.{dealNodes}
@@ -19,13 +19,13 @@ use Rattle.leduc_betting.specs.Cards as Cards
 use Rattle.leduc_rules.specs.Rules as Rules
 use Rattle.leduc_tree.specs.Tree as Leduc
 use Rattle.leduc_tree.specs.Turns.{joined, turns, isFirst, firstOnes, firstTurns, actionsInOrder}
-use Rattle.tables.specs.Games.{treeOf}
-use Rattle.tables.specs.Facts.{rootUnits}
-use Rattle.tables.specs.Actions.{actionsOf}
-use Rattle.tables.specs.declared.Game.{Game}
-use Rattle.tables.proofs.Facts.{counted-games, actions-listed, reply-best}
-use Rattle.whole.specs.Accepted.{Accepted}
-use Rattle.best.specs.Best.{BestReply}
+use Rattle.games.specs.Games.{treeOf}
+use Rattle.games.specs.Facts.{rootUnits}
+use Rattle.games.specs.Actions.{actionsOf}
+use Rattle.games.specs.declared.Game.{Game}
+use Rattle.games.proofs.Facts.{counted-games, actions-listed, reply-best}
+use Rattle.units_worths.specs.Accepted.{Accepted}
+use Rattle.units_best.specs.Best.{BestReply}
 use Rattle.cases.specs.Cases.{kuhn2-tables, passes, bluffs}
 use Rattle.cases.specs.Tried.{KuhnTried, leduc, callsAt, calls, LeducTried}
 

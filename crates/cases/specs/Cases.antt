@@ -21,16 +21,16 @@ use Rattle.leduc.specs.Calls as Leduc
 use Rattle.leduc_positions.specs.Positions.{legal-of}
 use Rattle.leduc.specs.Calls.{legal-refusal, listed, key-of, key-refusal, keyed, written}
 use Rattle.leduc_positions.specs.declared.LeducState.{LeducState}
-use Rattle.game.specs.Table.{Table}
-use Rattle.tables.specs.Games.{gameOf}
-use Rattle.tables.specs.declared.Game.{Game}
+use Rattle.game_tree.specs.Table.{Table}
+use Rattle.games.specs.Games.{gameOf}
+use Rattle.games.specs.declared.Game.{Game}
 use Rattle.worths.specs.Calls as Worths
 use Rattle.worths.specs.declared.WorthsAnswer.{WorthsAnswer}
 use Rattle.best_reply.specs.Calls as Reply
 use Rattle.best_reply.specs.declared.ReplyAnswer.{ReplyAnswer}
 use Rattle.nash_conv_units.specs.Calls as Conv
 use Rattle.nash_conv_units.specs.declared.NashConvAnswer.{NashConvAnswer}
-use Rattle.whole.specs.Checks.{evaluation-refusal}
+use Rattle.units_worths.specs.Checks.{evaluation-refusal}
 
 -- ---- what a case is
 

@@ -4,15 +4,15 @@ use mathlib.Core.List.{List, [], _∷_, _++_, map}
 use Prim.Native.Nat.{ℕ, _<_}
 use lib.Dec.{eqb}
 use lib.IntN.{pos}
-use Rattle.game.specs.Table.{Table, tableBest, replyTable}
+use Rattle.game_tree.specs.Table.{Table, tableBest, replyTable}
 use Rattle.leduc_betting.specs.Betting.{CALL}
 use Rattle.leduc_tree.specs.Tree.{Position, choices}
 use Rattle.leduc_tree.specs.Turns.{firstTurns}
-use Rattle.tables.specs.Games.{gameOf, treeOf}
-use Rattle.tables.specs.Facts.{rootUnits}
-use Rattle.tables.specs.declared.Game.{Game}
-use Rattle.whole.specs.Accepted.{Accepted}
-use Rattle.best.specs.Best.{BestReply}
+use Rattle.games.specs.Games.{gameOf, treeOf}
+use Rattle.games.specs.Facts.{rootUnits}
+use Rattle.games.specs.declared.Game.{Game}
+use Rattle.units_worths.specs.Accepted.{Accepted}
+use Rattle.units_best.specs.Best.{BestReply}
 use Rattle.cases.specs.Cases.{kuhn2-tables, passes, bluffs}
 
 -- Kuhn 2, always PASS: case k's reply of seat 0 is a rival table, it is worth 6, and no rival table, mixed or not, is worth more.

@@ -2,10 +2,10 @@
 use best_response::ValuesAnswer;
 ghost use mathlib.Core.Path.{_≡_};
 ghost use lib.ListN.{length};
-ghost use Rattle.tables.specs.Games.{gameOf};
-ghost use Rattle.whole.specs.Memory.{Left};
+ghost use Rattle.games.specs.Games.{gameOf};
+ghost use Rattle.units_worths.specs.Memory.{Left};
 ghost use Rattle.profile_refusals.specs.Checks.{value-refusal, values-refusal};
-ghost use Rattle.game_values.specs.Values.{bestOf, bestsOf, worthsOf, nashConvOf, exploitabilityOf};
+ghost use Rattle.f64_games.specs.Values.{bestOf, bestsOf, worthsOf, nashConvOf, exploitabilityOf};
 ghost use Rattle.best_response.specs.Calls as Response;
 
 // The best response value of a seat to the other seats of a profile.

@@ -1,17 +1,17 @@
 // Kuhn's calls for C: the seat count first, then what the call of crate kuhn takes.
+use c_structs::of_kuhn::KuhnMoved;
+use c_structs::of_kuhn::KuhnPayoffs;
+use c_structs::of_kuhn::KuhnPosition;
+use c_structs::of_kuhn::KuhnWritten;
+use c_structs::of_kuhn::moved_of;
+use c_structs::of_kuhn::payoffs_of;
+use c_structs::of_kuhn::state_of;
+use c_structs::of_kuhn::written_of;
 use kuhn::KuhnPoker;
-use twins::of_kuhn::KuhnMoved;
-use twins::of_kuhn::KuhnPayoffs;
-use twins::of_kuhn::KuhnPosition;
-use twins::of_kuhn::KuhnWritten;
-use twins::of_kuhn::moved_of;
-use twins::of_kuhn::payoffs_of;
-use twins::of_kuhn::state_of;
-use twins::of_kuhn::written_of;
 ghost use mathlib.Core.Path.{_≡_};
 ghost use lib.ListN.{length};
 ghost use Rattle.kuhn.specs.Calls.{start-refusal, started, dealt, stepped, listed, legal-of, keyed, key-of, written, paid, checked};
-ghost use Rattle.twins.specs.Kuhn.{game-of, state-of, moved-of, written-of, payoffs-of};
+ghost use Rattle.c_structs.specs.Kuhn.{game-of, state-of, moved-of, written-of, payoffs-of};
 
 // Number 2: the seat count is outside 2 to 10.
 #[no_mangle]

@@ -1,18 +1,18 @@
 // Leduc's calls for C: what the call of crate leduc takes.
+use c_structs::of_leduc::LeducMoved;
+use c_structs::of_leduc::LeducPayoffs;
+use c_structs::of_leduc::LeducPosition;
+use c_structs::of_leduc::LeducWritten;
+use c_structs::of_leduc::moved_of;
+use c_structs::of_leduc::payoffs_of;
+use c_structs::of_leduc::state_of;
+use c_structs::of_leduc::written_of;
 use leduc::LeducPoker;
-use twins::of_leduc::LeducMoved;
-use twins::of_leduc::LeducPayoffs;
-use twins::of_leduc::LeducPosition;
-use twins::of_leduc::LeducWritten;
-use twins::of_leduc::moved_of;
-use twins::of_leduc::payoffs_of;
-use twins::of_leduc::state_of;
-use twins::of_leduc::written_of;
 ghost use mathlib.Core.Path.{_≡_};
 ghost use lib.ListN.{length};
 ghost use Rattle.leduc_positions.specs.Positions.{legal-of};
 ghost use Rattle.leduc.specs.Calls.{started, dealt, stepped, legal-refusal, listed, key-of, key-refusal, keyed, written, paid, checked};
-ghost use Rattle.twins.specs.Leduc.{state-of, moved-of, written-of, payoffs-of};
+ghost use Rattle.c_structs.specs.Leduc.{state-of, moved-of, written-of, payoffs-of};
 
 // Start.
 #[no_mangle]

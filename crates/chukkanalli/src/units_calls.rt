@@ -4,12 +4,12 @@ use nash_conv_units::NashConvAnswer;
 use worths::WorthsAnswer;
 ghost use mathlib.Core.Path.{_≡_};
 ghost use lib.ListN.{length};
-ghost use Rattle.tables.specs.Games.{gameOf};
-ghost use Rattle.whole.specs.Memory.{Left};
+ghost use Rattle.games.specs.Games.{gameOf};
+ghost use Rattle.units_worths.specs.Memory.{Left};
 ghost use Rattle.worths.specs.Calls as Worths;
 ghost use Rattle.best_reply.specs.Calls as Reply;
 ghost use Rattle.nash_conv_units.specs.Calls as Conv;
-ghost use Rattle.whole.specs.Checks.{evaluation-refusal};
+ghost use Rattle.units_worths.specs.Checks.{evaluation-refusal};
 
 // What a table is worth to each seat.
 #[no_mangle]

@@ -10,9 +10,9 @@ use lib.IntN.{ℤ, pos}
 use lib.ListN.{length, getD, take, drop, replicate}
 use Rattle.refusals.specs.Refusals.{Check, first, _refuses_}
 use Rattle.refusals.proofs.Order.{refused, passed, fails-first, fails-rest}
-use Rattle.finite.specs.Finite.{and, or}
-use Rattle.finite.proofs.Tests.{Tested, holds, fails, tested, both, and-left, and-right, and-left-fails, and-right-fails, or-false-left}
-use Rattle.finite.proofs.Lists.{getD-within}
+use Rattle.prelude.specs.Finite.{and, or}
+use Rattle.prelude.proofs.Tests.{Tested, holds, fails, tested, both, and-left, and-right, and-left-fails, and-right-fails, or-false-left}
+use Rattle.prelude.proofs.Lists.{getD-within}
 use Rattle.kuhn_rules.specs.Rules.{ended, overrun, live, over, due, remaining}
 use Rattle.kuhn_rules.specs.Reached.{strange, twice, fair, played, unknown}
 use Rattle.kuhn_positions.specs.Positions.{seats-out, reachable, cardsOf, historyOf, position-checks, saved-checks, mark}

@@ -8,8 +8,8 @@ use lib.Dec.{eqb, ltb, leb}
 use borrow.Author.Tests.{le-ltb, le-leb, eq-eqb, ltb-false, eqb-true, not-false}
 use lib.ListN.{length}
 use Rattle.refusals.specs.Refusals.{first, _refuses_}
-use Rattle.finite.specs.Finite.{and, or}
-use Rattle.finite.proofs.Tests.{both, neither, and-right, or-right, or-false-left, or-false-right}
+use Rattle.prelude.specs.Finite.{and, or}
+use Rattle.prelude.proofs.Tests.{both, neither, and-right, or-right, or-false-left, or-false-right}
 use Rattle.kuhn_rules.specs.Rules.{ended, overrun}
 use Rattle.kuhn_rules.specs.Reached.{strange, twice, unknown, fair, played, possible}
 use Rattle.kuhn_positions.specs.Positions.{seats-out, cardsOf, historyOf, reachable, mark}

@@ -9,7 +9,7 @@ use lib.Dec.{eqb}
 use borrow.Author.Tests.{eq-eqb, ne-eqb}
 use lib.ListN.{length, getD, take, drop, set}
 use lib.Seq.{paste, length-take-le, getD-take}
-use Rattle.finite.proofs.Tests.{both, and-left-fails, and-right-fails}
+use Rattle.prelude.proofs.Tests.{both, and-left-fails, and-right-fails}
 use Rattle.kuhn_rules.specs.Rules.{PASS, BET, live, turn, legal}
 use Rattle.kuhn_positions.specs.Positions.{cardsOf, historyOf}
 use Rattle.kuhn.specs.Calls.{legal-of, key-of}

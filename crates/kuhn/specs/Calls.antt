@@ -8,7 +8,7 @@ use lib.IntN.{pos}
 use lib.ListN.{length, getD, drop, replicate}
 use Rattle.refusals.specs.Refusals.{Check, first, _refuses_}
 use Rattle.refusals.specs.Refusals as Refusals
-use Rattle.finite.specs.Finite.{and}
+use Rattle.prelude.specs.Finite.{and}
 use Rattle.kuhn_rules.specs.Rules.{due, live, over, ended, legal, key, remaining}
 use Rattle.kuhn_rules.specs.Stakes.{payoffs-of}
 use Rattle.kuhn_positions.specs.Positions.{cardsOf, historyOf, initial, with-card, with-action, counted, seats-out, position-checks, saved-checks, mark}

@@ -156,7 +156,7 @@ impl KuhnPoker {
         let legal = self.legal(state, agent);
         let count = legal.count;
         let actions = legal.actions;
-        finite::copy_at(out, 0, &actions, count);
+        prelude::copy_at(out, 0, &actions, count);
         Written {
             refusal,
             state,
@@ -213,7 +213,7 @@ impl KuhnPoker {
         let history = state.history;
         out[0] = agent as u8;
         out[1] = cards[agent];
-        finite::copy_at(out, 2, &history, acted);
+        prelude::copy_at(out, 2, &history, acted);
         Written {
             refusal,
             state,

@@ -2,20 +2,20 @@
 use arena::words::chance;
 use arena::words::clear;
 use arena::words::put;
-use index::index;
-use kuhn_hands::before_bet;
-use kuhn_words::card_of;
+use arena_index::index;
+use kuhn_arena_hands::before_bet;
+use kuhn_arena_words::card_of;
 ghost use mathlib.Core.Path.{_≡_};
 ghost use Prim.Native.Nat.{_+_, _*_, _^_, _<_, _≤_};
 ghost use lib.ListN.{length};
 ghost use Rattle.kuhn_rules.specs.Stakes.{ante, stake};
 ghost use Rattle.kuhn_tree.specs.Tree.{kuhnTree};
 ghost use Rattle.kuhn_tree.specs.Counts.{kuhnNodes};
-ghost use Rattle.finite.specs.Finite.{has};
-ghost use Rattle.game.specs.Sets.{size, sizes};
+ghost use Rattle.prelude.specs.Finite.{has};
+ghost use Rattle.game_tree.specs.Sets.{size, sizes};
 ghost use Rattle.arena.specs.Built.{Built, Row, Room};
 ghost use Rattle.arena.specs.Index.{Indexed};
-ghost use Rattle.kuhn_layout.specs.Layout.{codeOf, codeCount, cardsIn, dealAt, childrenTo, childAt, Dealing};
+ghost use Rattle.kuhn_arena_layout.specs.Layout.{codeOf, codeCount, cardsIn, dealAt, childrenTo, childAt, Dealing};
 
 // Whether one of the first seats has a card.
 fn is_dealt(cards: u64, dealt: usize, card: usize) -> bool

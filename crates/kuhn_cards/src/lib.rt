@@ -4,7 +4,7 @@ ghost use mathlib.Core.Path.{_≡_};
 ghost use mathlib.Core.Bool.{cond};
 ghost use Prim.Native.Nat.{_+_, _≤_, _<_};
 ghost use lib.ListN.{length, getD, take};
-ghost use Rattle.finite.specs.Finite.{has};
+ghost use Rattle.prelude.specs.Finite.{has};
 ghost use Rattle.kuhn_rules.specs.Rules.{remaining};
 ghost use Rattle.kuhn_rules.specs.Reached.{strange, twice};
 

@@ -1,15 +1,15 @@
 -- The statements of specs/Facts.antt, each by its proof. Assumes nothing.
 use mathlib.Core.Path.{refl}
-use Rattle.finite.specs.Finite.{and, or, some, every, those, has}
-use Rattle.game.specs.Tree.{fan}
-use Rattle.game.specs.Reply.{same}
-use Rattle.game.specs.Sets.{preorder, decisions, isOf, met, firsts, sets, decides, numbers}
+use Rattle.prelude.specs.Finite.{and, or, some, every, those, has}
+use Rattle.game_tree.specs.Tree.{fan}
+use Rattle.game_tree.specs.Reply.{same}
+use Rattle.game_tree.specs.Sets.{preorder, decisions, isOf, met, firsts, sets, decides, numbers}
 use Rattle.kuhn_rules.specs.Rules.{bet-made, after-bet, ended, left, remaining, legal}
 use Rattle.kuhn_rules.specs.Stakes.{ante, stake}
 use Rattle.kuhn_tree.specs.Tree.{next, each, below, kuhnTree}
 use Rattle.kuhn_tree.specs.Follows.{dealt, acted, positions, positionOf}
-use Rattle.records.specs.Listing.{padded, bytesOf, flat, listing}
-use Rattle.records.proofs.Bytes.{length-listing}
+use Rattle.listing_records.specs.Listing.{padded, bytesOf, flat, listing}
+use Rattle.listing_records.proofs.Bytes.{length-listing}
 use Rattle.kuhn_listing.specs.Listing.{cardsOf, tree, kuhnListing}
 use Rattle.kuhn_listing.specs.Facts.{Walked, Keys-fit, Long, Two-seats}
 use Rattle.kuhn_listing.proofs.Fit.{keys-short}

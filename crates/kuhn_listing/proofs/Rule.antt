@@ -9,8 +9,8 @@ use lib.Dec.{eqb, leb}
 use lib.ListN.{length, getD, take}
 use lib.Seq.{length-take-le, getD-take, take-take}
 use borrow.Author.Tests.{le-leb}
-use Rattle.finite.specs.Finite.{and, or, some, every, has}
-use Rattle.finite.proofs.Tests.{both, and-rest, and-left-fails, and-right-fails, some-same, below-cases}
+use Rattle.prelude.specs.Finite.{and, or, some, every, has}
+use Rattle.prelude.proofs.Tests.{both, and-rest, and-left-fails, and-right-fails, some-same, below-cases}
 use Rattle.kuhn_rules.specs.Rules.{left}
 use Rattle.kuhn_tree.specs.Order.{lowestBut, lowest, first}
 

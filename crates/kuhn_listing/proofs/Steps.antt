@@ -9,15 +9,15 @@ use lib.Dec.{leb}
 use lib.ListN.{length, getD, take, drop, set, length-append}
 use lib.Seq.{length-take-le, getD-take, getD-set-same, getD-set-other, sets, paste}
 use borrow.Author.Tests.{le-leb}
-use Rattle.finite.specs.Finite.{some, those, has}
-use Rattle.finite.proofs.Tests.{Tested, holds, fails, tested, both, and-right-fails, none-at, below-cases}
-use Rattle.finite.proofs.Lists.{those-kept, those-passed}
+use Rattle.prelude.specs.Finite.{some, those, has}
+use Rattle.prelude.proofs.Tests.{Tested, holds, fails, tested, both, and-right-fails, none-at, below-cases}
+use Rattle.prelude.proofs.Lists.{those-kept, those-passed}
 use Rattle.kuhn_rules.specs.Rules.{PASS, BET, ended, turn, left, remaining}
 use Rattle.kuhn_tree.specs.Tree.{m}
 use Rattle.kuhn_tree.specs.Order.{turns, histories, decisionAt, first}
-use Rattle.records.specs.Listing.{padded, bytesOf}
-use Rattle.records.specs.Written.{joined, Wrote}
-use Rattle.records.proofs.Bytes.{joined-last, one-more, zeros, drop-zeros, padded-short, length-bytes, wrote-as, wrote-nothing, wrote-append}
+use Rattle.listing_records.specs.Listing.{padded, bytesOf}
+use Rattle.listing_records.specs.Written.{joined, Wrote}
+use Rattle.listing_records.proofs.Bytes.{joined-last, one-more, zeros, drop-zeros, padded-short, length-bytes, wrote-as, wrote-nothing, wrote-append}
 use Rattle.kuhn_listing.specs.Listing.{kuhnListing}
 use Rattle.kuhn_listing.specs.Walk.{recordAt, recordsOf, handRecords, dealRecords, nextDeals, InDeck}
 use Rattle.kuhn_listing.proofs.Walk.{walked}

@@ -8,14 +8,14 @@ use native.Mathlib.Nat as NatL
 use native.Mathlib.Omega.{arith}
 use lib.ListN.{length, getD, length-append}
 use borrow.Author.Tests.{eq-eqb}
-use Rattle.finite.specs.Finite.{every, those}
-use Rattle.finite.proofs.Tests.{Tested, holds, fails, tested, both}
-use Rattle.finite.proofs.Lists.{those-kept, those-passed}
-use Rattle.game.specs.Tree.{Tree, fan, nil, cons}
-use Rattle.game.specs.Sets.{Decision, preorder, preorderAll, decisions, decisionsAll, met}
-use Rattle.game.proofs.Sets.{met-past, decisions-of-nodes}
-use Rattle.game.proofs.Walk.{passed}
-use Rattle.game.proofs.Counting.{In, Once}
+use Rattle.prelude.specs.Finite.{every, those}
+use Rattle.prelude.proofs.Tests.{Tested, holds, fails, tested, both}
+use Rattle.prelude.proofs.Lists.{those-kept, those-passed}
+use Rattle.game_tree.specs.Tree.{Tree, fan, nil, cons}
+use Rattle.game_tree.specs.Sets.{Decision, preorder, preorderAll, decisions, decisionsAll, met}
+use Rattle.game_tree.proofs.Sets.{met-past, decisions-of-nodes}
+use Rattle.game_tree.proofs.Walk.{passed}
+use Rattle.game_tree.proofs.Counting.{In, Once}
 use Rattle.kuhn_rules.specs.Rules.{PASS, BET, ended, turn, key, left, remaining}
 use Rattle.kuhn_tree.specs.Tree.{each, m}
 use Rattle.kuhn_tree.specs.Follows.{Position, dealt, acted, positions, positionsAll}
@@ -25,10 +25,10 @@ use Rattle.kuhn_tree.proofs.Growth.{legal-acts}
 use Rattle.kuhn_tree.proofs.Shape.{hand, deals, kuhn-deals}
 use Rattle.kuhn_tree.proofs.Sets.{turns-once}
 use Rattle.kuhn_tree.proofs.Order.{map-append, other-history, Meets, under, meets-more}
-use Rattle.records.specs.Listing.{listing, bytesOf}
-use Rattle.records.specs.Written.{joined}
-use Rattle.records.proofs.Bytes.{joined-last}
-use Rattle.records.proofs.Walk.{Marked, none, over, deal, act, marked-append, marked-decisions, Tells, tells-append, kept, kept-append, listed-by-walk}
+use Rattle.listing_records.specs.Listing.{listing, bytesOf}
+use Rattle.listing_records.specs.Written.{joined}
+use Rattle.listing_records.proofs.Bytes.{joined-last}
+use Rattle.listing_records.proofs.Walk.{Marked, none, over, deal, act, marked-append, marked-decisions, Tells, tells-append, kept, kept-append, listed-by-walk}
 use Rattle.kuhn_listing.specs.Listing.{cardsOf, tree, kuhnListing}
 use Rattle.kuhn_listing.specs.Walk.{recordsOf, dealRecords}
 

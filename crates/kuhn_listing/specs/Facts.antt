@@ -3,8 +3,8 @@ use mathlib.Core.Path.{_≡_}
 use mathlib.Core.List.{[], _∷_}
 use Prim.Native.Nat.{ℕ, _*_, _≤_}
 use lib.ListN.{length}
-use Rattle.game.specs.Tree.{Every}
-use Rattle.game.specs.Sets.{setCount}
+use Rattle.game_tree.specs.Tree.{Every}
+use Rattle.game_tree.specs.Sets.{setCount}
 use Rattle.kuhn_listing.specs.Listing.{tree, kuhnListing}
 use Rattle.kuhn_listing.specs.Walk.{dealRecords}
 

@@ -1,11 +1,11 @@
 -- The listing of Kuhn's sets with n seats, from its tree: the cards of a node are those of its position (document 01, "The tree and its sets").
 use mathlib.Core.List.{List}
 use Prim.Native.Nat.{ℕ}
-use Rattle.game.specs.Tree.{Tree}
+use Rattle.game_tree.specs.Tree.{Tree}
 use Rattle.kuhn_rules.specs.Stakes.{ante, stake}
 use Rattle.kuhn_tree.specs.Tree.{kuhnTree}
 use Rattle.kuhn_tree.specs.Follows.{Position, positionOf}
-use Rattle.records.specs.Listing.{Cards, listing}
+use Rattle.listing_records.specs.Listing.{Cards, listing}
 
 -- no public card, and the cards of the seats
 abbrev pub cardsOf : Position → Cards

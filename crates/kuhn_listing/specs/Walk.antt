@@ -3,11 +3,11 @@ use mathlib.Core.Bool.{cond}
 use mathlib.Core.List.{List, [], _∷_, _++_}
 use Prim.Native.Nat.{ℕ, zero, suc, _-_, _≤_, _<_}
 use lib.ListN.{getD}
-use Rattle.finite.specs.Finite.{those}
+use Rattle.prelude.specs.Finite.{those}
 use Rattle.kuhn_rules.specs.Rules.{ended, turn, left, remaining}
 use Rattle.kuhn_tree.specs.Order.{turns, histories, decisionAt, lowest, first}
-use Rattle.records.specs.Listing.{bytesOf}
-use Rattle.records.specs.Written.{joined}
+use Rattle.listing_records.specs.Listing.{bytesOf}
+use Rattle.listing_records.specs.Written.{joined}
 
 -- the record of the node with cards cs and history h
 abbrev pub recordAt : ℕ → List ℕ → List ℕ → List ℕ

@@ -11,10 +11,10 @@ ghost use Prim.Native.Nat.{_+_, _≤_, _<_};
 ghost use lib.Dec.{eqb};
 ghost use lib.ListN.{length, getD, take, set};
 ghost use lib.Seq.{sets};
-ghost use Rattle.finite.specs.Finite.{and, or, some, has};
+ghost use Rattle.prelude.specs.Finite.{and, or, some, has};
 ghost use Rattle.kuhn_tree.specs.Order.{histories, lowestBut, first};
-ghost use Rattle.records.specs.Listing.{padded};
-ghost use Rattle.records.specs.Written.{Wrote};
+ghost use Rattle.listing_records.specs.Listing.{padded};
+ghost use Rattle.listing_records.specs.Written.{Wrote};
 ghost use Rattle.kuhn_listing.specs.Listing.{kuhnListing};
 ghost use Rattle.kuhn_listing.specs.Walk.{recordsOf, handRecords, nextDeals, InDeck};
 
@@ -101,7 +101,7 @@ fn key_of(seat: u8, card: u8, history: &[u8], acted: usize) -> [u8; 13]
     let mut key = [0u8; 13];
     key[0] = seat;
     key[1] = card;
-    finite::copy_at(&mut key, 2, history, acted);
+    prelude::copy_at(&mut key, 2, history, acted);
     key
 }
 
@@ -123,8 +123,8 @@ fn write_first(
         return at;
     }
     let key = key_of(seat as u8, cards[seat], &history, acted);
-    let six = records::in_six(&cards, n);
-    records::put_record(
+    let six = listing_records::in_six(&cards, n);
+    listing_records::put_record(
         out,
         at,
         seat as u8,
@@ -134,7 +134,7 @@ fn write_first(
         six,
         LEGAL,
     );
-    at + records::RECORD
+    at + listing_records::RECORD
 }
 
 // One action more.

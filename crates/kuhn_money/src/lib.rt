@@ -8,7 +8,7 @@ ghost use mathlib.Core.Logic.{_⊎_};
 ghost use Prim.Native.Nat.{_-_, _≤_, _<_};
 ghost use lib.IntN.{pos, negℤ};
 ghost use lib.ListN.{length, getD, take};
-ghost use Rattle.finite.specs.Finite.{sum};
+ghost use Rattle.prelude.specs.Finite.{sum};
 ghost use Rattle.kuhn_rules.specs.Rules.{bet-made, stands, contribution, wins};
 ghost use Rattle.kuhn_rules.specs.Stakes.{ante, stake, payoffs-of};
 ghost use Rattle.kuhn_rules.specs.Highest.{Highest};

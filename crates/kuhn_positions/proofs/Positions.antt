@@ -8,8 +8,8 @@ use lib.Dec.{eqb, leb, ltb}
 use borrow.Author.Tests.{le-leb, leb-true, ltb-false}
 use lib.ListN.{length, take}
 use lib.Seq.{length-take-le}
-use Rattle.finite.specs.Finite.{and, or}
-use Rattle.finite.proofs.Tests.{both, and-left, and-right, and-rest, or-false-left, or-false-right}
+use Rattle.prelude.specs.Finite.{and, or}
+use Rattle.prelude.proofs.Tests.{both, and-left, and-right, and-rest, or-false-left, or-false-right}
 use Rattle.kuhn_rules.specs.Rules.{ended, live, over}
 use Rattle.kuhn_rules.specs.Reached.{strange, twice, fair, played, possible}
 use Rattle.kuhn_positions.specs.Positions.{cardsOf, historyOf, seats-out, reachable}

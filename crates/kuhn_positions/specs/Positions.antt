@@ -6,7 +6,7 @@ use lib.Dec.{eqb, leb, ltb}
 use lib.ListN.{take, set, replicate}
 use Rattle.refusals.specs.Refusals.{Check, _refuses_}
 use Rattle.refusals.specs.Refusals as Refusals
-use Rattle.finite.specs.Finite.{and, or}
+use Rattle.prelude.specs.Finite.{and, or}
 use Rattle.kuhn_rules.specs.Rules.{BET, overrun}
 use Rattle.kuhn_rules.specs.Reached.{possible, strange, twice, unknown}
 use Rattle.kuhn_positions.specs.declared.KuhnState.{KuhnState}

@@ -9,7 +9,7 @@ ghost use mathlib.Core.Path.{_≡_};
 ghost use mathlib.Core.Bool.{not};
 ghost use Prim.Native.Nat.{_≤_};
 ghost use lib.Dec.{eqb};
-ghost use Rattle.finite.specs.Finite.{or};
+ghost use Rattle.prelude.specs.Finite.{or};
 ghost use lib.ListN.{length, take};
 ghost use Rattle.refusals.specs.Refusals.{first};
 ghost use Rattle.kuhn_rules.specs.Rules.{live, over, ended};

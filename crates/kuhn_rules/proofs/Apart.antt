@@ -8,8 +8,8 @@ use native.Mathlib.Omega.{arith}
 use lib.Dec.{eqb, ltb}
 use lib.ListN.{getD}
 use borrow.Author.Tests.{eq-eqb, ne-eqb, eqb-true, eqb-false, ltb-true, ltb-false}
-use Rattle.finite.specs.Finite.{some, and}
-use Rattle.finite.proofs.Tests.{Tested, holds, fails, tested, none, some-here, both, and-left-fails, and-right-fails}
+use Rattle.prelude.specs.Finite.{some, and}
+use Rattle.prelude.proofs.Tests.{Tested, holds, fails, tested, none, some-here, both, and-left-fails, and-right-fails}
 
 module _ (h : List ℕ) (n p : ℕ) where
   -- the seat bets at place k

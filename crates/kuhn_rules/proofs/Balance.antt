@@ -12,9 +12,9 @@ use borrow.Author.Tests.{eq-eqb, ne-eqb, ltb-true, ltb-false, leb-true, eqb-true
 use lib.IntN.{ℤ, pos, negℤ, _+ℤ_, +ℤ-idl, +ℤ-idr, +ℤ-assoc, +ℤ-comm, +ℤ-invl, +ℤ-invr, pos-+ℤ-pos}
 use lib.ListN.{length, getD, take}
 use lib.Seq.{take-all}
-use Rattle.finite.specs.Finite.{and, or, sum, sumℤ, has}
-use Rattle.finite.proofs.Tests.{Tested, holds, fails, tested, true≢false, both, and-left, and-right, or-left, or-right, or-cases, none-at, some-here, every-at, below-cases}
-use Rattle.finite.proofs.Lists.{has-take}
+use Rattle.prelude.specs.Finite.{and, or, sum, sumℤ, has}
+use Rattle.prelude.proofs.Tests.{Tested, holds, fails, tested, true≢false, both, and-left, and-right, or-left, or-right, or-cases, none-at, some-here, every-at, below-cases}
+use Rattle.prelude.proofs.Lists.{has-take}
 use Rattle.kuhn_rules.specs.Rules.{PASS, BET, bet-made, bets, stands, wins, contribution, paid-by-others, payoff}
 use Rattle.kuhn_rules.specs.Reached.{strange, twice, fair}
 use Rattle.kuhn_rules.specs.Highest.{Highest}

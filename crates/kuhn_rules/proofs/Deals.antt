@@ -8,9 +8,9 @@ use lib.Dec.{ltb, leb}
 use borrow.Author.Tests.{le-leb, ltb-true, ltb-false}
 use lib.ListN.{length, getD, take, List·getD-eq-default}
 use lib.Seq.{take-take}
-use Rattle.finite.specs.Finite.{some, has, those}
-use Rattle.finite.proofs.Tests.{Tested, holds, fails, tested, both, and-right-fails, some-same}
-use Rattle.finite.proofs.Lists.{some-take, those-at, those-below, length-those-kept, length-those-passed}
+use Rattle.prelude.specs.Finite.{some, has, those}
+use Rattle.prelude.proofs.Tests.{Tested, holds, fails, tested, both, and-right-fails, some-same}
+use Rattle.prelude.proofs.Lists.{some-take, those-at, those-below, length-those-kept, length-those-passed}
 use Rattle.kuhn_rules.specs.Rules.{left, remaining}
 use Rattle.kuhn_rules.specs.Reached.{strange, twice}
 

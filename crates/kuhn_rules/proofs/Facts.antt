@@ -7,9 +7,9 @@ use native.Mathlib.Omega.{arith}
 use lib.Dec.{eqb, ltb, leb}
 use borrow.Author.Tests.{lt-leb, eq-eqb, ne-eqb, ltb-false, eqb-true, not-true}
 use lib.ListN.{length}
-use Rattle.finite.specs.Finite.{and, or, has}
-use Rattle.finite.proofs.Tests.{Tested, holds, fails, tested, and-left, and-right, and-left-fails, and-rest}
-use Rattle.finite.proofs.Lists.{those-ascending, has-those}
+use Rattle.prelude.specs.Finite.{and, or, has}
+use Rattle.prelude.proofs.Tests.{Tested, holds, fails, tested, and-left, and-right, and-left-fails, and-rest}
+use Rattle.prelude.proofs.Lists.{those-ascending, has-those}
 use Rattle.kuhn_rules.specs.Rules.{PASS, BET, turn, live, left, remaining, legal, overrun}
 use Rattle.kuhn_rules.specs.Reached.{strange, twice, unknown, fair, played, possible}
 use Rattle.kuhn_rules.specs.Facts.{Decides-reached, Legal-moves, One-winner, Zero-sum, Ascending, All-left, Longest-hand, Key-tells, Key-recalls}

@@ -8,9 +8,9 @@ use lib.Dec.{eqb, ltb}
 use borrow.Author.Tests.{lt-ltb, ltb-true, ltb-false, eq-eqb, ne-eqb, eqb-true, eqb-false}
 use lib.ListN.{length, getD, take}
 use lib.Seq.{length-take-le, getD-take, take-take, take-length}
-use Rattle.finite.specs.Finite.{and, or, some}
-use Rattle.finite.proofs.Tests.{Tested, holds, fails, tested, true≢false, iff, eqb-iff, some-here, some-at, some-same}
-use Rattle.finite.proofs.Lists.{some-take}
+use Rattle.prelude.specs.Finite.{and, or, some}
+use Rattle.prelude.proofs.Tests.{Tested, holds, fails, tested, true≢false, iff, eqb-iff, some-here, some-at, some-same}
+use Rattle.prelude.proofs.Lists.{some-take}
 use Rattle.kuhn_rules.specs.Rules.{PASS, BET, bet-made, after-bet, ended, overrun, bets, stands}
 use Rattle.kuhn_rules.specs.Reached.{unknown}
 

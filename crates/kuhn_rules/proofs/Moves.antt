@@ -8,8 +8,8 @@ use lib.Dec.{eqb, leb, ltb, leb·zero}
 use borrow.Author.Tests.{lt-ltb, le-ltb, le-leb, eq-eqb, ltb-true, ltb-false, leb-true, eqb-true, not-true}
 use lib.ListN.{length, getD, take, length-append}
 use lib.Seq.{take-append-seam, take-all, take-suc, take-length, length-take-le, getD-at}
-use Rattle.finite.specs.Finite.{and, or, some, has}
-use Rattle.finite.proofs.Tests.{both, neither, and-left, and-right, or-left, or-right, or-cases, none-at}
+use Rattle.prelude.specs.Finite.{and, or, some, has}
+use Rattle.prelude.proofs.Tests.{both, neither, and-left, and-right, or-left, or-right, or-cases, none-at}
 use Rattle.kuhn_rules.specs.Rules.{BET, due, left, live, ended, overrun}
 use Rattle.kuhn_rules.specs.Reached.{Reached, start, deal, act, strange, twice, unknown, fair, played, possible}
 use Rattle.kuhn_rules.proofs.Deals.{strange-take, twice-take}

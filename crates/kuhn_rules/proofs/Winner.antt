@@ -10,9 +10,9 @@ use borrow.Author.Tests.{le-leb, leb-true, eq-eqb, eqb-true}
 use lib.IntN.{ℤ, pos, negℤ}
 use lib.ListN.{getD, take, set, replicate}
 use lib.Seq.{getD-take}
-use Rattle.finite.specs.Finite.{and, or, every, sum, places}
-use Rattle.finite.proofs.Tests.{Tested, holds, fails, tested, true≢false, iff, both, and-right, and-left-fails, or-left, or-right, or-cases, below-cases, all, every-at}
-use Rattle.finite.proofs.Lists.{sum-without, filled-none, filled-more}
+use Rattle.prelude.specs.Finite.{and, or, every, sum, places}
+use Rattle.prelude.proofs.Tests.{Tested, holds, fails, tested, true≢false, iff, both, and-right, and-left-fails, or-left, or-right, or-cases, below-cases, all, every-at}
+use Rattle.prelude.proofs.Lists.{sum-without, filled-none, filled-more}
 use Rattle.kuhn_rules.specs.Rules.{stands, wins, contribution, paid-by-others, payoff}
 use Rattle.kuhn_rules.specs.Highest.{Highest}
 use Rattle.kuhn_rules.specs.Stakes.{ante, stake, payoffs-of}

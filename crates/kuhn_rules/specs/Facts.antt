@@ -6,7 +6,7 @@ use Prim.Native.Nat.{ℕ, _*_, _≤_, _<_}
 use lib.Dec.{eqb, leb}
 use lib.IntN.{pos}
 use lib.ListN.{length, getD, take}
-use Rattle.finite.specs.Finite.{and, sumℤ, has}
+use Rattle.prelude.specs.Finite.{and, sumℤ, has}
 use Rattle.kuhn_rules.specs.Rules.{BET, turn, live, over, left, remaining, legal, key, wins, payoff}
 use Rattle.kuhn_rules.specs.Reached.{Reached, possible}
 

@@ -5,7 +5,7 @@ use mathlib.Core.List.{List, [], _∷_, _++_}
 use Prim.Native.Nat.{ℕ}
 use lib.Dec.{eqb, leb, ltb}
 use lib.ListN.{length, getD, take}
-use Rattle.finite.specs.Finite.{and, or, some, has}
+use Rattle.prelude.specs.Finite.{and, or, some, has}
 use Rattle.kuhn_rules.specs.Rules.{BET, due, left, live, overrun}
 
 -- the start; a deal of a card that is left, while one is due; an action, while a seat acts

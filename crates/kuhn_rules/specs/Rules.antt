@@ -6,7 +6,7 @@ use Prim.Native.Nat.{ℕ, _+_, _-_, _%_}
 use lib.Dec.{eqb, leb, ltb}
 use lib.IntN.{ℤ, pos, negℤ}
 use lib.ListN.{length, getD, take}
-use Rattle.finite.specs.Finite.{and, or, some, every, sum, those, has}
+use Rattle.prelude.specs.Finite.{and, or, some, every, sum, those, has}
 
 -- ---- betting
 

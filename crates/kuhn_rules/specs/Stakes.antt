@@ -4,7 +4,7 @@ use mathlib.Core.List.{List}
 use Prim.Native.Nat.{ℕ}
 use lib.Dec.{ltb}
 use lib.IntN.{ℤ, pos}
-use Rattle.finite.specs.Finite.{places}
+use Rattle.prelude.specs.Finite.{places}
 use Rattle.kuhn_rules.specs.Rules.{payoff}
 
 -- every seat pays 1 before the deal

@@ -10,11 +10,11 @@ use native.Mathlib.Omega.{arith}
 use lib.Dec.{eqb, leb}
 use lib.ListN.{length, length-append}
 use borrow.Author.Tests.{eqb-true, eqb-false, eq-eqb, ne-eqb, leb-true, le-leb}
-use Rattle.finite.specs.Finite.{and, or, those, has}
-use Rattle.finite.proofs.Tests.{Tested, holds, fails, tested, true≢false, both, and-left, and-right-fails, or-right}
-use Rattle.finite.proofs.Lists.{has-append, those-kept, those-passed}
-use Rattle.game.proofs.Counting.{In, in-left, in-right, in-append, Once, once-append}
-use Rattle.game.proofs.Numbers.{in-those, those-in}
+use Rattle.prelude.specs.Finite.{and, or, those, has}
+use Rattle.prelude.proofs.Tests.{Tested, holds, fails, tested, true≢false, both, and-left, and-right-fails, or-right}
+use Rattle.prelude.proofs.Lists.{has-append, those-kept, those-passed}
+use Rattle.game_tree.proofs.Counting.{In, in-left, in-right, in-append, Once, once-append}
+use Rattle.game_tree.proofs.Numbers.{in-those, those-in}
 use Rattle.kuhn_rules.specs.Rules.{left, remaining}
 
 -- ---- one number fewer

@@ -1,11 +1,11 @@
 -- The keys of Kuhn 2 in order, and cases k and l, computed. Assumes nothing.
 use mathlib.Core.Path.{refl}
-use Rattle.game.specs.Sums.{_·_, sum, sumℕ}
-use Rattle.game.specs.Reply.{best, value, withKey, highest}
-use Rattle.game.specs.Sets.{sets, entriesOf, before}
-use Rattle.game.specs.Table.{addUp, tableWorth, tableBest, replyTable, nashConv}
-use Rattle.finite.specs.Finite as Finite
-use Rattle.finite.specs.Finite.{and, or, some, every, those, has}
+use Rattle.game_tree.specs.Sums.{_·_, sum, sumℕ}
+use Rattle.game_tree.specs.Reply.{best, value, withKey, highest}
+use Rattle.game_tree.specs.Sets.{sets, entriesOf, before}
+use Rattle.game_tree.specs.Table.{addUp, tableWorth, tableBest, replyTable, nashConv}
+use Rattle.prelude.specs.Finite as Finite
+use Rattle.prelude.specs.Finite.{and, or, some, every, those, has}
 use Rattle.kuhn_rules.specs.Rules.{bet-made, after-bet, ended, bets, stands, left, remaining, legal, contribution, wins, paid-by-others, payoff}
 use Rattle.kuhn_tree.specs.Tree.{next, each, below, kuhnTree, C}
 use Rattle.kuhn_tree.specs.Order.{inOrder}

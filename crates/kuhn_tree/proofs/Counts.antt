@@ -9,9 +9,9 @@ use native.Mathlib.Omega.{arith}
 use lib.Dec.{eqb}
 use lib.ListN.{length, length-append}
 use borrow.Author.Tests.{eq-eqb, ne-eqb}
-use Rattle.finite.specs.Finite.{or}
-use Rattle.finite.proofs.Tests.{true≢false}
-use Rattle.game.specs.Sets.{size, setCount}
+use Rattle.prelude.specs.Finite.{or}
+use Rattle.prelude.proofs.Tests.{true≢false}
+use Rattle.game_tree.specs.Sets.{size, setCount}
 use Rattle.kuhn_rules.specs.Rules.{PASS, BET, bet-made, after-bet, ended}
 use Rattle.kuhn_tree.specs.Tree.{m, kuhnTree}
 use Rattle.kuhn_tree.specs.Counts.{turnCount, dealNodes, kuhnNodes, kuhnSets}

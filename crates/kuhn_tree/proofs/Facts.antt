@@ -3,8 +3,8 @@ use mathlib.Core.Path.{_≡_, refl, subst}
 use native.Mathlib.Omega.{arith}
 use lib.ListN.{getD, drop}
 use lib.Signed.{_≤ℤ_}
-use Rattle.game.specs.Table.{tableWorth}
-use Rattle.game.proofs.TableTheorem.{reply-table-best}
+use Rattle.game_tree.specs.Table.{tableWorth}
+use Rattle.game_tree.proofs.TableTheorem.{reply-table-best}
 use Rattle.kuhn_tree.specs.Tree.{m, kuhnTree, C}
 use Rattle.kuhn_tree.specs.Facts.{rootUnits, FollowsRules, FuelEnough, SeatByKey, ActionsByKey, DepthByKey, LevelsByKey, TwoActions, Recalls, FansDivide, PayoffsBounded, PayoffsBalance, ReplyBest, CaseKUnbeaten, kuhn2, passes}
 use Rattle.kuhn_tree.proofs.Growth.{kuhn-follows, kuhn-fuel}

@@ -11,10 +11,10 @@ use lib.Dec.{eqb, leb}
 use lib.ListN.{length, take, length-append}
 use lib.Seq.{take-append-le, take-length}
 use borrow.Author.Tests.{ltb-true, ltb-false, eqb-true, eq-eqb, not-true}
-use Rattle.finite.specs.Finite.{and, or, some}
-use Rattle.finite.proofs.Tests.{Tested, holds, fails, tested, both, and-left, and-right, neither, some-same}
-use Rattle.game.proofs.Counting.{In}
-use Rattle.game.specs.Tree.{Tree, chance, decide, cons}
+use Rattle.prelude.specs.Finite.{and, or, some}
+use Rattle.prelude.proofs.Tests.{Tested, holds, fails, tested, both, and-left, and-right, neither, some-same}
+use Rattle.game_tree.proofs.Counting.{In}
+use Rattle.game_tree.specs.Tree.{Tree, chance, decide, cons}
 use Rattle.kuhn_rules.specs.Rules.{PASS, BET, ended, overrun, turn, due, live, over, remaining, legal, key}
 use Rattle.kuhn_rules.specs.Reached.{Reached, start, deal, act}
 use Rattle.kuhn_rules.proofs.Histories.{hand-lasts}

@@ -11,15 +11,15 @@ use lib.Dec.{eqb, ltb}
 use lib.ListN.{length, getD, take, length-append, List·getD-append}
 use lib.Seq.{getD-append-seam, take-append-le, take-append-seam}
 use borrow.Author.Tests.{eqb-false, eq-eqb, ne-eqb, ltb-true, ltb-false, not-true}
-use Rattle.finite.specs.Finite.{and, or, some, every, those, has}
-use Rattle.finite.proofs.Tests.{Tested, holds, fails, tested, true≢false, iff, both, and-left, and-right, or-left, or-right, some-here, some-at}
-use Rattle.finite.proofs.Lists.{those-kept, those-passed}
-use Rattle.game.specs.Tree.{Tree, fan}
-use Rattle.game.specs.Sets.{Decision, decisions, decisionsAll, isOf, met, firsts, sets}
-use Rattle.game.proofs.Sets.{isOf-key, isOf-seat, met-past}
-use Rattle.game.proofs.Walk.{passed, firsts-append, met-passed, met-in}
-use Rattle.game.proofs.Counting.{In, Once, in-met}
-use Rattle.game.proofs.Numbers.{in-those, those-in}
+use Rattle.prelude.specs.Finite.{and, or, some, every, those, has}
+use Rattle.prelude.proofs.Tests.{Tested, holds, fails, tested, true≢false, iff, both, and-left, and-right, or-left, or-right, some-here, some-at}
+use Rattle.prelude.proofs.Lists.{those-kept, those-passed}
+use Rattle.game_tree.specs.Tree.{Tree, fan}
+use Rattle.game_tree.specs.Sets.{Decision, decisions, decisionsAll, isOf, met, firsts, sets}
+use Rattle.game_tree.proofs.Sets.{isOf-key, isOf-seat, met-past}
+use Rattle.game_tree.proofs.Walk.{passed, firsts-append, met-passed, met-in}
+use Rattle.game_tree.proofs.Counting.{In, Once, in-met}
+use Rattle.game_tree.proofs.Numbers.{in-those, those-in}
 use Rattle.kuhn_rules.specs.Rules.{PASS, BET, ended, turn, key, left, remaining}
 use Rattle.kuhn_tree.specs.Tree.{each, m}
 use Rattle.kuhn_tree.specs.Order.{turns, histories, decisionAt, lowestBut, lowest, first, firstOf, joined, inOrder}

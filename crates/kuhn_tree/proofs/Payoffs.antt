@@ -7,11 +7,11 @@ use native.Mathlib.Nat as NatL
 use native.Mathlib.Omega.{arith}
 use lib.Dec.{eqb}
 use lib.IntN.{pos, negℤ, natAbs}
-use Rattle.finite.specs.Finite.{sum, sumℤ}
-use Rattle.finite.proofs.Lists.{sum-without}
-use Rattle.game.specs.Tree.{Tree, end, chance, decide, Trees, nil, cons, Pays, PaysAll}
-use Rattle.game.specs.Sets.{EveryEnd, EveryEndAll}
-use Rattle.game.proofs.Integers.{size-of-loss}
+use Rattle.prelude.specs.Finite.{sum, sumℤ}
+use Rattle.prelude.proofs.Lists.{sum-without}
+use Rattle.game_tree.specs.Tree.{Tree, end, chance, decide, Trees, nil, cons, Pays, PaysAll}
+use Rattle.game_tree.specs.Sets.{EveryEnd, EveryEndAll}
+use Rattle.game_tree.proofs.Integers.{size-of-loss}
 use Rattle.kuhn_rules.specs.Rules.{PASS, BET, ended, bets, remaining, contribution, wins, paid-by-others, payoff}
 use Rattle.kuhn_rules.proofs.Facts.{zero-sum}
 use Rattle.kuhn_tree.specs.Follows.{Position, dealt, acted, Follows, FollowsAll}

@@ -9,11 +9,11 @@ use native.Mathlib.Omega.{arith}
 use lib.Dec.{eqb, leb}
 use lib.ListN.{length, getD, length-append}
 use borrow.Author.Tests.{ltb-true, eqb-true, leb-true, not-true}
-use Rattle.finite.specs.Finite.{and}
-use Rattle.finite.proofs.Tests.{true≢false, and-left, and-right}
-use Rattle.game.specs.Tree.{Tree, end, chance, decide, Trees, nil, cons}
-use Rattle.game.specs.Sets.{size, sizes}
-use Rattle.game.proofs.Counting.{In, in-left, in-right, in-append}
+use Rattle.prelude.specs.Finite.{and}
+use Rattle.prelude.proofs.Tests.{true≢false, and-left, and-right}
+use Rattle.game_tree.specs.Tree.{Tree, end, chance, decide, Trees, nil, cons}
+use Rattle.game_tree.specs.Sets.{size, sizes}
+use Rattle.game_tree.proofs.Counting.{In, in-left, in-right, in-append}
 use Rattle.kuhn_rules.specs.Rules.{PASS, BET, ended, turn, due, live, over, remaining, legal}
 use Rattle.kuhn_rules.specs.Reached.{Reached, start, deal, act}
 use Rattle.kuhn_tree.specs.Tree.{kuhnTree}

@@ -6,9 +6,9 @@ use Prim.Native.Nat.{ℕ, zero, suc, _%_}
 use lib.Dec.{eqb}
 use lib.ListN.{length, getD}
 use borrow.Author.Tests.{eqb-true}
-use Rattle.finite.proofs.Tests.{Tested, holds, fails, tested}
-use Rattle.game.specs.Tree.{Key, Tree, fan}
-use Rattle.game.specs.Recall.{Path, moved, Recall, RecallAll, PerfectRecall}
+use Rattle.prelude.proofs.Tests.{Tested, holds, fails, tested}
+use Rattle.game_tree.specs.Tree.{Key, Tree, fan}
+use Rattle.game_tree.specs.Recall.{Path, moved, Recall, RecallAll, PerfectRecall}
 use Rattle.kuhn_rules.specs.Rules.{PASS, BET, ended, turn, key, remaining}
 use Rattle.kuhn_tree.specs.Tree.{each, m, kuhnTree}
 use Rattle.kuhn_tree.proofs.Shape.{hand, deals, kuhn-deals}

@@ -10,13 +10,13 @@ use lib.Dec.{eqb, leb}
 use lib.ListN.{length, getD, length-append, List·getD-append}
 use lib.Seq.{getD-append-seam}
 use borrow.Author.Tests.{eqb-true, eqb-false, le-leb}
-use Rattle.finite.specs.Finite.{and, has}
-use Rattle.finite.proofs.Tests.{Tested, holds, fails, tested, true≢false, both, and-left}
-use Rattle.game.specs.Tree.{Tree, fan}
-use Rattle.game.specs.Sets.{Decision, decisions, decisionsAll, sets, setCount, entries, entriesOf, SameActions}
-use Rattle.game.proofs.Sets.{Each, every→sets}
-use Rattle.game.proofs.Counting.{In, in-left, in-right, in-append, Once, once-append, once-length, sets-once, sets-in, in-sets}
-use Rattle.game.proofs.Numbers.{those-once}
+use Rattle.prelude.specs.Finite.{and, has}
+use Rattle.prelude.proofs.Tests.{Tested, holds, fails, tested, true≢false, both, and-left}
+use Rattle.game_tree.specs.Tree.{Tree, fan}
+use Rattle.game_tree.specs.Sets.{Decision, decisions, decisionsAll, sets, setCount, entries, entriesOf, SameActions}
+use Rattle.game_tree.proofs.Sets.{Each, every→sets}
+use Rattle.game_tree.proofs.Counting.{In, in-left, in-right, in-append, Once, once-append, once-length, sets-once, sets-in, in-sets}
+use Rattle.game_tree.proofs.Numbers.{those-once}
 use Rattle.kuhn_rules.specs.Rules.{PASS, BET, ended, turn, left, remaining}
 use Rattle.kuhn_tree.specs.Tree.{each, m, kuhnTree}
 use Rattle.kuhn_tree.specs.Order.{turns, histories, decisionAt}

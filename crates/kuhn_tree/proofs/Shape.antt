@@ -7,9 +7,9 @@ use native.Mathlib.Nat as NatL
 use native.Mathlib.Omega.{arith}
 use lib.ListN.{length, length-append}
 use borrow.Author.Tests.{eq-eqb, lt-ltb, le-ltb}
-use Rattle.finite.specs.Finite.{and}
-use Rattle.finite.proofs.Tests.{Tested, holds, fails, tested, both}
-use Rattle.game.specs.Tree.{Tree, end, chance, decide, cons, nil}
+use Rattle.prelude.specs.Finite.{and}
+use Rattle.prelude.proofs.Tests.{Tested, holds, fails, tested, both}
+use Rattle.game_tree.specs.Tree.{Tree, end, chance, decide, cons, nil}
 use Rattle.kuhn_rules.specs.Rules.{PASS, BET, ended, turn, live, remaining, key, payoff}
 use Rattle.kuhn_tree.specs.Tree.{card, action, nothing, next, each, below, m, kuhnTree}
 use Rattle.kuhn_tree.proofs.Growth.{legal-acts}

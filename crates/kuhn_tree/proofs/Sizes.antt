@@ -7,9 +7,9 @@ use Prim.Native.Nat.{ℕ, zero, suc, pred, _+_, _*_}
 use native.Mathlib.Nat as NatL
 use native.Mathlib.Omega.{arith}
 use lib.ListN.{length}
-use Rattle.game.specs.Tree.{Tree}
-use Rattle.game.specs.Sets.{size, sizes}
-use Rattle.game.proofs.Counting.{In}
+use Rattle.game_tree.specs.Tree.{Tree}
+use Rattle.game_tree.specs.Sets.{size, sizes}
+use Rattle.game_tree.proofs.Counting.{In}
 use Rattle.kuhn_rules.specs.Rules.{PASS, BET, ended, remaining}
 use Rattle.kuhn_tree.specs.Tree.{each, m, kuhnTree}
 use Rattle.kuhn_tree.specs.Counts.{dealNodes}

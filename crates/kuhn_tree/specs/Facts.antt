@@ -6,11 +6,11 @@ use Prim.Native.Nat.{ℕ, _+_, _*_, _^_, _≤_, _<_}
 use lib.IntN.{ℤ, pos, negℤ}
 use lib.ListN.{length}
 use lib.Signed.{_≤ℤ_}
-use Rattle.finite.specs.Finite.{sumℤ}
-use Rattle.game.specs.Tree.{Key, Tree, U, Splits, Pays, Every}
-use Rattle.game.specs.Recall.{PerfectRecall}
-use Rattle.game.specs.Sets.{size, sets, Sized, SameActions, SameHeights, Levels, EveryEnd}
-use Rattle.game.specs.Table.{Table, ValidTable, RivalTable, tableWorth, tableBest, replyTable, nashConv, BestReply}
+use Rattle.prelude.specs.Finite.{sumℤ}
+use Rattle.game_tree.specs.Tree.{Key, Tree, U, Splits, Pays, Every}
+use Rattle.game_tree.specs.Recall.{PerfectRecall}
+use Rattle.game_tree.specs.Sets.{size, sets, Sized, SameActions, SameHeights, Levels, EveryEnd}
+use Rattle.game_tree.specs.Table.{Table, ValidTable, RivalTable, tableWorth, tableBest, replyTable, nashConv, BestReply}
 use Rattle.kuhn_rules.specs.Reached.{Reached}
 use Rattle.kuhn_tree.specs.Tree.{next, below, m, fuel, kuhnTree, C, largestParts, largestPayoff}
 use Rattle.kuhn_tree.specs.Follows.{Follows, positions, positionOf}

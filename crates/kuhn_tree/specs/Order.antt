@@ -4,8 +4,8 @@ use mathlib.Core.List.{List, [], _∷_, _++_}
 use Prim.Native.Nat.{ℕ, zero, suc}
 use lib.Dec.{eqb}
 use lib.ListN.{length, getD, take}
-use Rattle.finite.specs.Finite.{and, or, some, every}
-use Rattle.game.specs.Sets.{Decision}
+use Rattle.prelude.specs.Finite.{and, or, some, every}
+use Rattle.game_tree.specs.Sets.{Decision}
 use Rattle.kuhn_rules.specs.Rules.{PASS, BET, ended, turn, key, left, remaining}
 use Rattle.kuhn_tree.specs.Tree.{m}
 

@@ -4,7 +4,7 @@ use mathlib.Core.Bool.{cond}
 use mathlib.Core.List.{List, [], _∷_, _++_}
 use Prim.Native.Nat.{ℕ, zero, suc, _+_, _*_, _-_}
 use lib.Dec.{leb}
-use Rattle.game.specs.Tree.{Tree, end, chance, decide, Trees, nil, cons}
+use Rattle.game_tree.specs.Tree.{Tree, end, chance, decide, Trees, nil, cons}
 use Rattle.kuhn_rules.specs.Rules.{due, live, remaining, turn, key, legal, payoff}
 
 -- at a position a card is due, or a seat acts, or the hand is over

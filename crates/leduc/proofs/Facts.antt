@@ -10,8 +10,8 @@ use lib.Seq.{length-take-le}
 use borrow.Author.Tests.{eq-eqb, le-leb, le-ltb}
 use Rattle.refusals.specs.Refusals.{first, _refuses_}
 use Rattle.refusals.proofs.Order.{fails-first, fails-rest}
-use Rattle.finite.specs.Finite.{and, or}
-use Rattle.finite.proofs.Tests.{both, neither, or-left, or-false-right, true≢false}
+use Rattle.prelude.specs.Finite.{and, or}
+use Rattle.prelude.proofs.Tests.{both, neither, or-left, or-false-right, true≢false}
 use Rattle.leduc_betting.specs.Betting.{closes, ended}
 use Rattle.leduc_betting.specs.Cards.{hidden, seen, strange, twice}
 use Rattle.leduc_rules.specs.Rules.{public-due, due}

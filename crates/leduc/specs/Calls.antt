@@ -8,7 +8,7 @@ use lib.IntN.{pos}
 use lib.ListN.{length, getD, drop, replicate}
 use Rattle.refusals.specs.Refusals.{Check, first, _refuses_}
 use Rattle.refusals.specs.Refusals as Refusals
-use Rattle.finite.specs.Finite.{and}
+use Rattle.prelude.specs.Finite.{and}
 use Rattle.leduc_betting.specs.Betting.{counted, ended}
 use Rattle.leduc_betting.specs.Cards.{remaining}
 use Rattle.leduc_rules.specs.Rules.{due, live, key}

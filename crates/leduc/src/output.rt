@@ -16,7 +16,7 @@ pub fn write_at(out: &mut [u8], at: usize, bytes: &[u8])
     ensures { λ r. ⌜ now (out .exit) ≡ paste (now (out .entry)) at (now (bytes .entry)) (length (now (bytes .entry))) ⌝ }
 {
     let count = bytes.len();
-    finite::copy_at(out, at, bytes, count);
+    prelude::copy_at(out, at, bytes, count);
 }
 
 // What a key shows of a card: the card itself.

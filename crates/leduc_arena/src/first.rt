@@ -1,14 +1,14 @@
 // The first round, and the public card behind each history that closes it.
 use arena::words::chance;
-use leduc_second::showdown;
-use leduc_second::words::RERAISES;
-use leduc_second::words::choose;
-use leduc_second::words::end;
-use leduc_second::words::write;
+use leduc_arena_round2::showdown;
+use leduc_arena_round2::words::RERAISES;
+use leduc_arena_round2::words::choose;
+use leduc_arena_round2::words::end;
+use leduc_arena_round2::words::write;
 ghost use Prim.Native.Nat.{_+_, _*_, _<_, _≤_};
-ghost use Rattle.game.specs.Sets.{size, sizes};
+ghost use Rattle.game_tree.specs.Sets.{size, sizes};
 ghost use Rattle.arena.specs.Built.{Built, Row, Room};
-ghost use Rattle.leduc_layout.specs.Layout.{plain, only, other, raisedTree, calledTree, secondTree, publicTree, firstTree};
+ghost use Rattle.leduc_arena_layout.specs.Layout.{plain, only, other, raisedTree, calledTree, secondTree, publicTree, firstTree};
 
 // What a seat has paid at the start, and what a raise adds.
 const ANTE: usize = 1;
@@ -40,7 +40,7 @@ fn shown(w: &mut [u64], at: usize, c: usize, d: usize, n: usize, paid: usize, p:
         return at;
     }
     let code = n + 6 * p;
-    leduc_second::round(w, at, code + c, code + d, showdown(c, d, p), paid)
+    leduc_arena_round2::round(w, at, code + c, code + d, showdown(c, d, p), paid)
 }
 
 // Lays out the deals of the public card.

@@ -2,17 +2,17 @@
 mod first;
 
 use arena::words::chance;
-use leduc_second::words::write;
+use leduc_arena_round2::words::write;
 ghost use mathlib.Core.Bool.{not};
 ghost use Prim.Native.Nat.{suc, _+_, _<_, _≤_};
 ghost use lib.Dec.{eqb};
 ghost use lib.ListN.{length};
-ghost use Rattle.game.specs.Sets.{size, sizes};
+ghost use Rattle.game_tree.specs.Sets.{size, sizes};
 ghost use Rattle.arena.specs.Built.{Built, Row, Room};
 ghost use Rattle.leduc_rules.specs.Stakes.{ante, raise₁, raise₂};
 ghost use Rattle.leduc_tree.specs.Tree.{leducTree};
-ghost use Rattle.leduc_layout.specs.Codes.{codeOf};
-ghost use Rattle.leduc_layout.specs.Layout.{plain, only, dealTree};
+ghost use Rattle.leduc_arena_layout.specs.Codes.{codeOf};
+ghost use Rattle.leduc_arena_layout.specs.Layout.{plain, only, dealTree};
 
 const DECK: usize = 6;
 

@@ -10,7 +10,7 @@ use lib.Dec.{eqb}
 use lib.ListN.{length, getD, take, drop, drop-of-length-le}
 use lib.Seq.{drop-cons, take-suc}
 use Rattle.refusals.specs.Refusals.{Check, first, _refuses_}
-use Rattle.finite.specs.Finite.{and, or}
+use Rattle.prelude.specs.Finite.{and, or}
 use Rattle.leduc_betting.specs.Betting.{open-round, may, closes, ended, played, unknown}
 use Rattle.leduc_betting.specs.Checks.{action-checks, barred-by, malformed, card-checks, round-checks, public-checks}
 

@@ -10,9 +10,9 @@ use lib.Dec.{eqb, ltb}
 use lib.ListN.{length, getD, take, set, List·getD-eq-default}
 use lib.Seq.{length-take-le, take-length, take-append-le, take-suc-set}
 use borrow.Author.Tests.{ltb-true, ltb-false, lt-ltb, le-ltb}
-use Rattle.finite.specs.Finite.{some, those, has}
-use Rattle.finite.proofs.Tests.{Tested, holds, fails, tested}
-use Rattle.finite.proofs.Lists.{has-take, length-those-kept, length-those-passed, those-at, those-below}
+use Rattle.prelude.specs.Finite.{some, those, has}
+use Rattle.prelude.proofs.Tests.{Tested, holds, fails, tested}
+use Rattle.prelude.proofs.Lists.{has-take, length-those-kept, length-those-passed, those-at, those-below}
 
 -- a card stands in a list if it stands at one of its places
 pub has-places : (c : ℕ) (l : List ℕ) → has c l ≡ some (length l) (λ i. eqb (getD l i 0) c)

@@ -8,10 +8,10 @@ use native.Mathlib.Numerals.{add-one}
 use lib.Dec.{eqb, ltb}
 use lib.ListN.{length, getD, drop, drop-of-length-le}
 use lib.Seq.{drop-cons}
-use Rattle.finite.specs.Finite.{and, or, those}
-use Rattle.finite.proofs.Lists.{those-kept, those-passed}
+use Rattle.prelude.specs.Finite.{and, or, those}
+use Rattle.prelude.proofs.Lists.{those-kept, those-passed}
 use borrow.Author.Tests.{ne-eqb, ltb-true, ltb-false, lt-ltb}
-use Rattle.finite.proofs.Tests.{Tested, holds, fails, tested, true≢false}
+use Rattle.prelude.proofs.Tests.{Tested, holds, fails, tested, true≢false}
 use Rattle.leduc_betting.specs.Betting.{FOLD, CALL, RAISE, ends-with, behind, raises, may, options}
 
 -- what a place adds to the raises, as a loop counts

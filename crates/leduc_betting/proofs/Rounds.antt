@@ -7,8 +7,8 @@ use native.Mathlib.Omega.{arith}
 use lib.Dec.{eqb, leb}
 use lib.ListN.{length}
 use borrow.Author.Tests.{eqb-true, leb-true, not-true}
-use Rattle.finite.specs.Finite.{and, or, some, every}
-use Rattle.finite.proofs.Tests.{and-left, and-right, or-cases, every-at, true≢false}
+use Rattle.prelude.specs.Finite.{and, or, some, every}
+use Rattle.prelude.proofs.Tests.{and-left, and-right, or-cases, every-at, true≢false}
 use Rattle.leduc_betting.specs.Betting.{ends-with, folded, closes, open-round, behind, raises, may, played}
 use Rattle.leduc_betting.proofs.Histories.{may-small}
 

@@ -5,7 +5,7 @@ use mathlib.Core.List.{List, [], _∷_, _++_}
 use Prim.Native.Nat.{ℕ, _+_, _-_, _%_}
 use lib.Dec.{eqb, leb, ltb}
 use lib.ListN.{length, getD}
-use Rattle.finite.specs.Finite.{and, or, some, those}
+use Rattle.prelude.specs.Finite.{and, or, some, those}
 
 -- ---- one round
 

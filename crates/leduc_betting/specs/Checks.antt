@@ -5,7 +5,7 @@ use Prim.Native.Nat.{ℕ}
 use lib.Dec.{ltb}
 use Rattle.refusals.specs.Refusals.{Check, _refuses_}
 use Rattle.refusals.specs.Refusals as Refusals
-use Rattle.finite.specs.Finite.{and, or}
+use Rattle.prelude.specs.Finite.{and, or}
 use Rattle.leduc_betting.specs.Betting.{open-round, folded, closes, may, ended, unknown}
 use Rattle.leduc_betting.specs.Cards.{strange, twice}
 

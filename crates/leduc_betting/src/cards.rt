@@ -5,7 +5,7 @@ ghost use mathlib.Core.Path.{_≡_};
 ghost use mathlib.Core.Bool.{cond};
 ghost use Prim.Native.Nat.{_≤_};
 ghost use lib.ListN.{getD, take};
-ghost use Rattle.finite.specs.Finite.{has};
+ghost use Rattle.prelude.specs.Finite.{has};
 ghost use Rattle.leduc_betting.specs.Cards.{seen, left, remaining, strange, twice};
 
 // The cards dealt: the seats' and the public one.

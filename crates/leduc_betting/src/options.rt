@@ -8,7 +8,7 @@ ghost use mathlib.Core.List.{[]};
 ghost use Prim.Native.Nat.{_≤_, _%_};
 ghost use lib.Dec.{eqb};
 ghost use lib.ListN.{length, take};
-ghost use Rattle.finite.specs.Finite.{and};
+ghost use Rattle.prelude.specs.Finite.{and};
 ghost use Rattle.leduc_betting.specs.Betting.{options, in-play, turn};
 
 // The legal actions of a seat, in ascending order.

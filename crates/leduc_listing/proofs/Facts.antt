@@ -4,13 +4,13 @@ use mathlib.Core.Bool.{true}
 use lib.Dec.{leb}
 use lib.ListN.{length}
 use borrow.Author.Tests.{leb-true}
-use Rattle.finite.specs.Finite.{and, or, some, those, has}
-use Rattle.game.proofs.Checked.{every, every-sound}
+use Rattle.prelude.specs.Finite.{and, or, some, those, has}
+use Rattle.game_tree.proofs.Checked.{every, every-sound}
 use Rattle.leduc_betting.specs.Betting.{ends-with, folded, closes, behind, raises, may, options, in-play, turn, ended}
 use Rattle.leduc_betting.specs.Cards.{left, remaining}
 use Rattle.leduc_rules.specs.Rules.{public-due, due, key}
 use Rattle.leduc_tree.specs.Tree.{next, each, below, leducTree}
-use Rattle.records.proofs.Bytes.{length-listing}
+use Rattle.listing_records.proofs.Bytes.{length-listing}
 use Rattle.leduc_listing.specs.Listing.{cardsOf, positionOf, tree, leducListing}
 use Rattle.leduc_listing.specs.Facts.{Walked, Keys-fit, Long}
 use Rattle.leduc_listing.proofs.Walk as Walk

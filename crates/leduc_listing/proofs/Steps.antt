@@ -6,9 +6,9 @@ use Prim.Native.Nat.{ℕ, zero, suc, _+_, _-_, _≤_}
 use native.Mathlib.Omega.{arith}
 use lib.ListN.{length, length-append}
 use lib.Seq.{sets}
-use Rattle.finite.specs.Finite.{or, those}
-use Rattle.finite.proofs.Tests.{Tested, holds, fails, tested}
-use Rattle.finite.proofs.Lists.{those-kept, those-passed}
+use Rattle.prelude.specs.Finite.{or, those}
+use Rattle.prelude.proofs.Tests.{Tested, holds, fails, tested}
+use Rattle.prelude.proofs.Lists.{those-kept, those-passed}
 use Rattle.leduc_betting.specs.Cards.{seen, left, remaining}
 use Rattle.leduc_betting.specs.Betting.{may, options, in-play}
 use Rattle.leduc_rules.specs.Rules.{live, shown-public}
@@ -16,9 +16,9 @@ use Rattle.leduc_tree.specs.Tree.{Position, dealt, acted, due, ended, actor, ke
 use Rattle.leduc_tree.specs.Turns as Turns
 use Rattle.leduc_tree.specs.Turns.{turns, isFirst, decisionAt}
 use Rattle.leduc_tree.specs.Follows.{acts}
-use Rattle.records.specs.Listing.{padded, bytesOf}
-use Rattle.records.specs.Written.{joined, Wrote}
-use Rattle.records.proofs.Bytes.{joined-last, length-bytes, wrote-as, wrote-append}
+use Rattle.listing_records.specs.Listing.{padded, bytesOf}
+use Rattle.listing_records.specs.Written.{joined, Wrote}
+use Rattle.listing_records.proofs.Bytes.{joined-last, length-bytes, wrote-as, wrote-append}
 use Rattle.leduc_listing.specs.Listing.{cardsOf, leducListing}
 use Rattle.leduc_listing.specs.Walk.{recordAt, recordsOf, nodeRecords, isMove, moveBound, moved, nextRecords}
 use Rattle.leduc_listing.proofs.Walk.{walked}

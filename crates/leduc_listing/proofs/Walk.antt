@@ -5,9 +5,9 @@ use mathlib.Core.List.{List, [], _∷_, _++_, map}
 use Prim.Native.Nat.{ℕ, zero, suc}
 use lib.IntN.{ℤ}
 use borrow.Author.Tests.{eq-eqb}
-use Rattle.finite.proofs.Tests.{both}
-use Rattle.game.specs.Tree.{Tree}
-use Rattle.game.specs.Sets.{Decision, preorder, preorderAll}
+use Rattle.prelude.proofs.Tests.{both}
+use Rattle.game_tree.specs.Tree.{Tree}
+use Rattle.game_tree.specs.Sets.{Decision, preorder, preorderAll}
 use Rattle.leduc_rules.specs.Rules.{legal}
 use Rattle.leduc_rules.specs.Stakes.{ante, raise₁, raise₂}
 use Rattle.leduc_tree.specs.Tree.{Position, start, actor, choices, payoff, afterDeal, afterAction, Next, card, action, nothing, next, each, below, fuel, leducTree}
@@ -18,8 +18,8 @@ use Rattle.leduc_tree.proofs.Growth.{Case, is-action, case}
 use Rattle.leduc_tree.proofs.Firsts.{map-append, fan-each}
 use Rattle.leduc_tree.proofs.Firsts as Firsts
 use Rattle.leduc_tree.proofs.Computed.{turns-told}
-use Rattle.records.specs.Listing.{listing, bytesOf}
-use Rattle.records.proofs.Walk.{Marked, none, over, deal, act, marked-append, Tells, kept, listed-by-walk}
+use Rattle.listing_records.specs.Listing.{listing, bytesOf}
+use Rattle.listing_records.proofs.Walk.{Marked, none, over, deal, act, marked-append, Tells, kept, listed-by-walk}
 use Rattle.leduc_listing.specs.Listing.{positions, positionsAll, cardsOf, tree, leducListing}
 use Rattle.leduc_listing.specs.Walk.{recordsOf}
 

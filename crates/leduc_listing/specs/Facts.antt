@@ -2,8 +2,8 @@
 use mathlib.Core.Path.{_≡_}
 use Prim.Native.Nat.{_*_, _≤_}
 use lib.ListN.{length}
-use Rattle.game.specs.Tree.{Every}
-use Rattle.game.specs.Sets.{setCount}
+use Rattle.game_tree.specs.Tree.{Every}
+use Rattle.game_tree.specs.Sets.{setCount}
 use Rattle.leduc_tree.specs.Tree.{start, next, fuel}
 use Rattle.leduc_tree.specs.Turns.{turns}
 use Rattle.leduc_listing.specs.Listing.{tree, leducListing}

@@ -2,12 +2,12 @@
 use mathlib.Core.List.{List, [], _∷_, _++_}
 use Prim.Native.Nat.{ℕ}
 use lib.ListN.{getD}
-use Rattle.game.specs.Tree.{Tree, end, chance, decide, Trees, nil, cons}
+use Rattle.game_tree.specs.Tree.{Tree, end, chance, decide, Trees, nil, cons}
 use Rattle.leduc_rules.specs.Rules.{shown-public}
 use Rattle.leduc_rules.specs.Stakes.{ante, raise₁, raise₂}
 use Rattle.leduc_tree.specs.Tree.{Position, start, afterDeal, leducTree}
 use Rattle.leduc_tree.specs.Follows.{afterLegal}
-use Rattle.records.specs.Listing.{Cards, listing}
+use Rattle.listing_records.specs.Listing.{Cards, listing}
 
 -- the positions of a tree's nodes, in their order; q is its root's
 unfoldable mutual

@@ -2,14 +2,14 @@
 use mathlib.Core.Bool.{Bool, cond}
 use mathlib.Core.List.{List, [], _∷_, _++_}
 use Prim.Native.Nat.{ℕ}
-use Rattle.finite.specs.Finite.{those}
+use Rattle.prelude.specs.Finite.{those}
 use Rattle.leduc_betting.specs.Cards.{seen, left}
 use Rattle.leduc_betting.specs.Betting.{in-play, may}
 use Rattle.leduc_tree.specs.Tree.{Position, dealt, acted, due, ended, next}
 use Rattle.leduc_tree.specs.Follows.{acts}
 use Rattle.leduc_tree.specs.Turns.{turns, isFirst, decisionAt}
-use Rattle.records.specs.Listing.{bytesOf}
-use Rattle.records.specs.Written.{joined}
+use Rattle.listing_records.specs.Listing.{bytesOf}
+use Rattle.listing_records.specs.Written.{joined}
 use Rattle.leduc_listing.specs.Listing.{cardsOf}
 
 -- the record of a position at which a seat acts

@@ -1,25 +1,25 @@
 // The listing of Leduc's sets: a walk over cards and actions, which writes a record at each node that is the first of its set.
 use leduc_betting::Public;
 use leduc_betting::betting::wide;
-use leduc_spots::Spot;
-use leduc_spots::action_legal;
-use leduc_spots::card_due;
-use leduc_spots::card_left;
-use leduc_spots::hand_over;
-use leduc_spots::is_first;
-use leduc_spots::key_of;
-use leduc_spots::legal_count;
-use leduc_spots::public_byte;
-use leduc_spots::seat_acts;
-use leduc_spots::seat_to_act;
-use leduc_spots::with_action;
-use leduc_spots::with_card;
+use leduc_listing_positions::Spot;
+use leduc_listing_positions::action_legal;
+use leduc_listing_positions::card_due;
+use leduc_listing_positions::card_left;
+use leduc_listing_positions::hand_over;
+use leduc_listing_positions::is_first;
+use leduc_listing_positions::key_of;
+use leduc_listing_positions::legal_count;
+use leduc_listing_positions::public_byte;
+use leduc_listing_positions::seat_acts;
+use leduc_listing_positions::seat_to_act;
+use leduc_listing_positions::with_action;
+use leduc_listing_positions::with_card;
 ghost use mathlib.Core.Path.{_≡_};
 ghost use Prim.Native.Nat.{_+_, _≤_, _<_};
 ghost use lib.ListN.{length};
 ghost use lib.Seq.{sets};
-ghost use Rattle.records.specs.Written.{Wrote};
-ghost use Rattle.leduc_spots.specs.Spots.{placed, made, Room};
+ghost use Rattle.listing_records.specs.Written.{Wrote};
+ghost use Rattle.leduc_listing_positions.specs.Spots.{placed, made, Room};
 ghost use Rattle.leduc_listing.specs.Listing.{leducListing};
 ghost use Rattle.leduc_listing.specs.Walk.{nodeRecords, isMove, moveBound, moved, nextRecords};
 
@@ -42,10 +42,10 @@ fn write_first(out: &mut [u8], at: usize, s: Spot) -> usize
     let cards = s.cards;
     let public = s.public;
     let key = key_of(s, seat);
-    let six = records::in_six(&cards, 2);
+    let six = listing_records::in_six(&cards, 2);
     let count = s.acted1 + s.acted2 + 5;
     let legal = legal_count(s, seat);
-    records::put_record(
+    listing_records::put_record(
         out,
         at,
         seat as u8,
@@ -55,7 +55,7 @@ fn write_first(out: &mut [u8], at: usize, s: Spot) -> usize
         six,
         legal as u8,
     );
-    at + records::RECORD
+    at + listing_records::RECORD
 }
 
 // Whether a number is a move: a card that is left while one is due, else a legal action.

@@ -8,7 +8,7 @@ use leduc_rules::RAISE_TWO;
 ghost use mathlib.Core.Path.{_≡_};
 ghost use mathlib.Core.Bool.{cond};
 ghost use lib.IntN.{pos, negℤ};
-ghost use Rattle.finite.specs.Finite.{or};
+ghost use Rattle.prelude.specs.Finite.{or};
 ghost use Prim.Native.Nat.{_+_, _-_, _≤_};
 ghost use lib.ListN.{length};
 ghost use Rattle.leduc_rules.specs.Stakes.{ante, raise₁, raise₂};

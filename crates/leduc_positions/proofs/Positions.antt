@@ -8,8 +8,8 @@ use lib.Dec.{eqb, leb}
 use lib.ListN.{length, take, drop, length-drop}
 use lib.Seq.{length-take-le}
 use borrow.Author.Tests.{le-leb, lt-leb, leb-true}
-use Rattle.finite.specs.Finite.{and, or}
-use Rattle.finite.proofs.Tests.{and-left, and-right, and-left-fails, and-right-fails}
+use Rattle.prelude.specs.Finite.{and, or}
+use Rattle.prelude.proofs.Tests.{and-left, and-right, and-left-fails, and-right-fails}
 use Rattle.leduc_betting.specs.Betting.{closes, ended, played}
 use Rattle.leduc_rules.specs.Rules.{live}
 use Rattle.leduc_betting.specs.Cards.{hidden, strange, twice}

@@ -7,7 +7,7 @@ use lib.IntN.{ℤ}
 use lib.ListN.{take, drop, set, replicate}
 use Rattle.refusals.specs.Refusals.{Check, _refuses_}
 use Rattle.refusals.specs.Refusals as Refusals
-use Rattle.finite.specs.Finite.{and}
+use Rattle.prelude.specs.Finite.{and}
 use Rattle.leduc_betting.specs.Betting.{closes, in-play}
 use Rattle.leduc_betting.specs.Cards.{hidden, seen}
 use Rattle.leduc_betting.specs.Checks.{barred-by, card-checks, round-checks, public-checks}

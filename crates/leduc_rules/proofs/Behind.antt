@@ -9,8 +9,8 @@ use lib.Dec.{eqb, leb, ltb}
 use lib.ListN.{length, getD, length-append}
 use lib.Seq.{getD-at}
 use borrow.Author.Tests.{eqb-true, eqb-false, lt-ltb, le-ltb}
-use Rattle.finite.specs.Finite.{and, or, some}
-use Rattle.finite.proofs.Tests.{Tested, holds, fails, tested, and-right, or-cases, true≢false}
+use Rattle.prelude.specs.Finite.{and, or, some}
+use Rattle.prelude.proofs.Tests.{Tested, holds, fails, tested, and-right, or-cases, true≢false}
 use Rattle.leduc_betting.specs.Betting.{CALL, RAISE, ends-with, folded, closes, behind, in-play, turn, played}
 use Rattle.leduc_rules.specs.Rules.{matched, bet, seated, after-round, contribution}
 use Rattle.leduc_rules.specs.Facts.{Behind-pays-less}

@@ -9,9 +9,9 @@ use lib.IntN.{pos, _+ℤ_, +ℤ-invr, +ℤ-invl}
 use lib.ListN.{length, getD, take, drop}
 use lib.Seq.{take-append-seam, drop-append-seam}
 use borrow.Author.Tests.{ltb-true, leb-true, leb-false, not-true}
-use Rattle.finite.specs.Finite.{and, or, some, has}
-use Rattle.finite.proofs.Tests.{Tested, holds, fails, tested, both, and-left, and-right, and-left-fails, and-rest, or-left, or-right, or-cases, or-false-right, true≢false}
-use Rattle.finite.proofs.Lists.{those-ascending, has-those}
+use Rattle.prelude.specs.Finite.{and, or, some, has}
+use Rattle.prelude.proofs.Tests.{Tested, holds, fails, tested, both, and-left, and-right, and-left-fails, and-rest, or-left, or-right, or-cases, or-false-right, true≢false}
+use Rattle.prelude.proofs.Lists.{those-ascending, has-those}
 use Rattle.leduc_betting.specs.Cards.{rank, left, remaining, strange}
 use Rattle.leduc_betting.specs.Betting.{folded, closes}
 use Rattle.leduc_rules.specs.Rules.{folds, pairs, beats, wins, public-due, due, live, legal, key, contribution, payoff}

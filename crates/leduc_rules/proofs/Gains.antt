@@ -7,7 +7,7 @@ use lib.IntN.{ℤ, pos, negℤ}
 use mir.Syntax.{w64}
 use mir.Val.{SFits, toZ, ofZ}
 use mir.ValLaws.{toZ-ofZ}
-use Rattle.finite.proofs.Amounts.{owed-fits}
+use Rattle.prelude.proofs.Amounts.{owed-fits}
 
 abbrev pub gained : (wins loses : Bool) (mine theirs : ℕ) → ℤ
 gained wins loses mine theirs = cond wins (pos theirs) (cond loses (negℤ (pos mine)) (pos 0))

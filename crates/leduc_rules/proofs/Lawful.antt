@@ -9,8 +9,8 @@ use lib.ListN.{length}
 use borrow.Author.Tests.{eqb-true, ltb-false, le-ltb, not-true, not-false}
 use Rattle.refusals.specs.Refusals.{first, _refuses_}
 use Rattle.refusals.proofs.Order.{fails-first, fails-rest}
-use Rattle.finite.specs.Finite.{and, or, some}
-use Rattle.finite.proofs.Tests.{Tested, holds, fails, tested, both, neither, or-cases, or-false-left, or-false-right, true≢false}
+use Rattle.prelude.specs.Finite.{and, or, some}
+use Rattle.prelude.proofs.Tests.{Tested, holds, fails, tested, both, neither, or-cases, or-false-left, or-false-right, true≢false}
 use Rattle.leduc_betting.specs.Betting.{closes, open-round, may, played, unknown}
 use Rattle.leduc_betting.specs.Cards.{hidden}
 use Rattle.leduc_betting.specs.Checks.{action-checks, barred-by, malformed, round-checks}

@@ -8,8 +8,8 @@ use lib.Dec.{eqb, leb, ltb}
 use lib.ListN.{length, getD, take, length-append, List·getD-append}
 use lib.Seq.{take-append-le, take-append-seam, getD-at}
 use borrow.Author.Tests.{eqb-true, eq-eqb, leb-false, le-leb, lt-leb, lt-ltb, le-ltb, ltb-true, ltb-false, not-true}
-use Rattle.finite.specs.Finite.{and, or, some, has}
-use Rattle.finite.proofs.Tests.{some-same, both, and-left, and-right, and-left-fails, and-right-fails, or-left, or-right, or-cases, or-false-left, or-false-right, neither, true≢false}
+use Rattle.prelude.specs.Finite.{and, or, some, has}
+use Rattle.prelude.proofs.Tests.{some-same, both, and-left, and-right, and-left-fails, and-right-fails, or-left, or-right, or-cases, or-false-left, or-false-right, neither, true≢false}
 use Rattle.leduc_betting.specs.Betting.{folded, closes, open-round, may, ended, played}
 use Rattle.leduc_betting.specs.Cards.{hidden, seen, left, strange, twice}
 use Rattle.leduc_rules.specs.Rules.{public-due, due, live}

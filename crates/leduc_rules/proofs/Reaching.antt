@@ -7,8 +7,8 @@ use native.Mathlib.Omega.{arith}
 use lib.Dec.{eqb}
 use lib.ListN.{length}
 use borrow.Author.Tests.{eqb-true, leb-true, not-true}
-use Rattle.finite.specs.Finite.{and, or, some}
-use Rattle.finite.proofs.Tests.{and-left, and-right, or-cases, or-false-right, true≢false}
+use Rattle.prelude.specs.Finite.{and, or, some}
+use Rattle.prelude.proofs.Tests.{and-left, and-right, or-cases, or-false-right, true≢false}
 use Rattle.leduc_betting.specs.Betting.{folded, closes, open-round, ended, played}
 use Rattle.leduc_rules.specs.Rules.{due, live}
 use Rattle.leduc_betting.specs.Cards.{hidden, seen, strange, twice}

@@ -8,7 +8,7 @@ use lib.IntN.{pos, _+ℤ_}
 use lib.ListN.{length, getD, take}
 use Rattle.refusals.specs.Refusals.{first}
 use Rattle.refusals.specs.Refusals as Refusals
-use Rattle.finite.specs.Finite.{has}
+use Rattle.prelude.specs.Finite.{has}
 use Rattle.leduc_betting.specs.Betting.{closes, behind, in-play, turn, ended}
 use Rattle.leduc_betting.specs.Cards.{hidden, left, remaining}
 use Rattle.leduc_rules.specs.Rules.{due, live, legal, shown-public, key, contribution, payoff}

@@ -5,7 +5,7 @@ use mathlib.Core.List.{List, [], _∷_, _++_}
 use Prim.Native.Nat.{ℕ}
 use lib.Dec.{eqb, leb, ltb}
 use lib.ListN.{length}
-use Rattle.finite.specs.Finite.{and, or}
+use Rattle.prelude.specs.Finite.{and, or}
 use Rattle.leduc_betting.specs.Betting.{may, closes, played}
 use Rattle.leduc_betting.specs.Cards.{hidden, seen, left, strange, twice}
 use Rattle.leduc_rules.specs.Rules.{public-due, live}

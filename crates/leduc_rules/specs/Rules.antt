@@ -6,7 +6,7 @@ use Prim.Native.Nat.{ℕ, _+_, _-_, _%_}
 use lib.Dec.{eqb, ltb}
 use lib.IntN.{ℤ, pos, negℤ}
 use lib.ListN.{length, getD}
-use Rattle.finite.specs.Finite.{and, or, some}
+use Rattle.prelude.specs.Finite.{and, or, some}
 use Rattle.leduc_betting.specs.Betting.{FOLD, CALL, RAISE, folded, closes, options, in-play, turn, ended}
 use Rattle.leduc_betting.specs.Cards.{rank, hidden}
 use Rattle.leduc_betting.specs.declared.Public.{Public}

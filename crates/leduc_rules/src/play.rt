@@ -12,7 +12,7 @@ ghost use mathlib.Core.List.{[]};
 ghost use Prim.Native.Nat.{_≤_};
 ghost use lib.Dec.{eqb};
 ghost use lib.ListN.{length, take};
-ghost use Rattle.finite.specs.Finite.{and, or};
+ghost use Rattle.prelude.specs.Finite.{and, or};
 ghost use Rattle.leduc_betting.specs.Betting.{closes, played};
 ghost use Rattle.leduc_betting.specs.Cards.{hidden, seen, strange, twice};
 ghost use Rattle.leduc_rules.specs.Rules.{public-due, due, live};

@@ -14,7 +14,7 @@ ghost use mathlib.Core.List.{_++_};
 ghost use Prim.Native.Nat.{_≤_};
 ghost use lib.ListN.{length, take};
 ghost use Rattle.refusals.specs.Refusals.{first};
-ghost use Rattle.finite.specs.Finite.{and};
+ghost use Rattle.prelude.specs.Finite.{and};
 ghost use Rattle.leduc_betting.specs.Betting.{closes, ended};
 ghost use Rattle.leduc_betting.specs.Cards.{seen};
 ghost use Rattle.leduc_betting.specs.Checks.{barred-by, card-checks, round-checks, public-checks};

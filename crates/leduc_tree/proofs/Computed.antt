@@ -6,10 +6,10 @@ use Prim.Native.Nat.{ℕ}
 use lib.Dec.{eqb}
 use lib.ListN.{length}
 use borrow.Author.Tests.{eqb-true}
-use Rattle.finite.specs.Finite.{and, or, some, those, has}
-use Rattle.finite.proofs.Tests.{and-left, and-right}
-use Rattle.game.specs.Sets.{Decision, met, firsts, sets, setCount, entries, entriesOf}
-use Rattle.game.proofs.Tries.{none, finds}
+use Rattle.prelude.specs.Finite.{and, or, some, those, has}
+use Rattle.prelude.proofs.Tests.{and-left, and-right}
+use Rattle.game_tree.specs.Sets.{Decision, met, firsts, sets, setCount, entries, entriesOf}
+use Rattle.game_tree.proofs.Tries.{none, finds}
 use Rattle.leduc_betting.specs.Betting.{ends-with, folded, closes, behind, raises, may, options, in-play, turn, ended}
 use Rattle.leduc_betting.specs.Cards.{left, remaining}
 use Rattle.leduc_rules.specs.Rules.{public-due, due, key}

@@ -5,13 +5,13 @@ use mathlib.Core.List.{List, [], _∷_, _++_, map}
 use Prim.Native.Nat.{ℕ, zero, suc}
 use lib.IntN.{ℤ}
 use lib.ListN.{length}
-use Rattle.finite.specs.Finite.{and}
-use Rattle.finite.proofs.Tests.{Tested, holds, fails, tested, true≢false, and-left, and-right}
-use Rattle.game.specs.Tree.{Key, Tree, fan}
-use Rattle.game.specs.Reply.{same}
-use Rattle.game.specs.Sets.{Decision, decisions, decisionsAll, isOf, met, firsts}
-use Rattle.game.proofs.Tests.{T-of, same→eq}
-use Rattle.game.proofs.Tries.{Trie, finds, add, finds-add}
+use Rattle.prelude.specs.Finite.{and}
+use Rattle.prelude.proofs.Tests.{Tested, holds, fails, tested, true≢false, and-left, and-right}
+use Rattle.game_tree.specs.Tree.{Key, Tree, fan}
+use Rattle.game_tree.specs.Reply.{same}
+use Rattle.game_tree.specs.Sets.{Decision, decisions, decisionsAll, isOf, met, firsts}
+use Rattle.game_tree.proofs.Tests.{T-of, same→eq}
+use Rattle.game_tree.proofs.Tries.{Trie, finds, add, finds-add}
 use Rattle.leduc_tree.specs.Tree.{Position, acted, actor, choices, key, afterDeal, afterAction, Next, card, action, nothing, next, each, below}
 use Rattle.leduc_tree.specs.Turns.{joined, turns, isFirst, firstOnes, decisionAt}
 

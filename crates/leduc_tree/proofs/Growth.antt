@@ -9,11 +9,11 @@ use lib.Dec.{ltb}
 use lib.IntN.{ℤ}
 use lib.ListN.{length}
 use borrow.Author.Tests.{eq-eqb}
-use Rattle.finite.specs.Finite.{and, or, some, those, has}
-use Rattle.finite.proofs.Tests.{Tested, holds, fails, tested, true≢false, both, and-left, and-right, or-cases}
-use Rattle.game.specs.Tree.{Tree, end, chance, decide, cons}
-use Rattle.game.proofs.Counting.{In}
-use Rattle.game.proofs.Numbers.{in-those}
+use Rattle.prelude.specs.Finite.{and, or, some, those, has}
+use Rattle.prelude.proofs.Tests.{Tested, holds, fails, tested, true≢false, both, and-left, and-right, or-cases}
+use Rattle.game_tree.specs.Tree.{Tree, end, chance, decide, cons}
+use Rattle.game_tree.proofs.Counting.{In}
+use Rattle.game_tree.proofs.Numbers.{in-those}
 use Rattle.leduc_betting.specs.Betting.{ends-with, folded, closes, behind, raises, may, options, in-play}
 use Rattle.leduc_betting.specs.Cards.{seen, left, remaining}
 use Rattle.leduc_rules.specs.Rules.{public-due, live, legal}

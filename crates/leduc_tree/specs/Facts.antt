@@ -3,7 +3,7 @@
 use mathlib.Core.Path.{_≡_}
 use mathlib.Core.List.{map}
 use Prim.Native.Nat.{ℕ, _+_}
-use Rattle.game.specs.Sets.{sets, setActions}
+use Rattle.game_tree.specs.Sets.{sets, setActions}
 use Rattle.leduc_tree.specs.Tree.{start, payoff, next, below, fuel, leducTree}
 use Rattle.leduc_tree.specs.Follows.{Follows}
 use Rattle.leduc_tree.specs.Turns.{firstTurns, decisionAt, actionsInOrder}

@@ -3,7 +3,7 @@ use mathlib.Core.Path.{_≡_}
 use mathlib.Core.Bool.{Bool, true}
 use mathlib.Core.List.{List, [], _∷_, map}
 use Prim.Native.Nat.{ℕ}
-use Rattle.game.specs.Tree.{Tree, end, chance, decide, Trees, nil, cons}
+use Rattle.game_tree.specs.Tree.{Tree, end, chance, decide, Trees, nil, cons}
 use Rattle.leduc_rules.specs.Rules.{live, legal}
 use Rattle.leduc_rules.specs.Reached as Reached
 use Rattle.leduc_tree.specs.Tree.{Position, acted, due, ended, actor, key, payoff, afterDeal}

@@ -6,7 +6,7 @@ use Prim.Native.Nat.{ℕ, zero, suc, _+_, _*_}
 use lib.Dec.{ltb}
 use lib.IntN.{ℤ}
 use lib.ListN.{length}
-use Rattle.game.specs.Tree.{Key, Tree, end, chance, decide, Trees, nil, cons}
+use Rattle.game_tree.specs.Tree.{Key, Tree, end, chance, decide, Trees, nil, cons}
 use Rattle.leduc_betting.specs.declared.Public.{Public}
 use Rattle.leduc_betting.specs.declared.Public.the-variants.{Hidden, Card}
 use Rattle.leduc_betting.specs.Betting as Betting

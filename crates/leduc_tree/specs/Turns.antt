@@ -4,7 +4,7 @@ use mathlib.Core.List.{List, [], _∷_, _++_, map}
 use Prim.Native.Nat.{ℕ, zero, suc, _-_}
 use lib.Dec.{eqb}
 use lib.ListN.{length, getD}
-use Rattle.game.specs.Sets.{Decision}
+use Rattle.game_tree.specs.Sets.{Decision}
 use Rattle.leduc_betting.specs.Cards.{seen, remaining}
 use Rattle.leduc_tree.specs.Tree.{Position, start, actor, choices, key, afterDeal, afterAction, Next, card, action, nothing, next, fuel}
 

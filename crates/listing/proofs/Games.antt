@@ -10,21 +10,21 @@ use lib.Seq.{sets, sets-eq}
 use borrow.Author.Tests.{eq-eqb, ne-eqb, eqb-true, eqb-false, leb-true, leb-false, ltb-true, ltb-false, lt-ltb, le-ltb}
 use Rattle.refusals.specs.Refusals.{_refuses_, first}
 use Rattle.refusals.proofs.Order.{refused, passed}
-use Rattle.finite.proofs.Tests.{Tested, holds, fails, tested}
-use Rattle.game.specs.Sets.{size, setCount}
+use Rattle.prelude.proofs.Tests.{Tested, holds, fails, tested}
+use Rattle.game_tree.specs.Sets.{size, setCount}
 use Rattle.kuhn_tree.specs.Tree.{kuhnTree}
 use Rattle.kuhn_tree.specs.Follows as Kuhn-tree
 use Rattle.leduc_tree.specs.Tree.{leducTree}
-use Rattle.tables.specs.declared.Game.{Game}
-use Rattle.tables.specs.Games.{treeOf}
-use Rattle.tables.specs.Seats.{seats-out}
-use Rattle.tree_checks.specs.Checks.{tree-checks}
-use Rattle.tables.specs.Facts.{nodesOf, setsOf}
-use Rattle.tables.proofs.Counts.{nodes-table, kuhn-least, kuhn-most, kuhn-nodes, sets-at-most, leduc-sets}
-use Rattle.tables.proofs.Facts.{nodes-are, counted-games}
-use Rattle.tree_checks.proofs.Order.{first-refused, tree-passed, tree-known}
-use Rattle.records.specs.Listing.{listing}
-use Rattle.records.proofs.Bytes.{length-listing}
+use Rattle.games.specs.declared.Game.{Game}
+use Rattle.games.specs.Games.{treeOf}
+use Rattle.games.specs.Seats.{seats-out}
+use Rattle.table_refusals.specs.Checks.{tree-checks}
+use Rattle.games.specs.Facts.{nodesOf, setsOf}
+use Rattle.games.proofs.Counts.{nodes-table, kuhn-least, kuhn-most, kuhn-nodes, sets-at-most, leduc-sets}
+use Rattle.games.proofs.Facts.{nodes-are, counted-games}
+use Rattle.table_refusals.proofs.Order.{first-refused, tree-passed, tree-known}
+use Rattle.listing_records.specs.Listing.{listing}
+use Rattle.listing_records.proofs.Bytes.{length-listing}
 use Rattle.kuhn_listing.specs.Listing as Kuhn
 use Rattle.kuhn_listing.specs.Listing.{kuhnListing}
 use Rattle.leduc_listing.specs.Listing as Leduc

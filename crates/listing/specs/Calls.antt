@@ -5,13 +5,13 @@ use Prim.Native.Nat.{ℕ, zero, suc, _*_}
 use lib.Dec.{ltb}
 use lib.ListN.{length, drop}
 use Rattle.refusals.specs.Refusals.{Check, _refuses_, first, output}
-use Rattle.game.specs.Sets.{size, setCount}
+use Rattle.game_tree.specs.Sets.{size, setCount}
 use Rattle.kuhn_tree.specs.Follows as Kuhn-tree
-use Rattle.tables.specs.declared.Game.{Game}
-use Rattle.tables.specs.Games.{isKuhn, treeOf}
-pub use Rattle.tables.specs.Games.{gameOf}
-use Rattle.tree_checks.specs.Checks.{tree-checks}
-use Rattle.records.specs.Listing.{Cards, listing}
+use Rattle.games.specs.declared.Game.{Game}
+use Rattle.games.specs.Games.{isKuhn, treeOf}
+pub use Rattle.games.specs.Games.{gameOf}
+use Rattle.table_refusals.specs.Checks.{tree-checks}
+use Rattle.listing_records.specs.Listing.{Cards, listing}
 use Rattle.kuhn_listing.specs.Listing as Kuhn
 use Rattle.leduc_listing.specs.Listing as Leduc
 use Rattle.listing.specs.declared.ListingAnswer.{ListingAnswer}

@@ -2,9 +2,9 @@
 use mathlib.Core.Path.{_≡_}
 use Prim.Native.Nat.{ℕ, _*_}
 use lib.ListN.{length}
-use Rattle.game.specs.Sets.{setCount}
-use Rattle.tables.specs.declared.Game.{Game}
-use Rattle.tables.specs.Games.{treeOf}
+use Rattle.game_tree.specs.Sets.{setCount}
+use Rattle.games.specs.declared.Game.{Game}
+use Rattle.games.specs.Games.{treeOf}
 use Rattle.kuhn_listing.specs.Listing.{kuhnListing}
 use Rattle.leduc_listing.specs.Listing.{leducListing}
 use Rattle.listing.specs.Calls.{listingOf, gameOf}

@@ -1,11 +1,11 @@
 // The listing of a game's sets: 24 bytes per set, in set order.
-use tables::Game;
+use games::Game;
 ghost use mathlib.Core.Path.{_≡_};
 ghost use Prim.Native.Nat.{_≤_};
 ghost use lib.ListN.{length};
 ghost use lib.Seq.{sets};
 ghost use Rattle.refusals.specs.Refusals.{first};
-ghost use Rattle.tree_checks.specs.Checks.{tree-checks};
+ghost use Rattle.table_refusals.specs.Checks.{tree-checks};
 ghost use Rattle.listing.specs.Calls.{listingOf, listing-refusal, answer, written, gameOf};
 
 // A call's refusal number, 0 if it was accepted, and the nodes and sets of the game's tree; these are 0 if it was refused. C has it as it is.
@@ -20,11 +20,11 @@ pub struct ListingAnswer {
 fn refusal_of(g: Game, words: usize, room: usize) -> u64
     ensures { λ r. ⌜ r ≡ listing-refusal g words room ⌝ }
 {
-    let tree = tree_checks::tree_refusal(g, words);
+    let tree = table_refusals::tree_refusal(g, words);
     if tree != refusals::ACCEPTED {
         return tree;
     }
-    if room < records::RECORD * g.sets() {
+    if room < listing_records::RECORD * g.sets() {
         return refusals::OUTPUT;
     }
     refusals::ACCEPTED

@@ -8,7 +8,7 @@ use lib.Signed.{_≤ℤ_, nonNeg, yes-nonNeg, pos-natAbs}
 use mir.Syntax.{w64}
 use mir.Val.{Fits, SFits, toZ, ofZ}
 use mir.ValLaws.{toZ-ofZ}
-use Rattle.game.proofs.Integers.{+ℤ-cancel, size-of-sum}
+use Rattle.game_tree.proofs.Integers.{+ℤ-cancel, size-of-sum}
 
 -- as a local holds it, in bits
 abbrev pub bits : ℤ → ℤ

@@ -3,9 +3,9 @@ use mathlib.Core.Path.{_≡_, ap, ap₂, _∙_}
 use Prim.Native.Nat.{ℕ, zero, suc}
 use native.Mathlib.Omega.{arith}
 use lib.IntN.{pos, natAbs}
-use Rattle.game.specs.Table.{Table}
-use Rattle.tables.specs.declared.Game.{Game}
-use Rattle.tables.specs.Facts.{rootUnits}
+use Rattle.game_tree.specs.Table.{Table}
+use Rattle.games.specs.declared.Game.{Game}
+use Rattle.games.specs.Facts.{rootUnits}
 use Rattle.nash_conv_units.specs.declared.NashConvAnswer.{NashConvAnswer}
 use Rattle.nash_conv_units.specs.Calls.{nashConvOf, answer}
 

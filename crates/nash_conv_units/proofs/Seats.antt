@@ -13,20 +13,20 @@ use lib.Signed.{_≤ℤ_}
 use mir.Syntax.{w64}
 use mir.Val.{Fits}
 use borrow.Author.Tests.{lt-ltb}
-use Rattle.finite.proofs.Lists.{getD-places}
-use Rattle.game.specs.Tree.{Tree}
-use Rattle.game.specs.Table.{Table, tableWorth, tableBest, nashConv}
-use Rattle.game.proofs.Integers.{size-of-sum}
-use Rattle.game.proofs.TableTheorem.{table-bounds}
-use Rattle.tables.specs.declared.Game.{Game}
-use Rattle.tables.specs.Games.{treeOf, largestPayoff}
-use Rattle.tables.specs.Facts as Games
-use Rattle.tables.specs.Facts.{rootUnits}
-use Rattle.tables.proofs.Facts.{games-fit}
-use Rattle.best.specs.Best.{Unbeaten}
-use Rattle.whole.specs.Accepted.{Accepted}
-use Rattle.whole.specs.Worths.{worthsOf}
-use Rattle.whole.proofs.Facts.{games-shaped, units-fit}
+use Rattle.prelude.proofs.Lists.{getD-places}
+use Rattle.game_tree.specs.Tree.{Tree}
+use Rattle.game_tree.specs.Table.{Table, tableWorth, tableBest, nashConv}
+use Rattle.game_tree.proofs.Integers.{size-of-sum}
+use Rattle.game_tree.proofs.TableTheorem.{table-bounds}
+use Rattle.games.specs.declared.Game.{Game}
+use Rattle.games.specs.Games.{treeOf, largestPayoff}
+use Rattle.games.specs.Facts as Games
+use Rattle.games.specs.Facts.{rootUnits}
+use Rattle.games.proofs.Facts.{games-fit}
+use Rattle.units_best.specs.Best.{Unbeaten}
+use Rattle.units_worths.specs.Accepted.{Accepted}
+use Rattle.units_worths.specs.Worths.{worthsOf}
+use Rattle.units_worths.proofs.Facts.{games-shaped, units-fit}
 use Rattle.nash_conv_units.proofs.Differences.{bits, bits-of-small, difference-size}
 
 module _ (g : Game) (D : ℕ) (table : Table) (a : Accepted g D table) where

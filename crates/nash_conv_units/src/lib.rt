@@ -1,18 +1,18 @@
 // NashConv of a table: what the seats would gain by their best values over their worths, added up, in whole units.
-use tables::Game;
+use games::Game;
 ghost use mathlib.Core.Path.{_≡_};
 ghost use Prim.Native.Nat.{_*_, _^_, _≤_, _<_};
 ghost use lib.IntN.{pos, _-ℤ_, natAbs};
 ghost use lib.ListN.{length};
 ghost use lib.Signed.{_≤ℤ_};
-ghost use Rattle.game.specs.Table.{tableWorth, tableBest, nashConv};
-ghost use Rattle.tables.specs.Games.{gameOf, treeOf};
-ghost use Rattle.tables.specs.Facts.{nodesOf, rootUnits};
-ghost use Rattle.stored.specs.Stored.{Stored};
-ghost use Rattle.whole.specs.Worths.{worthsOf};
-ghost use Rattle.whole.specs.Memory.{Left};
-ghost use Rattle.whole.specs.Accepted.{Accepted};
-ghost use Rattle.whole.specs.Checks.{evaluation-refusal};
+ghost use Rattle.game_tree.specs.Table.{tableWorth, tableBest, nashConv};
+ghost use Rattle.games.specs.Games.{gameOf, treeOf};
+ghost use Rattle.games.specs.Facts.{nodesOf, rootUnits};
+ghost use Rattle.arena_store.specs.Stored.{Stored};
+ghost use Rattle.units_worths.specs.Worths.{worthsOf};
+ghost use Rattle.units_worths.specs.Memory.{Left};
+ghost use Rattle.units_worths.specs.Accepted.{Accepted};
+ghost use Rattle.units_worths.specs.Checks.{evaluation-refusal};
 ghost use Rattle.nash_conv_units.specs.Calls.{answer, Whole};
 
 // A call's refusal number, 0 if it was accepted, NashConv, and the units of the root that it is measured in; every number but the first is 0 if it was refused. C has it as it is.
@@ -44,7 +44,7 @@ fn seat_excess(
     ensures { λ r. ⌜ (pos r ≡ tableBest (treeOf g) d (rootUnits g d) (now (table .entry)) seat -ℤ tableWorth (treeOf g) d (rootUnits g d) (now (table .entry)) seat) × Stored g (now (words .exit)) ⌝ }
 {
     let worth = worths[seat];
-    let best = best::best_value(g, words, seat, d, table);
+    let best = units_best::best_value(g, words, seat, d, table);
     excess(best, worth)
 }
 
@@ -53,8 +53,8 @@ fn evaluate(g: Game, words: &mut [u64], d: usize, table: &[u8]) -> u64
     requires { ⌜ Accepted g d (now table) × (12 * nodesOf g ≤ length (now words)) ⌝ }
     ensures { λ r. ⌜ pos r ≡ nashConv (treeOf g) d (rootUnits g d) (now (table .entry)) (g .seats) ⌝ }
 {
-    stored::store(g, words);
-    let worths = whole::worths::table_worths(g, words, d, table);
+    arena_store::store(g, words);
+    let worths = units_worths::worths::table_worths(g, words, d, table);
     let seats = g.seats;
     let mut sum = 0;
     let mut seat = 0;
@@ -78,7 +78,7 @@ pub fn nash_conv_units(
     ensures memory { λ r. ⌜ Left (r .refusal) (gameOf number seats) (now (work .entry)) (now (work .exit)) ⌝ }
 {
     let g = Game { number, seats };
-    let refusal = whole::evaluation_refusal(g, work.len(), d, table);
+    let refusal = units_worths::evaluation_refusal(g, work.len(), d, table);
     if refusal != refusals::ACCEPTED {
         return NashConvAnswer {
             refusal,
@@ -91,6 +91,6 @@ pub fn nash_conv_units(
     NashConvAnswer {
         refusal,
         nash_conv,
-        units: whole::root_units(g, d),
+        units: units_worths::root_units(g, d),
     }
 }

@@ -9,16 +9,16 @@ use lib.ListN.{length}
 use borrow.Author.Tests.{eq-eqb, ne-eqb, eqb-true, le-leb, lt-leb, leb-false, not-false}
 use Rattle.refusals.specs.Refusals.{Check, first}
 use Rattle.refusals.proofs.Order.{refused, passed, fails-first, fails-rest}
-use Rattle.game.specs.Sets.{entries}
-use Rattle.tables.specs.declared.Game.{Game}
-use Rattle.tables.specs.Games.{treeOf}
-use Rattle.tables.specs.Seats.{seats-out}
-use Rattle.tree_checks.specs.Checks.{tree-checks, seat-checks}
-use Rattle.tables.specs.Facts.{entriesOf}
-use Rattle.tables.proofs.Facts.{entries-are}
-use Rattle.tree_checks.proofs.Order.{tree-passed}
-use Rattle.whole.specs.Facts.{Known}
-use Rattle.whole.proofs.Passed.{game-known, tree-first}
+use Rattle.game_tree.specs.Sets.{entries}
+use Rattle.games.specs.declared.Game.{Game}
+use Rattle.games.specs.Games.{treeOf}
+use Rattle.games.specs.Seats.{seats-out}
+use Rattle.table_refusals.specs.Checks.{tree-checks, seat-checks}
+use Rattle.games.specs.Facts.{entriesOf}
+use Rattle.games.proofs.Facts.{entries-are}
+use Rattle.table_refusals.proofs.Order.{tree-passed}
+use Rattle.units_worths.specs.Facts.{Known}
+use Rattle.units_worths.proofs.Passed.{game-known, tree-first}
 use Rattle.profile_refusals.specs.Accepted.{Accepted}
 use Rattle.profile_refusals.specs.Checks.{entry-checks}
 use Rattle.profile_refusals.specs.Asked.{restOf, refusalOf, SeatOf}

@@ -2,8 +2,8 @@
 use mathlib.Core.List.{List, _++_}
 use Prim.Native.Nat.{ℕ, _<_}
 use Rattle.refusals.specs.Refusals.{Check, first}
-use Rattle.tables.specs.declared.Game.{Game}
-use Rattle.tree_checks.specs.Checks.{tree-checks, seat-checks}
+use Rattle.games.specs.declared.Game.{Game}
+use Rattle.table_refusals.specs.Checks.{tree-checks, seat-checks}
 use Rattle.profile_refusals.specs.Checks.{entry-checks}
 use Rattle.profile_refusals.specs.declared.Asked.{Asked}
 

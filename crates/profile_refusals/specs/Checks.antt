@@ -5,10 +5,10 @@ use Prim.Native.Nat.{ℕ}
 use lib.Dec.{eqb}
 use Rattle.refusals.specs.Refusals.{Check, _refuses_, first}
 use Rattle.refusals.specs.Refusals as Refusals
-use Rattle.game.specs.Sets.{entries}
-use Rattle.tables.specs.declared.Game.{Game}
-use Rattle.tables.specs.Games.{treeOf}
-use Rattle.tree_checks.specs.Checks.{tree-checks, seat-checks}
+use Rattle.game_tree.specs.Sets.{entries}
+use Rattle.games.specs.declared.Game.{Game}
+use Rattle.games.specs.Games.{treeOf}
+use Rattle.table_refusals.specs.Checks.{tree-checks, seat-checks}
 
 -- 7: a profile of n entries
 unfoldable pub entry-checks : Game → ℕ → List Check

@@ -1,9 +1,9 @@
 // What refuses a call on a profile: of the numbers 1 to 7 those that concern its inputs, in the paper's order.
-use tables::Game;
+use games::Game;
 ghost use mathlib.Core.Path.{_≡_};
 ghost use mathlib.Core.Bool.{false};
 ghost use Rattle.refusals.specs.Refusals.{first};
-ghost use Rattle.tables.specs.Seats.{seats-out};
+ghost use Rattle.games.specs.Seats.{seats-out};
 ghost use Rattle.profile_refusals.specs.Checks.{entry-checks};
 ghost use Rattle.profile_refusals.specs.Asked.{restOf, refusalOf};
 
@@ -50,7 +50,7 @@ fn rest_refusal(g: Game, asked: Asked, entries: usize) -> u64
 pub fn refusal_of(g: Game, words: usize, asked: Asked, entries: usize) -> u64
     ensures { λ r. ⌜ r ≡ refusalOf asked g words entries ⌝ }
 {
-    let tree = tree_checks::tree_refusal(g, words);
+    let tree = table_refusals::tree_refusal(g, words);
     if tree != refusals::ACCEPTED {
         return tree;
     }

@@ -4,8 +4,8 @@ use crate::words::say_action;
 use crate::words::say_number;
 use crate::words::say_whole;
 use crate::words::wide;
+use games::Game;
 use kuhn::KuhnPoker;
-use tables::Game;
 
 const SEATS: usize = 2;
 

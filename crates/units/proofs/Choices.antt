@@ -7,16 +7,16 @@ use native.Mathlib.Omega.{arith}
 use lib.Dec.{ltb}
 use lib.IntN.{ℤ, pos, _+ℤ_}
 use lib.Signed.{ltZ, ≤ℤ-refl, ltZ-no, ltZ-yes, clashℤ}
-use Rattle.game.specs.Sums.{sumℕ}
-use Rattle.game.specs.Tree.{Key, Tree, Strategy, all, Splits, Every, Pays, Valid}
-use Rattle.game.specs.Reply.{Reply, replyTree, Choice, members, setSum, highest, lowest, actions, best}
-use Rattle.game.specs.Recall.{PerfectRecall, RecallsOwn}
-use Rattle.game.proofs.Integers.{+ℤ-mono, +ℤ-cancel}
-use Rattle.game.proofs.Tests.{Tested, is, isn't, tested, T-of}
-use Rattle.game.proofs.Units.{splits-fit}
-use Rattle.game.proofs.Own.{own-actions}
-use Rattle.game.proofs.Best.{lowest-of-greatest, best-decides}
-use Rattle.game.proofs.Against.{every-both, own→every, recall-kept}
+use Rattle.game_tree.specs.Sums.{sumℕ}
+use Rattle.game_tree.specs.Tree.{Key, Tree, Strategy, all, Splits, Every, Pays, Valid}
+use Rattle.game_tree.specs.Reply.{Reply, replyTree, Choice, members, setSum, highest, lowest, actions, best}
+use Rattle.game_tree.specs.Recall.{PerfectRecall, RecallsOwn}
+use Rattle.game_tree.proofs.Integers.{+ℤ-mono, +ℤ-cancel}
+use Rattle.game_tree.proofs.Tests.{Tested, is, isn't, tested, T-of}
+use Rattle.game_tree.proofs.Units.{splits-fit}
+use Rattle.game_tree.proofs.Own.{own-actions}
+use Rattle.game_tree.proofs.Best.{lowest-of-greatest, best-decides}
+use Rattle.game_tree.proofs.Against.{every-both, own→every, recall-kept}
 use Rattle.units.specs.Gain.{Member, found, setGain, topmost}
 use Rattle.units.specs.Gains.{BestGains, GainBest}
 use Rattle.units.proofs.Gains.{gain-value, set-gain-is}

@@ -4,14 +4,14 @@ use mathlib.Core.Bool.{Bool, true, false, cond}
 use mathlib.Core.List.{List, _∷_, _++_, map}
 use Prim.Native.Nat.{ℕ, suc, _+_, _/_}
 use lib.Dec.{eqb}
-use Rattle.game.specs.Tree.{Key, Tree, end, chance, decide, Trees, nil, cons, fan, Strategy}
-use Rattle.game.specs.Reply.{Replies, none, more, node, share, replyTree, replyAll, replyKids, Node, nodes, nodesAll, same, keep, withKey}
-use Rattle.game.specs.Sets.{size}
-use Rattle.game.proofs.Tests.{Tested, is, isn't, tested, T-of, same→eq, eqb-is}
-use Rattle.game.proofs.Members.{withKey-append}
-use Rattle.walks.specs.Found as Walks
-use Rattle.walks.proofs.Finding as Finding
-use Rattle.walks.proofs.Finding.{map-append}
+use Rattle.game_tree.specs.Tree.{Key, Tree, end, chance, decide, Trees, nil, cons, fan, Strategy}
+use Rattle.game_tree.specs.Reply.{Replies, none, more, node, share, replyTree, replyAll, replyKids, Node, nodes, nodesAll, same, keep, withKey}
+use Rattle.game_tree.specs.Sets.{size}
+use Rattle.game_tree.proofs.Tests.{Tested, is, isn't, tested, T-of, same→eq, eqb-is}
+use Rattle.game_tree.proofs.Members.{withKey-append}
+use Rattle.arena_walks.specs.Found as Walks
+use Rattle.arena_walks.proofs.Finding as Finding
+use Rattle.arena_walks.proofs.Finding.{map-append}
 use Rattle.units.specs.Gain.{Member, given, found, foundAll}
 use Rattle.units.specs.Gains.{PlacesFound, MembersFound}
 

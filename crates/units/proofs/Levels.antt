@@ -3,8 +3,8 @@ use mathlib.Core.Path.{_≡_}
 use Prim.Native.Nat.{ℕ, pred, _+_, _≤_, _<_}
 use native.Mathlib.Nat as NatL
 use native.Mathlib.Omega.{arith}
-use Rattle.game.specs.Tree.{Key, Tree, end, chance, decide, Trees, nil, cons}
-use Rattle.game.specs.Sets.{Levels, LevelsAll}
+use Rattle.game_tree.specs.Tree.{Key, Tree, end, chance, decide, Trees, nil, cons}
+use Rattle.game_tree.specs.Sets.{Levels, LevelsAll}
 use Rattle.arena.specs.Legible.{deep, deepAll}
 
 module _ (v : ℕ → Key → ℕ) where

@@ -5,7 +5,7 @@ use Prim.Native.Nat.{ℕ, _+_, _-_, _*_, _/_, _^_, _≤_, _<_}
 use native.Mathlib.Nat as NatL
 use native.Mathlib.Omega.{arith}
 use lib.ListN.{getD, take, drop}
-use Rattle.finite.proofs.Parts.{part-at}
+use Rattle.prelude.proofs.Parts.{part-at}
 use Rattle.units.specs.Readable.{Walkable}
 
 -- ---- units

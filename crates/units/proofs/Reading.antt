@@ -4,8 +4,8 @@ use mathlib.Core.List.{List}
 use Prim.Native.Nat.{ℕ, _+_, _-_, _≤_, _<_}
 use native.Mathlib.Nat as NatL
 use native.Mathlib.Omega.{arith}
-use Rattle.game.specs.Tree.{Key, Tree, chance, decide, Trees, cons, Every}
-use Rattle.game.specs.Sets.{size, firstEntry}
+use Rattle.game_tree.specs.Tree.{Key, Tree, chance, decide, Trees, cons, Every}
+use Rattle.game_tree.specs.Sets.{size, firstEntry}
 use Rattle.arena.specs.Held.{Held, HeldAll}
 use Rattle.arena.specs.Legible.{deep, deepAll}
 use Rattle.units.specs.Readable.{Readable, ReadableAll}

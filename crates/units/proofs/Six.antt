@@ -7,8 +7,8 @@ use native.Mathlib.Omega.{arith}
 use lib.ListN.{getD}
 use mir.Syntax.{w64}
 use mir.Val.{Fits}
-use Rattle.finite.specs.Finite.{places}
-use Rattle.finite.proofs.Lists.{getD-places}
+use Rattle.prelude.specs.Finite.{places}
+use Rattle.prelude.proofs.Lists.{getD-places}
 use Rattle.units.specs.Sums.{wrapped}
 
 pub six : (f : ℕ → ℕ) (a b c d e g : ℕ) → a ≡ f 0 % 2 ^ 64 → b ≡ f 1 % 2 ^ 64 → c ≡ f 2 % 2 ^ 64 → d ≡ f 3 % 2 ^ 64 → e ≡ f 4 % 2 ^ 64 → g ≡ f 5 % 2 ^ 64

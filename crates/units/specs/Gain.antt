@@ -5,11 +5,11 @@ use mathlib.Core.List.{List}
 use Prim.Native.Nat.{ℕ, zero, suc, _+_, _*_, _/_}
 use lib.Dec.{eqb, ltb}
 use lib.ListN.{getD}
-use Rattle.game.specs.Sums.{sumℕ}
-use Rattle.game.specs.Tree.{Key, Tree, end, chance, decide, Trees, nil, cons, fan, Strategy}
-use Rattle.game.specs.Reply.{Choice, share}
-use Rattle.game.specs.Sets.{size}
-use Rattle.walks.specs.Found as Walks
+use Rattle.game_tree.specs.Sums.{sumℕ}
+use Rattle.game_tree.specs.Tree.{Key, Tree, end, chance, decide, Trees, nil, cons, fan, Strategy}
+use Rattle.game_tree.specs.Reply.{Choice, share}
+use Rattle.game_tree.specs.Sets.{size}
+use Rattle.arena_walks.specs.Found as Walks
 use Rattle.units.specs.Lifted.{lift}
 
 -- a member of a set: its place, its units, its children

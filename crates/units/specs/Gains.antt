@@ -5,10 +5,10 @@ use mathlib.Core.Bool.{true}
 use mathlib.Core.List.{map}
 use Prim.Native.Nat.{ℕ, pred, _*_, _≤_, _<_}
 use lib.IntN.{pos, _+ℤ_}
-use Rattle.game.specs.Tree.{Key, Tree, Strategy, all, U, Splits, Every, Pays, Valid}
-use Rattle.game.specs.Reply.{replyTree, replyKids, Choice, value, members, best, bestValue}
-use Rattle.game.specs.Recall.{PerfectRecall}
-use Rattle.game.specs.Sets.{preorder, numbers}
+use Rattle.game_tree.specs.Tree.{Key, Tree, Strategy, all, U, Splits, Every, Pays, Valid}
+use Rattle.game_tree.specs.Reply.{replyTree, replyKids, Choice, value, members, best, bestValue}
+use Rattle.game_tree.specs.Recall.{PerfectRecall}
+use Rattle.game_tree.specs.Sets.{preorder, numbers}
 use Rattle.units.specs.Gain.{Member, gain, found, setGain, topmost}
 
 -- 1. The members of a set stand at the numbers of its nodes.

@@ -1,7 +1,7 @@
 -- Worths with payoffs lifted by 64, so that no sum is below 0. Definitions only; nothing is assumed.
 use Prim.Native.Nat.{ℕ, suc, _+_, _-_, _*_, _/_}
 use lib.IntN.{ℤ, pos, negsuc}
-use Rattle.game.specs.Tree.{Key, Tree, end, chance, decide, Trees, nil, cons, fan, Strategy}
+use Rattle.game_tree.specs.Tree.{Key, Tree, end, chance, decide, Trees, nil, cons, fan, Strategy}
 
 -- a payoff of at most 64 in size, lifted
 abbrev pub lift : ℤ → ℕ

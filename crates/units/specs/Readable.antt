@@ -2,9 +2,9 @@
 use mathlib.Core.List.{List}
 use Prim.Native.Nat.{ℕ, _+_, _≤_, _<_}
 use lib.ListN.{length, getD}
-use Rattle.game.specs.Tree.{Key, Tree, Trees, Every, EveryAll}
-use Rattle.game.specs.Sets.{size, sizes, firstEntry}
-use Rattle.game.specs.Table.{Table}
+use Rattle.game_tree.specs.Tree.{Key, Tree, Trees, Every, EveryAll}
+use Rattle.game_tree.specs.Sets.{size, sizes, firstEntry}
+use Rattle.game_tree.specs.Table.{Table}
 use Rattle.arena.specs.Held.{Held, HeldAll}
 use Rattle.arena.specs.Legible.{deep, deepAll, Entered}
 

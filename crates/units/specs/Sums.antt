@@ -3,7 +3,7 @@ use mathlib.Core.Path.{_≡_}
 use mathlib.Core.List.{List}
 use Prim.Native.Nat.{ℕ, _%_, _^_, _<_}
 use lib.ListN.{getD}
-use Rattle.finite.specs.Finite.{places}
+use Rattle.prelude.specs.Finite.{places}
 
 -- the sums f
 unfoldable pub wrapped : (ℕ → ℕ) → List ℕ

@@ -1,5 +1,5 @@
 // What goes on to an action of the units at a decision.
-use game::decision_share;
+use game_tree::decision_share;
 ghost use mathlib.Core.Path.{_≡_};
 ghost use Prim.Native.Nat.{_*_, _/_, _<_, _≤_};
 ghost use lib.ListN.{length, getD};

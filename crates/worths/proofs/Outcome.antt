@@ -5,9 +5,9 @@ use Prim.Native.Nat.{ℕ, zero, suc}
 use native.Mathlib.Omega.{arith}
 use lib.IntN.{ℤ, pos}
 use lib.ListN.{replicate}
-use Rattle.game.specs.Table.{Table}
-use Rattle.tables.specs.declared.Game.{Game}
-use Rattle.whole.specs.Worths.{worthsOf}
+use Rattle.game_tree.specs.Table.{Table}
+use Rattle.games.specs.declared.Game.{Game}
+use Rattle.units_worths.specs.Worths.{worthsOf}
 use Rattle.worths.specs.Calls.{answer}
 
 module _ (r q : ℕ) (g : Game) (D : ℕ) (table : Table) (e : r ≡ q) where

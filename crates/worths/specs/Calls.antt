@@ -2,9 +2,9 @@
 use Prim.Native.Nat.{ℕ, zero, suc}
 use lib.IntN.{pos}
 use lib.ListN.{replicate}
-use Rattle.game.specs.Table.{Table}
-use Rattle.tables.specs.declared.Game.{Game}
-use Rattle.whole.specs.Worths.{worthsOf}
+use Rattle.game_tree.specs.Table.{Table}
+use Rattle.games.specs.declared.Game.{Game}
+use Rattle.units_worths.specs.Worths.{worthsOf}
 use Rattle.worths.specs.declared.WorthsAnswer.{WorthsAnswer}
 
 -- the answer: how many seats there are, and what the table is worth to each of them, 0 past them; every number but the refusal is 0, if the call was refused

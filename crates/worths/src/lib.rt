@@ -1,14 +1,14 @@
 // The worths of a table: what it is worth to each seat, in whole units.
-use tables::Game;
+use games::Game;
 ghost use mathlib.Core.Path.{_≡_};
 ghost use Prim.Native.Nat.{_*_, _≤_};
 ghost use lib.ListN.{length};
-ghost use Rattle.tables.specs.Games.{gameOf};
-ghost use Rattle.tables.specs.Facts.{nodesOf};
-ghost use Rattle.whole.specs.Worths.{worthsOf};
-ghost use Rattle.whole.specs.Memory.{Left};
-ghost use Rattle.whole.specs.Accepted.{Accepted};
-ghost use Rattle.whole.specs.Checks.{evaluation-refusal};
+ghost use Rattle.games.specs.Games.{gameOf};
+ghost use Rattle.games.specs.Facts.{nodesOf};
+ghost use Rattle.units_worths.specs.Worths.{worthsOf};
+ghost use Rattle.units_worths.specs.Memory.{Left};
+ghost use Rattle.units_worths.specs.Accepted.{Accepted};
+ghost use Rattle.units_worths.specs.Checks.{evaluation-refusal};
 ghost use Rattle.worths.specs.Calls.{answer};
 
 // A call's refusal number, 0 if it was accepted, and the worth of each of count seats, 0 past them; every number but the first is 0 if it was refused. C has it as it is.
@@ -24,8 +24,8 @@ fn evaluate(g: Game, words: &mut [u64], d: usize, table: &[u8]) -> [i64; 6]
     requires { ⌜ Accepted g d (now table) × (12 * nodesOf g ≤ length (now words)) ⌝ }
     ensures { λ r. ⌜ r ≡ worthsOf g d (now (table .entry)) ⌝ }
 {
-    stored::store(g, words);
-    whole::worths::table_worths(g, words, d, table)
+    arena_store::store(g, words);
+    units_worths::worths::table_worths(g, words, d, table)
 }
 
 // What a table with d parts in each set is worth to each seat, in whole units. The tree is built at the front of the work memory, which has 12 words for each node.
@@ -34,7 +34,7 @@ pub fn worths(number: usize, seats: usize, work: &mut [u64], d: usize, table: &[
     ensures memory { λ r. ⌜ Left (r .refusal) (gameOf number seats) (now (work .entry)) (now (work .exit)) ⌝ }
 {
     let g = Game { number, seats };
-    let refusal = whole::evaluation_refusal(g, work.len(), d, table);
+    let refusal = units_worths::evaluation_refusal(g, work.len(), d, table);
     if refusal != refusals::ACCEPTED {
         return WorthsAnswer {
             refusal,

@@ -7,11 +7,11 @@ use mir.Syntax.{w64}
 use lib.ListN.{length}
 use lib.Seq.{length-take-le}
 use Prim.Native.Nat.{_*_}
-use Rattle.tables.specs.Games.{gameOf, treeOf}
-use Rattle.whole.proofs.Leaving.{all-left, rest-left}
-use Rattle.best.specs.Best.{BestReply}
-use Rattle.game.specs.Table.{replyTable}
-use Rattle.tables.specs.Facts.{rootUnits}
+use Rattle.games.specs.Games.{gameOf, treeOf}
+use Rattle.units_worths.proofs.Leaving.{all-left, rest-left}
+use Rattle.units_best.specs.Best.{BestReply}
+use Rattle.game_tree.specs.Table.{replyTable}
+use Rattle.games.specs.Facts.{rootUnits}
 use borrow.Author.Needs.{needs}
 use Rattle.best_reply.proofs.best_reply.Statement.{statement}
 use Rattle.best_reply.proofs.Outcome as outcome

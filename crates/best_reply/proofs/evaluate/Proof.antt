@@ -4,10 +4,10 @@ use native.Mathlib.Omega.{arith}
 use mathlib.Core.Path.{_≡_, sym, _∙_, subst}
 use mir.Val.{toZ, ofZ}
 use mir.Syntax.{w64}
-use Rattle.best.specs.Best.{BestReply}
-use Rattle.game.specs.Table.{replyTable}
-use Rattle.tables.specs.Games.{treeOf}
-use Rattle.tables.specs.Facts.{rootUnits}
+use Rattle.units_best.specs.Best.{BestReply}
+use Rattle.game_tree.specs.Table.{replyTable}
+use Rattle.games.specs.Games.{treeOf}
+use Rattle.games.specs.Facts.{rootUnits}
 use borrow.Author.Needs.{needs}
 use Rattle.best_reply.proofs.evaluate.Statement.{statement}
 use Rattle.best_reply.proofs.evaluate.Tie as tie

@@ -4,9 +4,9 @@ use Prim.Native.Nat.{_*_}
 use native.Mathlib.Omega.{arith}
 use lib.ListN.{length}
 use lib.Seq.{length-take-le}
-use Rattle.tables.specs.Games.{gameOf}
-use Rattle.whole.proofs.Leaving.{all-left, rest-left}
-use Rattle.whole.proofs.Passed.{room-for, part-for}
+use Rattle.games.specs.Games.{gameOf}
+use Rattle.units_worths.proofs.Leaving.{all-left, rest-left}
+use Rattle.units_worths.proofs.Passed.{room-for, part-for}
 use Rattle.best_response.specs.Asked.{countOf, valuesOf}
 use Rattle.profile_refusals.proofs.Checks.{tree-accepted, known, profile-accepted, seat-accepted}
 use Rattle.best_response.proofs.Outcome.{not-valued, valued}

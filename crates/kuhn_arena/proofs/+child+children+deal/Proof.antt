@@ -7,8 +7,8 @@ use Prim.Native.Nat.{_+_, _*_, _-_, _≤_}
 use native.Mathlib.Omega.{arith}
 use borrow.Author.Needs.{needs}
 use Rattle.arena.specs.Built.{Row}
-use Rattle.kuhn_layout.specs.Layout.{codeOf, childrenTo}
-use Rattle.kuhn_layout.proofs.Deals as deals
+use Rattle.kuhn_arena_layout.specs.Layout.{codeOf, childrenTo}
+use Rattle.kuhn_arena_layout.proofs.Deals as deals
 use Rattle.arena.proofs.Building as building
 use Rattle.kuhn_arena.proofs.child.Reads as child
 use Rattle.kuhn_arena.proofs.child.Kinds as child-kinds
@@ -21,7 +21,7 @@ use Rattle.kuhn_arena.proofs.deal.Kinds as deal-kinds
 use Rattle.kuhn_arena.proofs.+child+children+deal.Lts-deal as deal-lts
 use Rattle.arena.proofs.words.chance.Reads as chance-reads
 use Rattle.arena.proofs.words.put.Reads as put-reads
-use Rattle.kuhn_hands.proofs.before_bet.Reads as before-bet-reads
+use Rattle.kuhn_arena_hands.proofs.before_bet.Reads as before-bet-reads
 use Rattle.kuhn_arena.proofs.is_dealt.Reads as is-dealt-reads
 use Rattle.kuhn_arena.proofs.with_card.Reads as with-card-reads
 use Rattle.kuhn_arena.proofs.+child+children+deal.{statement}

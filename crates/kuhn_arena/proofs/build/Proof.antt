@@ -1,5 +1,5 @@
 use borrow.Author.Needs.{needs}
-use Rattle.kuhn_layout.proofs.Start.{starts, start-room, built-tree}
+use Rattle.kuhn_arena_layout.proofs.Start.{starts, start-room, built-tree}
 use Rattle.kuhn_arena.proofs.build.Statement.{statement}
 use Rattle.kuhn_arena.proofs.build.Tie as tie
 

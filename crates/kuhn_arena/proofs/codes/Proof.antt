@@ -2,8 +2,8 @@ use borrow.Author.Needs.{needs}
 use mathlib.Core.Path.{_≡_, refl}
 use mathlib.Core.List.{[], _∷_}
 use lib.ListN.{getD}
-use Rattle.kuhn_layout.specs.Layout.{codeCount}
-use Rattle.kuhn_layout.proofs.Start.{by-seats}
+use Rattle.kuhn_arena_layout.specs.Layout.{codeCount}
+use Rattle.kuhn_arena_layout.proofs.Start.{by-seats}
 use Rattle.kuhn_arena.proofs.codes.Statement.{statement}
 use Rattle.kuhn_arena.proofs.codes.Tie as tie
 

@@ -4,10 +4,10 @@ use mathlib.Core.Bool.{false}
 use borrow.Author.Needs.{needs}
 use borrow.Author.Tests.{eq-eqb, ne-eqb}
 use lib.Dec.{eqb}
-use Rattle.finite.specs.Finite.{some}
-use Rattle.finite.proofs.Tests.{some-none, none-more, none-passed, some-here}
-use Rattle.kuhn_layout.specs.Layout.{cardAt}
-use Rattle.kuhn_layout.proofs.Numbers.{cards-have}
+use Rattle.prelude.specs.Finite.{some}
+use Rattle.prelude.proofs.Tests.{some-none, none-more, none-passed, some-here}
+use Rattle.kuhn_arena_layout.specs.Layout.{cardAt}
+use Rattle.kuhn_arena_layout.proofs.Numbers.{cards-have}
 use Rattle.kuhn_arena.proofs.is_dealt.Statement.{statement}
 use Rattle.kuhn_arena.proofs.is_dealt.Tie as tie
 

@@ -1,6 +1,6 @@
 use borrow.Author.Needs.{needs}
 use native.Mathlib.Omega.{arith}
-use Rattle.kuhn_layout.proofs.Start as start
+use Rattle.kuhn_arena_layout.proofs.Start as start
 use Rattle.kuhn_arena.proofs.store.Statement.{statement}
 use Rattle.kuhn_arena.proofs.store.Tie as tie
 

@@ -3,7 +3,7 @@ use mathlib.Core.Path.{ap}
 use Prim.Native.Nat.{_+_, _*_, _^_, _≤_}
 use native.Mathlib.Nat.{mod-eq-of-lt, pow-le-pow-right}
 use native.Mathlib.Omega.{arith}
-use Rattle.kuhn_layout.proofs.Numbers.{card-shifted}
+use Rattle.kuhn_arena_layout.proofs.Numbers.{card-shifted}
 use Rattle.kuhn_arena.proofs.with_card.Statement.{statement}
 use Rattle.kuhn_arena.proofs.with_card.Tie as tie
 

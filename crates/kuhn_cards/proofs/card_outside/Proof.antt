@@ -6,8 +6,8 @@ use borrow.Author.Needs.{needs}
 use borrow.Author.Tests.{lt-ltb, le-ltb}
 use lib.Dec.{ltb}
 use lib.ListN.{getD}
-use Rattle.finite.specs.Finite.{some}
-use Rattle.finite.proofs.Tests.{some-none, none-more, none-passed, some-here}
+use Rattle.prelude.specs.Finite.{some}
+use Rattle.prelude.proofs.Tests.{some-none, none-more, none-passed, some-here}
 use Rattle.kuhn_rules.proofs.Deals.{strange-take}
 use Rattle.kuhn_cards.proofs.card_outside.Statement.{statement}
 use Rattle.kuhn_cards.proofs.card_outside.Tie as tie

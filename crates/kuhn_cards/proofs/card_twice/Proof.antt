@@ -4,8 +4,8 @@ use mathlib.Core.Path.{_≡_, sym, _∙_}
 use mathlib.Core.Bool.{false}
 use borrow.Author.Needs.{needs}
 use lib.ListN.{getD, take}
-use Rattle.finite.specs.Finite.{some, has}
-use Rattle.finite.proofs.Tests.{some-none, none-more, none-passed, some-here}
+use Rattle.prelude.specs.Finite.{some, has}
+use Rattle.prelude.proofs.Tests.{some-none, none-more, none-passed, some-here}
 use Rattle.kuhn_rules.proofs.Deals.{twice-take}
 use Rattle.kuhn_cards.proofs.card_twice.Statement.{statement}
 use Rattle.kuhn_cards.proofs.card_twice.Tie as tie

@@ -6,9 +6,9 @@ use borrow.Author.Needs.{needs}
 use borrow.Author.Tests.{eq-eqb, ne-eqb}
 use lib.Dec.{eqb}
 use lib.ListN.{getD}
-use Rattle.finite.specs.Finite.{some}
-use Rattle.finite.proofs.Tests.{some-none, none-more, none-passed, some-here}
-use Rattle.finite.proofs.Lists.{has-take}
+use Rattle.prelude.specs.Finite.{some}
+use Rattle.prelude.proofs.Tests.{some-none, none-more, none-passed, some-here}
+use Rattle.prelude.proofs.Lists.{has-take}
 use Rattle.kuhn_cards.proofs.contains.Statement.{statement}
 use Rattle.kuhn_cards.proofs.contains.Tie as tie
 

@@ -3,7 +3,7 @@ use Prim.Native.Nat.{_≤_, _-_, _+_}
 use mathlib.Core.Path.{_≡_, sym}
 use borrow.Author.Needs.{needs}
 use lib.ListN.{length, take}
-use Rattle.finite.specs.Finite.{those}
+use Rattle.prelude.specs.Finite.{those}
 use Rattle.kuhn_rules.specs.Rules.{left}
 use Rattle.kuhn_rules.proofs.Deals.{none-below, card-found, card-passed, no-card-found}
 use Rattle.kuhn_cards.proofs.nth_remaining.Statement.{statement}

@@ -4,7 +4,7 @@ use native.Mathlib.Omega.{arith}
 use borrow.Author.Needs.{needs}
 use lib.ListN.{length, take, length-append}
 use Rattle.kuhn_tree.specs.Order.{histories}
-use Rattle.records.proofs.Bytes.{wrote-as, wrote-nothing, wrote-append}
+use Rattle.listing_records.proofs.Bytes.{wrote-as, wrote-nothing, wrote-append}
 use Rattle.kuhn_listing.specs.Walk.{recordsOf, nextDeals}
 use Rattle.kuhn_listing.proofs.Steps.{deals-none, deals-taken, fewer-deals, more-in-deck, parts-full, parts-more}
 use Prim.Native.Nat.{ℕ, _+_, _-_, _*_, _<_}

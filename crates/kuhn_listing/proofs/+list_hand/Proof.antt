@@ -3,7 +3,7 @@ use mathlib.Core.Path.{refl, sym, _∙_}
 use native.Mathlib.Omega.{arith}
 use borrow.Author.Needs.{needs}
 use lib.ListN.{take}
-use Rattle.records.proofs.Bytes.{wrote-nothing}
+use Rattle.listing_records.proofs.Bytes.{wrote-nothing}
 use Rattle.kuhn_listing.proofs.Steps.{hand-none, hand-over, hand-length, wrote-hand}
 use Prim.Native.Nat.{ℕ, _<_}
 use borrow.Fn.Kinds.{In}

@@ -4,8 +4,8 @@ use mathlib.Core.Path.{_≡_, sym, _∙_}
 use mathlib.Core.Bool.{false}
 use borrow.Author.Needs.{needs}
 use lib.ListN.{take}
-use Rattle.finite.specs.Finite.{some}
-use Rattle.finite.proofs.Tests.{some-none, none-more, none-passed, some-here}
+use Rattle.prelude.specs.Finite.{some}
+use Rattle.prelude.proofs.Tests.{some-none, none-more, none-passed, some-here}
 use Rattle.kuhn_tree.specs.Order.{first}
 use Rattle.kuhn_listing.proofs.any_first.Statement.{statement}
 use Rattle.kuhn_listing.proofs.any_first.Tie as tie

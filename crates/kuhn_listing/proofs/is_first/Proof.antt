@@ -6,7 +6,7 @@ use borrow.Author.Needs.{needs}
 use borrow.Author.Tests.{not-true, not-false}
 use lib.Dec.{eqb}
 use lib.ListN.{take}
-use Rattle.finite.specs.Finite.{or, every}
+use Rattle.prelude.specs.Finite.{or, every}
 use Rattle.kuhn_tree.specs.Order.{lowestBut}
 use Rattle.kuhn_listing.proofs.Rule.{every-none, every-more, every-fails, every-passed, first-is}
 use Rattle.kuhn_listing.proofs.is_first.Statement.{statement}

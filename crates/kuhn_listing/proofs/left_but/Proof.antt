@@ -2,7 +2,7 @@
 use mathlib.Core.Path.{sym, ap, _∙_}
 use mathlib.Core.Bool.{not}
 use borrow.Author.Needs.{needs}
-use Rattle.finite.proofs.Tests.{and-rest, and-left-fails}
+use Rattle.prelude.proofs.Tests.{and-rest, and-left-fails}
 use Rattle.kuhn_listing.proofs.left_but.Statement.{statement}
 use Rattle.kuhn_listing.proofs.left_but.Tie as tie
 

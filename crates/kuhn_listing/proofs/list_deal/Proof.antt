@@ -5,7 +5,7 @@ use native.Mathlib.Omega.{arith}
 use borrow.Author.Tests.{not-true}
 use lib.ListN.{length, take}
 use Rattle.kuhn_tree.specs.Order.{histories}
-use Rattle.records.proofs.Bytes.{wrote-as, wrote-nothing}
+use Rattle.listing_records.proofs.Bytes.{wrote-as, wrote-nothing}
 use Rattle.kuhn_listing.proofs.Steps.{none-first, whole-hand}
 use borrow.Author.Needs.{needs}
 use Rattle.kuhn_listing.proofs.list_deal.Statement.{statement}

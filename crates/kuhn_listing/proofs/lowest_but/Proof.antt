@@ -4,8 +4,8 @@ use mathlib.Core.Path.{_≡_, sym, ap, _∙_}
 use mathlib.Core.Bool.{false, not}
 use borrow.Author.Needs.{needs}
 use native.Mathlib.Omega.{arith}
-use Rattle.finite.specs.Finite.{some}
-use Rattle.finite.proofs.Tests.{some-none, none-more, none-passed, some-here}
+use Rattle.prelude.specs.Finite.{some}
+use Rattle.prelude.proofs.Tests.{some-none, none-more, none-passed, some-here}
 use Rattle.kuhn_listing.proofs.Rule.{free, lowest-is}
 use Rattle.kuhn_listing.proofs.lowest_but.Statement.{statement}
 use Rattle.kuhn_listing.proofs.lowest_but.Tie as tie

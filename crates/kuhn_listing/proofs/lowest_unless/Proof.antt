@@ -2,7 +2,7 @@
 use mathlib.Core.Path.{sym, _∙_}
 use borrow.Author.Needs.{needs}
 use borrow.Author.Tests.{eq-eqb, ne-eqb}
-use Rattle.finite.proofs.Tests.{or-left, or-rest}
+use Rattle.prelude.proofs.Tests.{or-left, or-rest}
 use Rattle.kuhn_listing.proofs.lowest_unless.Statement.{statement}
 use Rattle.kuhn_listing.proofs.lowest_unless.Tie as tie
 

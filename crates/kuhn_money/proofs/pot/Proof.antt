@@ -4,8 +4,8 @@ use mathlib.Core.Path.{_≡_, sym, ap, ap₂, _∙_}
 use borrow.Author.Needs.{needs}
 use native.Mathlib.Omega.{arith}
 use lib.ListN.{take}
-use Rattle.finite.specs.Finite.{sum}
-use Rattle.finite.proofs.Lists.{sum-more, sum-none}
+use Rattle.prelude.specs.Finite.{sum}
+use Rattle.prelude.proofs.Lists.{sum-more, sum-none}
 use Rattle.kuhn_rules.specs.Rules.{contribution}
 use Rattle.kuhn_money.proofs.pot.Statement.{statement}
 use Rattle.kuhn_money.proofs.pot.Tie as tie

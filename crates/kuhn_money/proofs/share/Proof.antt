@@ -5,7 +5,7 @@ use mathlib.Core.Bool.{cond}
 use borrow.Author.Needs.{needs}
 use native.Mathlib.Omega.{arith}
 use lib.IntN.{pos, negℤ}
-use Rattle.finite.proofs.Amounts.{amount, debt-fits, debt}
+use Rattle.prelude.proofs.Amounts.{amount, debt-fits, debt}
 use Rattle.kuhn_money.proofs.share.Statement.{statement}
 use Rattle.kuhn_money.proofs.share.Tie as tie
 

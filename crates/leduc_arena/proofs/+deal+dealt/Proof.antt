@@ -6,10 +6,10 @@ use native.Mathlib.Omega.{arith}
 use lib.Dec.{eqb}
 use borrow.Author.Needs.{needs}
 use borrow.Author.Tests.{eq-eqb, ne-eqb}
-use Rattle.game.specs.Sets.{size}
+use Rattle.game_tree.specs.Sets.{size}
 use Rattle.arena.specs.Built.{Row}
-use Rattle.leduc_layout.specs.Layout.{plain, rowTo, dealTree}
-use Rattle.leduc_layout.proofs.Laying.{place-fits, first-room, row-fits, lays-chance, passes, keeps, kept-room, row-start, row-done, row-on, child-room, none-left, some-left}
+use Rattle.leduc_arena_layout.specs.Layout.{plain, rowTo, dealTree}
+use Rattle.leduc_arena_layout.proofs.Laying.{place-fits, first-room, row-fits, lays-chance, passes, keeps, kept-room, row-start, row-done, row-on, child-room, none-left, some-left}
 use Prim.Native.Nat.{ℕ, _+_, _*_, _-_, _≤_, _<_}
 use borrow.Fn.Kinds.{In}
 use borrow.Fn.PlainCycle.{Measures, is, falls, and}
@@ -21,7 +21,7 @@ use Rattle.leduc_arena.proofs.dealt.Kinds as dealt-kinds
 use Rattle.leduc_arena.proofs.+deal+dealt.Lts-dealt as dealt-lts
 use Rattle.arena.proofs.words.chance.Reads as chance-reads
 use Rattle.leduc_arena.proofs.first.round.Reads as round-reads
-use Rattle.leduc_second.proofs.words.write.Reads as write-reads
+use Rattle.leduc_arena_round2.proofs.words.write.Reads as write-reads
 use Rattle.leduc_arena.proofs.+deal+dealt.{statement}
 use Rattle.leduc_arena.proofs.+deal+dealt.Tie.{close}
 

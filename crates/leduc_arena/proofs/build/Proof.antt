@@ -1,7 +1,7 @@
 -- The whole tree: two cards to deal after none. Assumes nothing.
 use native.Mathlib.Bridge.{le-by-compare, IsLe}
 use borrow.Author.Needs.{needs}
-use Rattle.leduc_layout.proofs.Agreeing.{deals-room, deals-built}
+use Rattle.leduc_arena_layout.proofs.Agreeing.{deals-room, deals-built}
 use Rattle.leduc_arena.proofs.build.Statement.{statement}
 use Rattle.leduc_arena.proofs.build.Tie as tie
 

@@ -2,7 +2,7 @@
 use mathlib.Core.Path.{sym, ap, _∙_}
 use mathlib.Core.Bool.{cond}
 use Rattle.leduc_tree.specs.Tree.{dealt, acted}
-use Rattle.leduc_spots.specs.Spots.{placed}
+use Rattle.leduc_listing_positions.specs.Spots.{placed}
 use Rattle.leduc_listing.specs.Walk.{moved}
 use borrow.Author.Needs.{needs}
 use Rattle.leduc_listing.proofs.after.Statement.{statement}

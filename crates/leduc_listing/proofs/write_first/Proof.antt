@@ -3,10 +3,10 @@ use mathlib.Core.Path.{_≡_, sym, ap, _∙_}
 use native.Mathlib.Omega.{arith}
 use lib.ListN.{length, take}
 use borrow.Author.Tests.{not-true, not-false}
-use Rattle.records.specs.Listing.{padded}
-use Rattle.records.proofs.Bytes.{wrote-nothing}
-use Rattle.leduc_spots.specs.Spots.{placed}
-use Rattle.leduc_spots.proofs.Spots.{two-dealt, key-count}
+use Rattle.listing_records.specs.Listing.{padded}
+use Rattle.listing_records.proofs.Bytes.{wrote-nothing}
+use Rattle.leduc_listing_positions.specs.Spots.{placed}
+use Rattle.leduc_listing_positions.proofs.Spots.{two-dealt, key-count}
 use Rattle.leduc_listing.proofs.Steps.{node-idle, node-later, node-length, wrote-node}
 use borrow.Author.Needs.{needs}
 use Rattle.leduc_listing.proofs.write_first.Statement.{statement}

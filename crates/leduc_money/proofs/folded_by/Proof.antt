@@ -1,6 +1,6 @@
 -- Whether a seat has folded in a round: it has at none of the places passed. Assumes nothing.
 use mathlib.Core.Logic.{⊎-elim}
-use Rattle.finite.proofs.Tests.{both, and-left-fails, and-right-fails}
+use Rattle.prelude.proofs.Tests.{both, and-left-fails, and-right-fails}
 use Prim.Native.Nat.{_≤_, _-_, _%_}
 use native.Mathlib.Omega.{arith}
 use mathlib.Core.Path.{_≡_, sym}
@@ -9,8 +9,8 @@ use borrow.Author.Needs.{needs}
 use borrow.Author.Tests.{eq-eqb, ne-eqb}
 use lib.Dec.{eqb}
 use lib.ListN.{length, getD}
-use Rattle.finite.specs.Finite.{some, and}
-use Rattle.finite.proofs.Tests.{some-none, none-more, none-passed, some-here}
+use Rattle.prelude.specs.Finite.{some, and}
+use Rattle.prelude.proofs.Tests.{some-none, none-more, none-passed, some-here}
 use Rattle.leduc_rules.specs.Rules.{folds}
 use Rattle.leduc_money.proofs.folded_by.Statement.{statement}
 use Rattle.leduc_money.proofs.folded_by.Tie as tie

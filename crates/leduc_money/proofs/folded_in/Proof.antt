@@ -1,6 +1,6 @@
 -- Whether a seat has folded in either round. Assumes nothing.
 use mathlib.Core.Path.{sym, _∙_}
-use Rattle.finite.specs.Finite.{or}
+use Rattle.prelude.specs.Finite.{or}
 use borrow.Author.Needs.{needs}
 use Rattle.leduc_money.proofs.folded_in.Statement.{statement}
 use Rattle.leduc_money.proofs.folded_in.Tie as tie

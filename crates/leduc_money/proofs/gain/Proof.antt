@@ -1,6 +1,6 @@
 -- What a seat gains. Assumes nothing.
 use native.Mathlib.Omega.{arith}
-use Rattle.finite.proofs.Amounts.{amount, debt-fits, debt}
+use Rattle.prelude.proofs.Amounts.{amount, debt-fits, debt}
 use borrow.Author.Needs.{needs}
 use Rattle.leduc_money.proofs.gain.Statement.{statement}
 use Rattle.leduc_money.proofs.gain.Tie as tie

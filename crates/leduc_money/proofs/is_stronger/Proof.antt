@@ -1,6 +1,6 @@
 -- Whether a seat beats another at the showdown. Assumes nothing.
 use mathlib.Core.Path.{sym, _∙_}
-use Rattle.finite.specs.Finite.{and, or}
+use Rattle.prelude.specs.Finite.{and, or}
 use Rattle.leduc_rules.specs.Rules.{beats}
 use borrow.Author.Needs.{needs}
 use Rattle.leduc_money.proofs.is_stronger.Statement.{statement}

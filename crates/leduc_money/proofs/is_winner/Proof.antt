@@ -1,6 +1,6 @@
 -- Whether a seat wins against the other. Assumes nothing.
 use mathlib.Core.Path.{sym, _∙_}
-use Rattle.finite.specs.Finite.{or}
+use Rattle.prelude.specs.Finite.{or}
 use Rattle.leduc_rules.specs.Rules.{wins}
 use borrow.Author.Needs.{needs}
 use Rattle.leduc_money.proofs.is_winner.Statement.{statement}

@@ -5,10 +5,10 @@ use native.Mathlib.Omega.{arith}
 use lib.IntN.{pos}
 use lib.ListN.{length}
 use denote.Ref.{now}
-use Rattle.game.specs.Table.{nashConv}
-use Rattle.tables.specs.Games.{treeOf}
-use Rattle.tables.specs.Facts.{rootUnits}
-use Rattle.stored.specs.Stored.{Stored}
+use Rattle.game_tree.specs.Table.{nashConv}
+use Rattle.games.specs.Games.{treeOf}
+use Rattle.games.specs.Facts.{rootUnits}
+use Rattle.arena_store.specs.Stored.{Stored}
 use Rattle.nash_conv_units.proofs.Seats.{two-seats, few-seats, no-seats, one-seat-more, sum-fits, all-seats}
 use borrow.Author.Needs.{needs}
 use Rattle.nash_conv_units.proofs.evaluate.Statement.{statement}

@@ -4,9 +4,9 @@ use Prim.Native.Nat.{_*_}
 use native.Mathlib.Omega.{arith}
 use lib.ListN.{length}
 use lib.Seq.{length-take-le}
-use Rattle.tables.specs.Games.{gameOf}
-use Rattle.whole.proofs.Leaving.{all-left, rest-left}
-use Rattle.whole.proofs.Passed.{accepted-game, accepted-table, nodes-room, part-room}
+use Rattle.games.specs.Games.{gameOf}
+use Rattle.units_worths.proofs.Leaving.{all-left, rest-left}
+use Rattle.units_worths.proofs.Passed.{accepted-game, accepted-table, nodes-room, part-room}
 use Rattle.nash_conv_units.proofs.Outcome.{not-valued, valued}
 use borrow.Author.Needs.{needs}
 use Rattle.nash_conv_units.proofs.nash_conv_units.Statement.{statement}

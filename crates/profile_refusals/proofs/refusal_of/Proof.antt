@@ -1,7 +1,7 @@
 -- The checks in order. Assumes nothing.
 use mathlib.Core.Path.{sym, _∙_}
-use Rattle.tree_checks.specs.Checks.{tree-checks}
-use Rattle.tree_checks.proofs.Order.{first-refused, tree-known, tree-passed}
+use Rattle.table_refusals.specs.Checks.{tree-checks}
+use Rattle.table_refusals.proofs.Order.{first-refused, tree-known, tree-passed}
 use borrow.Author.Needs.{needs}
 use Rattle.profile_refusals.proofs.refusal_of.Statement.{statement}
 use Rattle.profile_refusals.proofs.refusal_of.Tie as tie

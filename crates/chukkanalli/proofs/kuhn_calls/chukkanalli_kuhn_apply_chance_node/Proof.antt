@@ -2,7 +2,7 @@
 use mathlib.Core.Path.{ap, _∙_}
 use borrow.Author.Needs.{needs}
 use Rattle.kuhn.specs.Calls.{dealt}
-use Rattle.twins.specs.Kuhn.{game-of, moved-of}
+use Rattle.c_structs.specs.Kuhn.{game-of, moved-of}
 use Rattle.chukkanalli.proofs.kuhn_calls.chukkanalli_kuhn_apply_chance_node.Statement.{statement}
 use Rattle.chukkanalli.proofs.kuhn_calls.chukkanalli_kuhn_apply_chance_node.Tie as tie
 

@@ -3,7 +3,7 @@ use mathlib.Core.Path.{ap, ap₂, sym, _∙_}
 use lib.ListN.{length}
 use borrow.Author.Needs.{needs}
 use Rattle.kuhn.specs.Calls.{keyed, key-of, written}
-use Rattle.twins.specs.Kuhn.{game-of, written-of}
+use Rattle.c_structs.specs.Kuhn.{game-of, written-of}
 use Rattle.chukkanalli.proofs.kuhn_calls.chukkanalli_kuhn_information_state_key.Statement.{statement}
 use Rattle.chukkanalli.proofs.kuhn_calls.chukkanalli_kuhn_information_state_key.Tie as tie
 

@@ -1,7 +1,7 @@
 -- Start: by what the call and the conversions ensure. Assumes nothing.
 use mathlib.Core.Path.{ap, _∙_}
 use borrow.Author.Needs.{needs}
-use Rattle.twins.specs.Kuhn.{moved-of}
+use Rattle.c_structs.specs.Kuhn.{moved-of}
 use Rattle.chukkanalli.proofs.kuhn_calls.chukkanalli_kuhn_initial_state.Statement.{statement}
 use Rattle.chukkanalli.proofs.kuhn_calls.chukkanalli_kuhn_initial_state.Tie as tie
 

@@ -3,7 +3,7 @@ use mathlib.Core.Path.{ap, ap₂, sym, _∙_}
 use lib.ListN.{length}
 use borrow.Author.Needs.{needs}
 use Rattle.kuhn.specs.Calls.{listed, legal-of, written}
-use Rattle.twins.specs.Kuhn.{game-of, written-of}
+use Rattle.c_structs.specs.Kuhn.{game-of, written-of}
 use Rattle.chukkanalli.proofs.kuhn_calls.chukkanalli_kuhn_legal_actions.Statement.{statement}
 use Rattle.chukkanalli.proofs.kuhn_calls.chukkanalli_kuhn_legal_actions.Tie as tie
 

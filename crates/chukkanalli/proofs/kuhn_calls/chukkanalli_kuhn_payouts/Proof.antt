@@ -2,7 +2,7 @@
 use mathlib.Core.Path.{ap, _∙_}
 use borrow.Author.Needs.{needs}
 use Rattle.kuhn.specs.Calls.{paid}
-use Rattle.twins.specs.Kuhn.{game-of, payoffs-of}
+use Rattle.c_structs.specs.Kuhn.{game-of, payoffs-of}
 use Rattle.chukkanalli.proofs.kuhn_calls.chukkanalli_kuhn_payouts.Statement.{statement}
 use Rattle.chukkanalli.proofs.kuhn_calls.chukkanalli_kuhn_payouts.Tie as tie
 

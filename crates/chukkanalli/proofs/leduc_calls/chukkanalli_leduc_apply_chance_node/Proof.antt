@@ -2,7 +2,7 @@
 use mathlib.Core.Path.{ap, _∙_}
 use borrow.Author.Needs.{needs}
 use Rattle.leduc.specs.Calls.{dealt}
-use Rattle.twins.specs.Leduc.{moved-of}
+use Rattle.c_structs.specs.Leduc.{moved-of}
 use Rattle.chukkanalli.proofs.leduc_calls.chukkanalli_leduc_apply_chance_node.Statement.{statement}
 use Rattle.chukkanalli.proofs.leduc_calls.chukkanalli_leduc_apply_chance_node.Tie as tie
 

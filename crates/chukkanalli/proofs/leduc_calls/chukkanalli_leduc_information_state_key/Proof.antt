@@ -3,7 +3,7 @@ use mathlib.Core.Path.{ap, _∙_}
 use lib.ListN.{length}
 use borrow.Author.Needs.{needs}
 use Rattle.leduc.specs.Calls.{keyed, key-of, key-refusal, written}
-use Rattle.twins.specs.Leduc.{written-of}
+use Rattle.c_structs.specs.Leduc.{written-of}
 use Rattle.chukkanalli.proofs.leduc_calls.chukkanalli_leduc_information_state_key.Statement.{statement}
 use Rattle.chukkanalli.proofs.leduc_calls.chukkanalli_leduc_information_state_key.Tie as tie
 

@@ -4,7 +4,7 @@ use lib.ListN.{length}
 use borrow.Author.Needs.{needs}
 use Rattle.leduc_positions.specs.Positions.{legal-of}
 use Rattle.leduc.specs.Calls.{listed, legal-refusal, written}
-use Rattle.twins.specs.Leduc.{written-of}
+use Rattle.c_structs.specs.Leduc.{written-of}
 use Rattle.chukkanalli.proofs.leduc_calls.chukkanalli_leduc_legal_actions.Statement.{statement}
 use Rattle.chukkanalli.proofs.leduc_calls.chukkanalli_leduc_legal_actions.Tie as tie
 

@@ -2,7 +2,7 @@
 use mathlib.Core.Path.{ap, _∙_}
 use borrow.Author.Needs.{needs}
 use Rattle.leduc.specs.Calls.{paid}
-use Rattle.twins.specs.Leduc.{payoffs-of}
+use Rattle.c_structs.specs.Leduc.{payoffs-of}
 use Rattle.chukkanalli.proofs.leduc_calls.chukkanalli_leduc_payouts.Statement.{statement}
 use Rattle.chukkanalli.proofs.leduc_calls.chukkanalli_leduc_payouts.Tie as tie
 

@@ -2,7 +2,7 @@
 use mathlib.Core.Path.{sym, ap}
 use mathlib.Core.Bool.{not}
 use borrow.Author.Tests.{eq-eqb, ne-eqb}
-use Rattle.finite.proofs.Tests.{or-left, or-rest}
+use Rattle.prelude.proofs.Tests.{or-left, or-rest}
 use Rattle.kuhn_positions.proofs.checks.acts_early.Statement.{statement}
 use Rattle.kuhn_positions.proofs.checks.acts_early.Tie as tie
 

@@ -3,7 +3,7 @@ use mathlib.Core.Path.{sym, ap, _∙_}
 use mathlib.Core.Bool.{not}
 use borrow.Author.Needs.{needs}
 use borrow.Author.Tests.{le-leb, lt-leb}
-use Rattle.finite.proofs.Tests.{and-left-fails, and-right-fails, and-rest}
+use Rattle.prelude.proofs.Tests.{and-left-fails, and-right-fails, and-rest}
 use Rattle.kuhn_positions.proofs.Positions.{fair-take}
 use Rattle.kuhn_positions.proofs.checks.fairly_dealt.Statement.{statement}
 use Rattle.kuhn_positions.proofs.checks.fairly_dealt.Tie as tie

@@ -5,7 +5,7 @@ use borrow.Author.Needs.{needs}
 use borrow.Author.Tests.{eq-eqb, ne-eqb}
 use native.Mathlib.Omega.{arith}
 use lib.ListN.{length}
-use Rattle.finite.proofs.Tests.{and-left-fails, and-rest}
+use Rattle.prelude.proofs.Tests.{and-left-fails, and-rest}
 use Rattle.kuhn_positions.proofs.Positions.{live-is}
 use Rattle.kuhn_positions.proofs.checks.is_live.Statement.{statement}
 use Rattle.kuhn_positions.proofs.checks.is_live.Tie as tie

@@ -4,7 +4,7 @@ use borrow.Author.Needs.{needs}
 use borrow.Author.Tests.{eq-eqb, ne-eqb}
 use native.Mathlib.Omega.{arith}
 use lib.ListN.{length}
-use Rattle.finite.proofs.Tests.{and-left-fails, and-rest}
+use Rattle.prelude.proofs.Tests.{and-left-fails, and-rest}
 use Rattle.kuhn_positions.proofs.Positions.{over-is}
 use Rattle.kuhn_positions.proofs.checks.is_over.Statement.{statement}
 use Rattle.kuhn_positions.proofs.checks.is_over.Tie as tie

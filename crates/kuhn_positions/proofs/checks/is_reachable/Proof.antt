@@ -4,7 +4,7 @@ use borrow.Author.Needs.{needs}
 use borrow.Author.Tests.{lt-leb, not-true, not-false}
 use native.Mathlib.Omega.{arith}
 use lib.ListN.{length}
-use Rattle.finite.proofs.Tests.{and-left-fails, and-right-fails, and-rest}
+use Rattle.prelude.proofs.Tests.{and-left-fails, and-right-fails, and-rest}
 use Rattle.kuhn_positions.specs.Positions.{reachable}
 use Rattle.kuhn_positions.proofs.Positions.{reachable-is}
 use Rattle.kuhn_positions.proofs.checks.is_reachable.Statement.{statement}

@@ -4,7 +4,7 @@ use borrow.Author.Needs.{needs}
 use native.Mathlib.Omega.{arith}
 use lib.ListN.{length}
 use borrow.Author.Tests.{lt-ltb, le-ltb, eq-eqb, ne-eqb}
-use Rattle.finite.proofs.Tests.{or-left, or-right, neither}
+use Rattle.prelude.proofs.Tests.{or-left, or-right, neither}
 use Rattle.kuhn_positions.proofs.Positions.{seats-least, seats-most}
 use Rattle.kuhn_positions.proofs.checks.saved_refusal.Statement.{statement}
 use Rattle.kuhn_positions.proofs.checks.saved_refusal.Tie as tie

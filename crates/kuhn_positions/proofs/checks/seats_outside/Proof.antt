@@ -1,7 +1,7 @@
 -- The range of the seat count. Assumes nothing.
 use mathlib.Core.Path.{sym}
 use borrow.Author.Tests.{lt-ltb, le-ltb}
-use Rattle.finite.proofs.Tests.{or-left, or-rest}
+use Rattle.prelude.proofs.Tests.{or-left, or-rest}
 use Rattle.kuhn_positions.proofs.checks.seats_outside.Statement.{statement}
 use Rattle.kuhn_positions.proofs.checks.seats_outside.Tie as tie
 

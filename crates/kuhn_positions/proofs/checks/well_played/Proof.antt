@@ -2,7 +2,7 @@
 use mathlib.Core.Path.{sym, ap, _∙_}
 use mathlib.Core.Bool.{not}
 use borrow.Author.Needs.{needs}
-use Rattle.finite.proofs.Tests.{and-left-fails, and-rest}
+use Rattle.prelude.proofs.Tests.{and-left-fails, and-rest}
 use Rattle.kuhn_rules.specs.Reached.{played}
 use Rattle.kuhn_positions.proofs.checks.well_played.Statement.{statement}
 use Rattle.kuhn_positions.proofs.checks.well_played.Tie as tie

@@ -3,7 +3,7 @@ use mathlib.Core.Path.{refl}
 use native.Mathlib.Omega.{arith}
 use native.Mathlib.Bridge.{le-by-compare, IsLe}
 use borrow.Author.Needs.{needs}
-use Rattle.leduc_layout.proofs.Laying.{place-fits, fold-room, call-room, last-fits, lays-last, again-room, again-fits, lays-again, fold-few, other-seat, first-few, first-again, card-few}
+use Rattle.leduc_arena_layout.proofs.Laying.{place-fits, fold-room, call-room, last-fits, lays-last, again-room, again-fits, lays-again, fold-few, other-seat, first-few, first-again, card-few}
 use Prim.Native.Nat.{ℕ, _-_, _<_}
 use borrow.Fn.Kinds.{In}
 use borrow.Fn.PlainCycle.{Measures, is, falls, and}
@@ -11,8 +11,8 @@ use Rattle.leduc_arena.proofs.first.raised.Reads as raised
 use Rattle.leduc_arena.proofs.first.raised.Kinds as raised-kinds
 use Rattle.leduc_arena.proofs.first.+raised.Lts-raised as raised-lts
 use Rattle.leduc_arena.proofs.first.public.Reads as public-reads
-use Rattle.leduc_second.proofs.words.choose.Reads as choose-reads
-use Rattle.leduc_second.proofs.words.end.Reads as end-reads
+use Rattle.leduc_arena_round2.proofs.words.choose.Reads as choose-reads
+use Rattle.leduc_arena_round2.proofs.words.end.Reads as end-reads
 use Rattle.leduc_arena.proofs.first.+raised.{statement}
 use Rattle.leduc_arena.proofs.first.+raised.Tie.{close}
 

@@ -2,8 +2,8 @@
 use Prim.Native.Nat.{_-_}
 use native.Mathlib.Bridge.{le-by-compare, IsLe}
 use borrow.Author.Needs.{needs}
-use Rattle.leduc_layout.specs.Layout.{calledTree}
-use Rattle.leduc_layout.proofs.Laying.{place-fits, room-one, room-two, two-fit, lays-two, card-few}
+use Rattle.leduc_arena_layout.specs.Layout.{calledTree}
+use Rattle.leduc_arena_layout.proofs.Laying.{place-fits, room-one, room-two, two-fit, lays-two, card-few}
 use Rattle.leduc_arena.proofs.first.called.Statement.{statement}
 use Rattle.leduc_arena.proofs.first.called.Tie as tie
 

@@ -1,6 +1,6 @@
 -- The refusal number of one action. Assumes nothing.
 use mathlib.Core.Bool.{not}
-use Rattle.finite.proofs.Tests.{or-left, or-right, neither}
+use Rattle.prelude.proofs.Tests.{or-left, or-right, neither}
 use Rattle.leduc_betting.proofs.Checks.{late-first, illegal-first, lawful-first}
 use mathlib.Core.Path.{sym, ap, _∙_}
 use borrow.Author.Needs.{needs}

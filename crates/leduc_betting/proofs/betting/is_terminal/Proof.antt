@@ -1,6 +1,6 @@
 -- Whether the hand has ended. Assumes nothing.
 use mathlib.Core.Path.{sym, _∙_}
-use Rattle.finite.specs.Finite.{or}
+use Rattle.prelude.specs.Finite.{or}
 use Rattle.leduc_betting.specs.Betting.{ended}
 use borrow.Author.Needs.{needs}
 use Rattle.leduc_betting.proofs.betting.is_terminal.Statement.{statement}

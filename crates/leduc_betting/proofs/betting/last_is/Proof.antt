@@ -2,7 +2,7 @@
 use borrow.Author.Tests.{le-ltb, lt-ltb}
 use native.Mathlib.Omega.{arith}
 use lib.ListN.{length}
-use Rattle.finite.specs.Finite.{and}
+use Rattle.prelude.specs.Finite.{and}
 use Rattle.leduc_betting.specs.Betting.{ends-with}
 use borrow.Author.Needs.{needs}
 use Rattle.leduc_betting.proofs.betting.last_is.Statement.{statement}

@@ -2,7 +2,7 @@
 use borrow.Author.Tests.{lt-leb, le-leb}
 use lib.ListN.{length}
 use native.Mathlib.Omega.{arith}
-use Rattle.finite.specs.Finite.{and}
+use Rattle.prelude.specs.Finite.{and}
 use Rattle.leduc_betting.specs.Betting.{closes}
 use borrow.Author.Needs.{needs}
 use Rattle.leduc_betting.proofs.betting.round_over.Statement.{statement}

@@ -8,8 +8,8 @@ use mathlib.Core.Bool.{false}
 use borrow.Author.Needs.{needs}
 use lib.Dec.{ltb}
 use lib.ListN.{length, getD}
-use Rattle.finite.specs.Finite.{some}
-use Rattle.finite.proofs.Tests.{some-none, none-more, none-passed, some-here}
+use Rattle.prelude.specs.Finite.{some}
+use Rattle.prelude.proofs.Tests.{some-none, none-more, none-passed, some-here}
 use Rattle.leduc_betting.proofs.betting.unknown_action.Statement.{statement}
 use Rattle.leduc_betting.proofs.betting.unknown_action.Tie as tie
 

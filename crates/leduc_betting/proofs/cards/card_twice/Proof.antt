@@ -6,8 +6,8 @@ use mathlib.Core.Bool.{false}
 use borrow.Author.Needs.{needs}
 use lib.ListN.{length, getD, take}
 use lib.Seq.{length-take-le}
-use Rattle.finite.specs.Finite.{some, has}
-use Rattle.finite.proofs.Tests.{some-none, none-more, none-passed, some-here}
+use Rattle.prelude.specs.Finite.{some, has}
+use Rattle.prelude.proofs.Tests.{some-none, none-more, none-passed, some-here}
 use Rattle.leduc_betting.specs.Cards.{twice}
 use Rattle.leduc_betting.proofs.cards.card_twice.Statement.{statement}
 use Rattle.leduc_betting.proofs.cards.card_twice.Tie as tie

@@ -4,7 +4,7 @@ use native.Mathlib.Omega.{arith}
 use mathlib.Core.Path.{_≡_, refl, sym, _∙_}
 use borrow.Author.Needs.{needs}
 use lib.ListN.{length}
-use Rattle.finite.specs.Finite.{those}
+use Rattle.prelude.specs.Finite.{those}
 use Rattle.leduc_betting.specs.Cards.{left, remaining}
 use Rattle.leduc_betting.proofs.Deals.{at-most-one, those-counted, nth-hit, nth-none}
 use Rattle.leduc_betting.proofs.cards.nth_remaining.Statement.{statement}

@@ -1,7 +1,7 @@
 -- 1 if a card is left. Assumes nothing.
 use mathlib.Core.Path.{sym, _∙_}
 use borrow.Author.Tests.{le-ltb, lt-ltb}
-use Rattle.finite.specs.Finite.{and}
+use Rattle.prelude.specs.Finite.{and}
 use Rattle.leduc_betting.specs.Cards.{left}
 use borrow.Author.Needs.{needs}
 use Rattle.leduc_betting.proofs.cards.one_if_left.Statement.{statement}

@@ -2,7 +2,7 @@
 use mathlib.Core.Path.{sym, _∙_}
 use borrow.Author.Tests.{not-true, not-false}
 use native.Mathlib.Omega.{arith}
-use Rattle.finite.specs.Finite.{and}
+use Rattle.prelude.specs.Finite.{and}
 use Rattle.leduc_betting.specs.Betting.{in-play, turn}
 use borrow.Author.Needs.{needs}
 use Rattle.leduc_betting.proofs.options.legal_in.Statement.{statement}

@@ -9,8 +9,8 @@ use native.Mathlib.Omega.{arith}
 use borrow.Author.Tests.{not-true, not-false}
 use lib.ListN.{length, take, drop}
 use lib.Seq.{length-take-le}
-use Rattle.finite.specs.Finite.{and}
-use Rattle.finite.proofs.Tests.{and-left-fails}
+use Rattle.prelude.specs.Finite.{and}
+use Rattle.prelude.proofs.Tests.{and-left-fails}
 use borrow.Author.Needs.{needs}
 use Rattle.leduc_positions.proofs.state.is_reachable.Statement.{statement}
 use Rattle.leduc_positions.proofs.state.is_reachable.Tie as tie

@@ -5,7 +5,7 @@ use mathlib.Core.List.{[]}
 use native.Mathlib.Omega.{arith}
 use lib.Dec.{eqb}
 use lib.ListN.{length}
-use Rattle.finite.specs.Finite.{and}
+use Rattle.prelude.specs.Finite.{and}
 use Rattle.leduc_rules.specs.Rules.{legal}
 use Rattle.leduc_betting.specs.Betting.{options, in-play, turn}
 use Rattle.leduc_positions.specs.Positions.{roundOne}

@@ -4,7 +4,7 @@ use mathlib.Core.Bool.{not}
 use native.Mathlib.Omega.{arith}
 use lib.ListN.{length}
 use lib.Seq.{length-take-le}
-use Rattle.finite.specs.Finite.{and}
+use Rattle.prelude.specs.Finite.{and}
 use borrow.Author.Needs.{needs}
 use Rattle.leduc_rules.proofs.play.cards_fit.Statement.{statement}
 use Rattle.leduc_rules.proofs.play.cards_fit.Tie as tie

@@ -1,5 +1,5 @@
 -- Whether a seat has acted before both have a card. Assumes nothing.
-use Rattle.finite.specs.Finite.{or}
+use Rattle.prelude.specs.Finite.{or}
 use Rattle.leduc_betting.proofs.Histories.{positive}
 use Rattle.leduc_rules.proofs.play.early.Statement.{statement}
 use Rattle.leduc_rules.proofs.play.early.Tie as tie

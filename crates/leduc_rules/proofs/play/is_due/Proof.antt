@@ -1,7 +1,7 @@
 -- Whether a card is due. Assumes nothing.
 use borrow.Author.Tests.{lt-ltb, le-ltb}
 use lib.ListN.{length}
-use Rattle.finite.specs.Finite.{or}
+use Rattle.prelude.specs.Finite.{or}
 use Rattle.leduc_rules.specs.Rules.{due}
 use borrow.Author.Needs.{needs}
 use Rattle.leduc_rules.proofs.play.is_due.Statement.{statement}

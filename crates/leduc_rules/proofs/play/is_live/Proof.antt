@@ -1,7 +1,7 @@
 -- Whether a seat acts. Assumes nothing.
 use mathlib.Core.Path.{sym, ap, _∙_}
 use mathlib.Core.Bool.{not}
-use Rattle.finite.specs.Finite.{or}
+use Rattle.prelude.specs.Finite.{or}
 use Rattle.leduc_rules.specs.Rules.{live}
 use borrow.Author.Needs.{needs}
 use Rattle.leduc_rules.proofs.play.is_live.Statement.{statement}

@@ -2,8 +2,8 @@
 use mathlib.Core.Path.{sym, ap, _∙_}
 use mathlib.Core.Bool.{not}
 use borrow.Author.Tests.{not-true, not-false}
-use Rattle.finite.specs.Finite.{and}
-use Rattle.finite.proofs.Tests.{and-left-fails, and-right-fails}
+use Rattle.prelude.specs.Finite.{and}
+use Rattle.prelude.proofs.Tests.{and-left-fails, and-right-fails}
 use Rattle.leduc_rules.specs.Rules.{public-due}
 use borrow.Author.Needs.{needs}
 use Rattle.leduc_rules.proofs.play.is_public_due.Statement.{statement}

@@ -5,8 +5,8 @@ use mathlib.Core.Path.{_≡_, sym, _∙_}
 use mathlib.Core.Bool.{true}
 use mathlib.Core.List.{[]}
 use borrow.Author.Tests.{eq-eqb, ne-eqb, not-true, not-false}
-use Rattle.finite.specs.Finite.{and, or}
-use Rattle.finite.proofs.Tests.{and-left-fails, and-right-fails}
+use Rattle.prelude.specs.Finite.{and, or}
+use Rattle.prelude.proofs.Tests.{and-left-fails, and-right-fails}
 use Rattle.leduc_betting.proofs.Checks.{played-first}
 use Rattle.leduc_betting.proofs.Histories.{and-true}
 use borrow.Author.Needs.{needs}

@@ -1,7 +1,7 @@
 -- Whether no action may stand in round 2. Assumes nothing.
 use mathlib.Core.Path.{sym, ap, _∙_}
 use mathlib.Core.Bool.{not}
-use Rattle.finite.specs.Finite.{or}
+use Rattle.prelude.specs.Finite.{or}
 use Rattle.leduc_betting.specs.Checks.{barred-by}
 use borrow.Author.Needs.{needs}
 use Rattle.leduc_rules.proofs.saved.is_barred.Statement.{statement}

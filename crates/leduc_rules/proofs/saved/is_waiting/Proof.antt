@@ -2,7 +2,7 @@
 use mathlib.Core.Path.{sym, ap, _∙_}
 use mathlib.Core.Bool.{not}
 use borrow.Author.Tests.{not-true, not-false}
-use Rattle.finite.specs.Finite.{and}
+use Rattle.prelude.specs.Finite.{and}
 use borrow.Author.Needs.{needs}
 use Rattle.leduc_rules.proofs.saved.is_waiting.Statement.{statement}
 use Rattle.leduc_rules.proofs.saved.is_waiting.Tie as tie

@@ -1,0 +1,68 @@
+use borrow.Author.Needs.{needs}
+use mathlib.Core.Path.{sym, ap, _∙_}
+use denote.Ref.{now}
+use Prim.Native.Nat.{_+_}
+use lib.ListN.{getD, set}
+use Rattle.arena_index.proofs.Steps.{met-kind, met-known, met-new}
+use Rattle.arena_index.proofs.meet.Statement.{statement}
+use Rattle.arena_index.proofs.meet.Tie as tie
+
+kind-requires : tie.Need-kind-requires
+kind-requires c κs = search needs
+
+returns : tie.Need-returns
+returns c = met-kind _ _ _ _ λ e. c .if1 .taken (c .before .kind .ensures ∙ e)
+
+set-requires : tie.Need-set-requires
+set-requires c κs = search needs
+
+add-at : tie.Need-add-at
+add-at c = search needs
+
+word-requires : tie.Need-word-requires
+word-requires c κs = search needs
+
+same-length : tie.Need-same-length
+same-length c = search needs
+
+returns-2 : tie.Need-returns-2
+returns-2 c = met-known _ _ _ _ λ e. c .if2 .taken (c .before .word .ensures ∙ ap (λ i. getD (now (c .before .before .before .before .before .before .before .args .w)) (c .before .before .before .before .before .before .before .args .nodes + i) 0) (c .before .before .before .set .ensures) ∙ e)
+
+add-put : tie.Need-add-put
+add-put c = search needs
+
+put-requires : tie.Need-put-requires
+put-requires c κs = search needs
+
+actions-requires : tie.Need-actions-requires
+actions-requires c κs = search needs
+
+add-result : tie.Need-add-result
+add-result c = search needs
+
+same-length-2 : tie.Need-same-length-2
+same-length-2 c = search needs
+
+returns-3 : tie.Need-returns-3
+returns-3 c = met-new _ _ _ _ _ _ (sym (c .before .before .before .before .before .before .before .before .before .before .kind .ensures) ∙ c .before .before .before .before .before .before .before .before .before .if1 .left)
+    (sym (c .before .before .before .before .before .before .word .ensures ∙ ap (λ i. getD (now (c .before .before .before .before .before .before .before .before .before .before .before .before .args .w)) (c .before .before .before .before .before .before .before .before .before .before .before .before .args .nodes + i) 0) (c .before .before .before .before .before .before .before .before .set .ensures)) ∙ c .before .before .before .before .before .if2 .left)
+    (c .before .before .before .put .ensures ∙ ap (λ i. set (now (c .before .before .before .before .before .before .before .before .before .before .before .before .args .w)) (c .before .before .before .before .before .before .before .before .before .before .before .before .args .nodes + i) (c .before .before .before .before .before .before .before .before .before .before .before .before .args .entry + 1)) (c .before .before .before .before .before .before .before .before .set .ensures))
+    (ap (λ i. c .before .before .before .before .before .before .before .before .before .before .before .before .args .entry + i) (c .actions .ensures))
+
+pub meet-spec : {M : Type 1} → statement M
+meet-spec =
+    tie.close
+    (tie.spec
+    kind-requires
+    returns
+    set-requires
+    add-at
+    word-requires
+    same-length
+    returns-2
+    add-put
+    put-requires
+    actions-requires
+    add-result
+    same-length-2
+    returns-3)

@@ -1,0 +1,61 @@
+-- The best values of the seats passed; 0.0 past them. Assumes nothing.
+use mathlib.Core.Path.{_≡_, refl}
+use Prim.Native.Nat.{_-_, _≤_}
+use denote.Ref.{now}
+use lib.ListN.{length}
+use native.Mathlib.Omega.{arith}
+use borrow.Author.Needs.{needs}
+use Rattle.arena_store.specs.Stored.{Stored}
+use Rattle.f64_games.specs.Values.{bestOf}
+use Rattle.f64_games.proofs.Seats.{few-seats, front, front-none, front-more, all-bests}
+use Rattle.f64_games.proofs.best_values.Statement.{statement}
+use Rattle.f64_games.proofs.best_values.Tie as tie
+
+abbrev Inv-loop : tie.InvT-loop
+Inv-loop g w₀ profile seats out₀ seat₀ w out seat = (seat ≤ seats) × (out ≡ front (bestOf g profile) seat) × Stored g w × (length w ≡ length w₀)
+
+abbrev μ-loop : tie.MeasureT-loop
+μ-loop g w₀ profile seats out₀ seat₀ w out seat = seats - seat
+
+loop-holds : tie.Need-loop-holds Inv-loop μ-loop
+loop-holds c = (omega arith, front-none (bestOf (c .before .before .args .g) (now (c .before .before .args .profile))), c .before .before .pre .0, refl)
+
+best-value-requires : tie.Need-best-value-requires Inv-loop μ-loop
+best-value-requires c κs = (c .before .before .loop .inv .2, c .before .before .before .before .before .pre .1, c .before .loop-test .taken, omega (arith, c .before .before .before .before .before .pre .2, c .before .before .loop .inv .3))
+
+mul-out : tie.Need-mul-out Inv-loop μ-loop
+mul-out c = record { fits = omega (arith, few-seats (c .before .before .before .before .before .before .before .before .args .g) (c .before .before .before .before .before .before .before .before .pre .1 .game), c .before .before .before .before .loop-test .taken) }
+
+array-write-out : tie.Need-array-write-out Inv-loop μ-loop
+array-write-out c = omega (arith, few-seats (c .before .before .before .before .before .before .before .before .args .g) (c .before .before .before .before .before .before .before .before .pre .1 .game), c .before .before .before .before .loop-test .taken)
+
+add-seat : tie.Need-add-seat Inv-loop μ-loop
+add-seat c = record { fits = omega (arith, few-seats (c .before .before .before .before .before .before .before .before .args .g) (c .before .before .before .before .before .before .before .before .pre .1 .game), c .before .before .before .before .loop-test .taken) }
+
+loop-less : tie.Need-loop-less Inv-loop μ-loop
+loop-less c = omega (arith, c .before .before .before .before .loop-test .taken)
+
+loop-again : tie.Need-loop-again Inv-loop μ-loop
+loop-again c = (omega (arith, c .before .before .before .before .loop-test .taken), front-more (bestOf (c .before .before .before .before .before .before .before .before .args .g) (now (c .before .before .before .before .before .before .before .before .args .profile))) (c .before .before .before .before .before .loop .seat) (c .before .before .before .before .before .loop .out) (c .before .before .best-value .result) (omega (arith, few-seats (c .before .before .before .before .before .before .before .before .args .g) (c .before .before .before .before .before .before .before .before .pre .1 .game), c .before .before .before .before .loop-test .taken)) (c .before .before .before .before .before .loop .inv .1) (c .before .before .best-value .ensures .0), c .before .before .best-value .ensures .1, omega (arith, c .before .before .best-value .kept .1 .0, c .before .before .before .before .before .loop .inv .3))
+
+same-length : tie.Need-same-length Inv-loop μ-loop
+same-length c = search needs
+
+returns : tie.Need-returns Inv-loop μ-loop
+returns c = all-bests (c .before .before .before .before .args .g) (now (c .before .before .before .before .args .profile)) (c .before .loop .seat) (c .before .loop .out) (c .before .loop .inv .0) (omega (arith, c .loop-test .left)) (c .before .loop .inv .1)
+
+pub best-values-spec : {M : Type 1} → statement M
+best-values-spec =
+    tie.close
+    (tie.spec
+    Inv-loop
+    μ-loop
+    loop-holds
+    best-value-requires
+    mul-out
+    array-write-out
+    add-seat
+    loop-less
+    loop-again
+    same-length
+    returns)

@@ -1,0 +1,74 @@
+-- The worths of the seats passed, two at a time; 0.0 past them. Assumes nothing.
+use mathlib.Core.Path.{_≡_}
+use Prim.Native.Nat.{_-_, _≤_}
+use denote.Ref.{now}
+use native.Mathlib.Omega.{arith}
+use Rattle.f64_games.specs.Values.{worthOf}
+use Rattle.f64_games.proofs.Seats.{few-seats, front, front-none, front-more, Paired, pair-fits, paired-none, paired-more, worth-is, all-worths}
+use Rattle.f64_games.proofs.worths.Statement.{statement}
+use Rattle.f64_games.proofs.worths.Tie as tie
+
+abbrev Inv-loop : tie.InvT-loop
+Inv-loop g w profile out₀ seat₀ out seat = (seat ≤ g .seats) × (out ≡ front (worthOf g profile) seat) × Paired seat (g .seats)
+
+abbrev μ-loop : tie.MeasureT-loop
+μ-loop g w profile out₀ seat₀ out seat = g .seats - seat
+
+loop-holds : tie.Need-loop-holds Inv-loop μ-loop
+loop-holds c = (omega arith, front-none _, paired-none _)
+
+worths-requires : tie.Need-worths-requires Inv-loop μ-loop
+worths-requires c κs = record { place = omega arith; seat = pair-fits (c .before .before .loop .seat) _ (few-seats (c .before .before .before .before .before .args .g) (c .before .before .before .before .before .pre .1 .game)) (c .before .before .loop .inv .2) (c .if1 .taken); shallow = omega arith }
+
+mul-out : tie.Need-mul-out Inv-loop μ-loop
+mul-out c = record { fits = omega (arith, few-seats (c .before .before .before .before .before .before .args .g) (c .before .before .before .before .before .before .pre .1 .game), c .before .if1 .taken) }
+
+array-write-out : tie.Need-array-write-out Inv-loop μ-loop
+array-write-out c = omega (arith, few-seats (c .before .before .before .before .before .before .args .g) (c .before .before .before .before .before .before .pre .1 .game), c .before .if1 .taken)
+
+add-seat : tie.Need-add-seat Inv-loop μ-loop
+add-seat c = record { fits = omega (arith, few-seats (c .before .before .before .before .before .before .args .g) (c .before .before .before .before .before .before .pre .1 .game), c .before .if1 .taken) }
+
+mul-out-2 : tie.Need-mul-out-2 Inv-loop μ-loop
+mul-out-2 c = record { fits = omega (arith, pair-fits (c .before .before .before .before .before .loop .seat) _ (few-seats (c .before .before .before .before .before .before .before .before .args .g) (c .before .before .before .before .before .before .before .before .pre .1 .game)) (c .before .before .before .before .before .loop .inv .2) (c .before .before .before .if1 .taken)) }
+
+array-write-out-2 : tie.Need-array-write-out-2 Inv-loop μ-loop
+array-write-out-2 c = omega (arith, pair-fits (c .before .before .before .before .before .loop .seat) _ (few-seats (c .before .before .before .before .before .before .before .before .args .g) (c .before .before .before .before .before .before .before .before .pre .1 .game)) (c .before .before .before .before .before .loop .inv .2) (c .before .before .before .if1 .taken))
+
+add-seat-2 : tie.Need-add-seat-2 Inv-loop μ-loop
+add-seat-2 c = record { fits = omega (arith, pair-fits (c .before .before .before .before .before .loop .seat) _ (few-seats (c .before .before .before .before .before .before .before .before .args .g) (c .before .before .before .before .before .before .before .before .pre .1 .game)) (c .before .before .before .before .before .loop .inv .2) (c .before .before .before .if1 .taken)) }
+
+loop-less : tie.Need-loop-less Inv-loop μ-loop
+loop-less c = omega (arith, c .before .before .before .if1 .taken)
+
+loop-again : tie.Need-loop-again Inv-loop μ-loop
+loop-again c = (omega (arith, c .if2 .taken), front-more (worthOf (c .before .before .before .before .before .before .before .before .args .g) (now (c .before .before .before .before .before .before .before .before .args .profile))) _ _ (c .before .before .worths .result .second) (omega (arith, pair-fits (c .before .before .before .before .before .loop .seat) _ (few-seats (c .before .before .before .before .before .before .before .before .args .g) (c .before .before .before .before .before .before .before .before .pre .1 .game)) (c .before .before .before .before .before .loop .inv .2) (c .before .before .before .if1 .taken))) (front-more (worthOf (c .before .before .before .before .before .before .before .before .args .g) (now (c .before .before .before .before .before .before .before .before .args .profile))) (c .before .before .before .before .before .loop .seat) (c .before .before .before .before .before .loop .out) (c .before .before .worths .result .first) (omega (arith, few-seats (c .before .before .before .before .before .before .before .before .args .g) (c .before .before .before .before .before .before .before .before .pre .1 .game), c .before .before .before .if1 .taken)) (c .before .before .before .before .before .loop .inv .1) (worth-is (c .before .before .before .before .before .before .before .before .args .g) (now (c .before .before .before .before .before .before .before .before .args .profile)) (c .before .before .before .before .before .before .before .before .pre .1) (now (c .before .before .before .before .before .before .before .before .args .w)) (c .before .before .before .before .before .before .before .before .pre .0) (c .before .before .before .before .before .loop .seat) (c .before .before .worths .result .first) (c .before .before .before .if1 .taken) (c .before .before .worths .ensures .0))) (worth-is (c .before .before .before .before .before .before .before .before .args .g) (now (c .before .before .before .before .before .before .before .before .args .profile)) (c .before .before .before .before .before .before .before .before .pre .1) (now (c .before .before .before .before .before .before .before .before .args .w)) (c .before .before .before .before .before .before .before .before .pre .0) _ (c .before .before .worths .result .second) (c .if2 .taken) (c .before .before .worths .ensures .1)), paired-more (c .before .before .before .before .before .loop .seat) _ (c .before .before .before .before .before .loop .inv .2) (c .before .before .before .if1 .taken))
+
+loop-less-2 : tie.Need-loop-less-2 Inv-loop μ-loop
+loop-less-2 c = omega (arith, c .before .before .before .if1 .taken)
+
+loop-again-2 : tie.Need-loop-again-2 Inv-loop μ-loop
+loop-again-2 c = (omega (arith, c .before .before .before .if1 .taken), front-more (worthOf (c .before .before .before .before .before .before .before .before .args .g) (now (c .before .before .before .before .before .before .before .before .args .profile))) (c .before .before .before .before .before .loop .seat) (c .before .before .before .before .before .loop .out) (c .before .before .worths .result .first) (omega (arith, few-seats (c .before .before .before .before .before .before .before .before .args .g) (c .before .before .before .before .before .before .before .before .pre .1 .game), c .before .before .before .if1 .taken)) (c .before .before .before .before .before .loop .inv .1) (worth-is (c .before .before .before .before .before .before .before .before .args .g) (now (c .before .before .before .before .before .before .before .before .args .profile)) (c .before .before .before .before .before .before .before .before .pre .1) (now (c .before .before .before .before .before .before .before .before .args .w)) (c .before .before .before .before .before .before .before .before .pre .0) (c .before .before .before .before .before .loop .seat) (c .before .before .worths .result .first) (c .before .before .before .if1 .taken) (c .before .before .worths .ensures .0)), λ l. absurd (omega (arith, l, c .if2 .left)))
+
+returns : tie.Need-returns Inv-loop μ-loop
+returns c = all-worths (c .before .before .before .before .before .args .g) (now (c .before .before .before .before .before .args .profile)) (c .before .before .loop .seat) (c .before .before .loop .out) (c .before .before .loop .inv .0) (omega (arith, c .if1 .left)) (c .before .before .loop .inv .1)
+
+pub worths-spec : {M : Type 1} → statement M
+worths-spec =
+    tie.close
+    (tie.spec
+    Inv-loop
+    μ-loop
+    loop-holds
+    worths-requires
+    mul-out
+    array-write-out
+    add-seat
+    mul-out-2
+    array-write-out-2
+    add-seat-2
+    loop-less
+    loop-again
+    loop-less-2
+    loop-again-2
+    returns)

@@ -1,0 +1,1738 @@
+-- Value and choice, which call each other: the remaining depth falls. Assumes nothing.
+use mathlib.Core.Path.{_≡_, refl, sym, ap, _∙_, subst}
+use Prim.Native.Nat.{ℕ, _+_, _-_, _*_, _%_, _≤_, _<_}
+use native.Mathlib.Omega.{arith}
+use lib.Ieee.{lt}
+use lib.ListN.{length}
+use denote.Ref.{now}
+use borrow.Author.Needs.{needs}
+use Rattle.arena.specs.Words.{actionsOf, laterOf}
+use Rattle.game_tree_f64.specs.Values.{nought, plus}
+use Rattle.f64_values.specs.Valued.{Chosen, Dealt}
+use Rattle.argmax.proofs.Past.{past-few}
+use Rattle.f64_values.proofs.Valuing as valuing
+use Rattle.f64_values.proofs.Choosing as choosing
+use borrow.Fn.Kinds.{In}
+use borrow.Fn.PlainCycle.{Measures, is, falls, and}
+use Rattle.f64_values.proofs.values.choose.Reads as choose
+use Rattle.f64_values.proofs.values.choose.Kinds as choose-kinds
+use Rattle.f64_values.proofs.values.+choose+dealt+gain+own+split+total+value.Lts-choose as choose-lts
+use Rattle.f64_values.proofs.values.dealt.Reads as dealt
+use Rattle.f64_values.proofs.values.dealt.Kinds as dealt-kinds
+use Rattle.f64_values.proofs.values.+choose+dealt+gain+own+split+total+value.Lts-dealt as dealt-lts
+use Rattle.f64_values.proofs.values.gain.Reads as gain
+use Rattle.f64_values.proofs.values.gain.Kinds as gain-kinds
+use Rattle.f64_values.proofs.values.+choose+dealt+gain+own+split+total+value.Lts-gain as gain-lts
+use Rattle.f64_values.proofs.values.own.Reads as own
+use Rattle.f64_values.proofs.values.own.Kinds as own-kinds
+use Rattle.f64_values.proofs.values.+choose+dealt+gain+own+split+total+value.Lts-own as own-lts
+use Rattle.f64_values.proofs.values.split.Reads as split
+use Rattle.f64_values.proofs.values.split.Kinds as split-kinds
+use Rattle.f64_values.proofs.values.+choose+dealt+gain+own+split+total+value.Lts-split as split-lts
+use Rattle.f64_values.proofs.values.total.Reads as total
+use Rattle.f64_values.proofs.values.total.Kinds as total-kinds
+use Rattle.f64_values.proofs.values.+choose+dealt+gain+own+split+total+value.Lts-total as total-lts
+use Rattle.f64_values.proofs.values.value.Reads as value
+use Rattle.f64_values.proofs.values.value.Kinds as value-kinds
+use Rattle.f64_values.proofs.values.+choose+dealt+gain+own+split+total+value.Lts-value as value-lts
+use Rattle.arena.proofs.walk.behind.Reads as behind-reads
+use Rattle.arena.proofs.walk.fan.Reads as fan-reads
+use Rattle.arena.proofs.words.actions.Reads as actions-reads
+use Rattle.arena.proofs.words.actor.Reads as actor-reads
+use Rattle.arena.proofs.words.kind.Reads as kind-reads
+use Rattle.arena.proofs.words.later.Reads as later-reads
+use Rattle.arena.proofs.words.next.Reads as next-reads
+use Rattle.arena.proofs.words.put.Reads as put-reads
+use Rattle.arena.proofs.words.set.Reads as set-reads
+use Rattle.arena.proofs.words.word.Reads as word-reads
+use Rattle.f64_numbers.proofs.payoff_of.Reads as payoff-of-reads
+use Rattle.f64_numbers.proofs.reached.Reads as reached-reads
+use Rattle.f64_numbers.proofs.weighed.Reads as weighed-reads
+use Rattle.f64_numbers.proofs.weight.Reads as weight-reads
+use Rattle.argmax.proofs.leading.past.Reads as past-reads
+use Rattle.argmax.proofs.leading.start.Reads as start-reads
+use Rattle.arena_walks.proofs.child.Reads as child-reads
+use Rattle.f64_values.proofs.values.+choose+dealt+gain+own+split+total+value.{statement}
+use Rattle.f64_values.proofs.values.+choose+dealt+gain+own+split+total+value.Tie.{close}
+
+abbrev μ-choose : Measures 2 choose-kinds.ps ℕ
+μ-choose κs a = 5 * a .1 .1 .1 .1 .1 .0 + 3
+
+abbrev μ-dealt : Measures 2 dealt-kinds.ps ℕ
+μ-dealt κs a = 5 * a .1 .1 .1 .1 .1 .0 + 2
+
+abbrev μ-gain : Measures 2 gain-kinds.ps ℕ
+μ-gain κs a = 5 * a .1 .1 .1 .1 .0 + 1
+
+abbrev μ-own : Measures 2 own-kinds.ps ℕ
+μ-own κs a = 5 * a .1 .1 .1 .1 .1 .0 + 4
+
+abbrev μ-split : Measures 2 split-kinds.ps ℕ
+μ-split κs a = 5 * a .1 .1 .1 .1 .1 .0 + 2
+
+abbrev μ-total : Measures 2 total-kinds.ps ℕ
+μ-total κs a = 5 * a .1 .1 .1 .1 .1 .0 + 2
+
+abbrev μ-value : Measures 2 value-kinds.ps ℕ
+μ-value κs a = 5 * a .1 .1 .1 .1 .0
+
+abbrev choose-at : ℕ → In 2 choose-kinds.ps
+choose-at t = and 2 choose-kinds.ps (is 2 choose-kinds.ps μ-choose t) choose.Pre
+
+abbrev choose-below : ℕ → In 2 choose-kinds.ps
+choose-below t = and 2 choose-kinds.ps (falls 2 choose-kinds.ps _<_ μ-choose t) choose.Pre
+
+abbrev dealt-at : ℕ → In 2 dealt-kinds.ps
+dealt-at t = and 2 dealt-kinds.ps (is 2 dealt-kinds.ps μ-dealt t) dealt.Pre
+
+abbrev dealt-below : ℕ → In 2 dealt-kinds.ps
+dealt-below t = and 2 dealt-kinds.ps (falls 2 dealt-kinds.ps _<_ μ-dealt t) dealt.Pre
+
+abbrev gain-at : ℕ → In 2 gain-kinds.ps
+gain-at t = and 2 gain-kinds.ps (is 2 gain-kinds.ps μ-gain t) gain.Pre
+
+abbrev gain-below : ℕ → In 2 gain-kinds.ps
+gain-below t = and 2 gain-kinds.ps (falls 2 gain-kinds.ps _<_ μ-gain t) gain.Pre
+
+abbrev own-at : ℕ → In 2 own-kinds.ps
+own-at t = and 2 own-kinds.ps (is 2 own-kinds.ps μ-own t) own.Pre
+
+abbrev own-below : ℕ → In 2 own-kinds.ps
+own-below t = and 2 own-kinds.ps (falls 2 own-kinds.ps _<_ μ-own t) own.Pre
+
+abbrev split-at : ℕ → In 2 split-kinds.ps
+split-at t = and 2 split-kinds.ps (is 2 split-kinds.ps μ-split t) split.Pre
+
+abbrev split-below : ℕ → In 2 split-kinds.ps
+split-below t = and 2 split-kinds.ps (falls 2 split-kinds.ps _<_ μ-split t) split.Pre
+
+abbrev total-at : ℕ → In 2 total-kinds.ps
+total-at t = and 2 total-kinds.ps (is 2 total-kinds.ps μ-total t) total.Pre
+
+abbrev total-below : ℕ → In 2 total-kinds.ps
+total-below t = and 2 total-kinds.ps (falls 2 total-kinds.ps _<_ μ-total t) total.Pre
+
+abbrev value-at : ℕ → In 2 value-kinds.ps
+value-at t = and 2 value-kinds.ps (is 2 value-kinds.ps μ-value t) value.Pre
+
+abbrev value-below : ℕ → In 2 value-kinds.ps
+value-below t = and 2 value-kinds.ps (falls 2 value-kinds.ps _<_ μ-value t) value.Pre
+
+abbrev choose-Inv-loop : choose-lts.InvT-loop
+choose-Inv-loop w₀ profile first count seat depth heads reach kept known lead₀ action₀ w lead action = choosing.Led profile seat depth heads reach kept first count w₀ w (lead .action) (lead .sum) action × (lead .action ≤ action - 1) × (action ≤ count) × (length w ≡ length w₀)
+
+abbrev choose-μ-loop : choose-lts.MeasureT-loop
+choose-μ-loop w₀ profile first count seat depth heads reach kept known lead₀ action₀ w lead action = count - action
+
+choose-add-word : (t : ℕ) → choose-lts.Need-add-word (
+  word-reads.Asked,
+  word-reads.Learnt,
+  start-reads.Asked,
+  start-reads.Learnt,
+  total-below t,
+  total.Post,
+  past-reads.Asked,
+  past-reads.Learnt,
+  put-reads.Asked,
+  put-reads.Learnt,
+) (choose-at t) choose.Post choose-Inv-loop choose-μ-loop
+choose-add-word t c = record { fits = omega (arith, c .before .before .before .pre .1 .kept, c .before .before .before .pre .1 .place) }
+
+choose-word-requires : (t : ℕ) → choose-lts.Need-word-requires (
+  word-reads.Asked,
+  word-reads.Learnt,
+  start-reads.Asked,
+  start-reads.Learnt,
+  total-below t,
+  total.Post,
+  past-reads.Asked,
+  past-reads.Learnt,
+  put-reads.Asked,
+  put-reads.Learnt,
+) (choose-at t) choose.Post choose-Inv-loop choose-μ-loop
+choose-word-requires t c κs = search needs
+
+choose-sub-result : (t : ℕ) → choose-lts.Need-sub-result (
+  word-reads.Asked,
+  word-reads.Learnt,
+  start-reads.Asked,
+  start-reads.Learnt,
+  total-below t,
+  total.Post,
+  past-reads.Asked,
+  past-reads.Learnt,
+  put-reads.Asked,
+  put-reads.Learnt,
+) (choose-at t) choose.Post choose-Inv-loop choose-μ-loop
+choose-sub-result t c = omega (arith, c .if1 .taken)
+
+choose-same-length : (t : ℕ) → choose-lts.Need-same-length (
+  word-reads.Asked,
+  word-reads.Learnt,
+  start-reads.Asked,
+  start-reads.Learnt,
+  total-below t,
+  total.Post,
+  past-reads.Asked,
+  past-reads.Learnt,
+  put-reads.Asked,
+  put-reads.Learnt,
+) (choose-at t) choose.Post choose-Inv-loop choose-μ-loop
+choose-same-length t c = search needs
+
+choose-returns : (t : ℕ) → choose-lts.Need-returns (
+  word-reads.Asked,
+  word-reads.Learnt,
+  start-reads.Asked,
+  start-reads.Learnt,
+  total-below t,
+  total.Post,
+  past-reads.Asked,
+  past-reads.Learnt,
+  put-reads.Asked,
+  put-reads.Learnt,
+) (choose-at t) choose.Post choose-Inv-loop choose-μ-loop
+choose-returns t c = choosing.chosen-known (now (c .before .before .before .before .before .args .profile)) (c .before .before .before .before .before .args .seat) (c .before .before .before .before .before .args .depth) (c .before .before .before .before .before .args .heads) (c .before .before .before .before .before .args .reach) (c .before .before .before .before .before .args .kept) (c .before .before .before .before .before .args .first) (c .before .before .before .before .before .args .count) (now (c .before .before .before .before .before .args .w)) (c .before .word .result) _ (c .before .word .ensures) (c .if1 .taken) refl
+
+choose-start-requires : (t : ℕ) → choose-lts.Need-start-requires (
+  word-reads.Asked,
+  word-reads.Learnt,
+  start-reads.Asked,
+  start-reads.Learnt,
+  total-below t,
+  total.Post,
+  past-reads.Asked,
+  past-reads.Learnt,
+  put-reads.Asked,
+  put-reads.Learnt,
+) (choose-at t) choose.Post choose-Inv-loop choose-μ-loop
+choose-start-requires t c κs = search needs
+
+choose-loop-holds : (t : ℕ) → choose-lts.Need-loop-holds (
+  word-reads.Asked,
+  word-reads.Learnt,
+  start-reads.Asked,
+  start-reads.Learnt,
+  total-below t,
+  total.Post,
+  past-reads.Asked,
+  past-reads.Learnt,
+  put-reads.Asked,
+  put-reads.Learnt,
+) (choose-at t) choose.Post choose-Inv-loop choose-μ-loop
+choose-loop-holds t c = (choosing.led-start (now (c .before .before .before .before .before .before .args .profile)) (c .before .before .before .before .before .before .args .seat) (c .before .before .before .before .before .before .args .depth) (c .before .before .before .before .before .before .args .heads) (c .before .before .before .before .before .before .args .reach) (c .before .before .before .before .before .before .args .kept) (c .before .before .before .before .before .before .args .first) (c .before .before .before .before .before .before .args .count) (now (c .before .before .before .before .before .before .args .w)) _ _ (c .start .ensures .0) (c .start .ensures .1), omega (arith, c .start .ensures .0), omega arith, refl)
+
+choose-total-requires : (t : ℕ) → choose-lts.Need-total-requires (
+  word-reads.Asked,
+  word-reads.Learnt,
+  start-reads.Asked,
+  start-reads.Learnt,
+  total-below t,
+  total.Post,
+  past-reads.Asked,
+  past-reads.Learnt,
+  put-reads.Asked,
+  put-reads.Learnt,
+) (choose-at t) choose.Post choose-Inv-loop choose-μ-loop
+choose-total-requires t c κs = (omega (arith, c .before .before .before .before .before .before .before .before .before .pre .0), c .before .before .before .before .before .before .before .before .before .pre .1)
+
+choose-past-requires : (t : ℕ) → choose-lts.Need-past-requires (
+  word-reads.Asked,
+  word-reads.Learnt,
+  start-reads.Asked,
+  start-reads.Learnt,
+  total-below t,
+  total.Post,
+  past-reads.Asked,
+  past-reads.Learnt,
+  put-reads.Asked,
+  put-reads.Learnt,
+) (choose-at t) choose.Post choose-Inv-loop choose-μ-loop
+choose-past-requires t c κs = search needs
+
+choose-add-action : (t : ℕ) → choose-lts.Need-add-action (
+  word-reads.Asked,
+  word-reads.Learnt,
+  start-reads.Asked,
+  start-reads.Learnt,
+  total-below t,
+  total.Post,
+  past-reads.Asked,
+  past-reads.Learnt,
+  put-reads.Asked,
+  put-reads.Learnt,
+) (choose-at t) choose.Post choose-Inv-loop choose-μ-loop
+choose-add-action t c = record { fits = omega (arith, c .before .before .before .before .before .loop-test .taken) }
+
+choose-loop-less : (t : ℕ) → choose-lts.Need-loop-less (
+  word-reads.Asked,
+  word-reads.Learnt,
+  start-reads.Asked,
+  start-reads.Learnt,
+  total-below t,
+  total.Post,
+  past-reads.Asked,
+  past-reads.Learnt,
+  put-reads.Asked,
+  put-reads.Learnt,
+) (choose-at t) choose.Post choose-Inv-loop choose-μ-loop
+choose-loop-less t c = omega (arith, c .before .before .before .before .before .loop-test .taken)
+
+choose-loop-again : (t : ℕ) → choose-lts.Need-loop-again (
+  word-reads.Asked,
+  word-reads.Learnt,
+  start-reads.Asked,
+  start-reads.Learnt,
+  total-below t,
+  total.Post,
+  past-reads.Asked,
+  past-reads.Learnt,
+  put-reads.Asked,
+  put-reads.Learnt,
+) (choose-at t) choose.Post choose-Inv-loop choose-μ-loop
+choose-loop-again t c = (choosing.led-more (now (c .before .before .before .before .before .before .before .before .before .before .before .before .before .args .profile)) (c .before .before .before .before .before .before .before .before .before .before .before .before .before .args .seat) (c .before .before .before .before .before .before .before .before .before .before .before .before .before .args .depth) (c .before .before .before .before .before .before .before .before .before .before .before .before .before .args .heads) (c .before .before .before .before .before .before .before .before .before .before .before .before .before .args .reach) (c .before .before .before .before .before .before .before .before .before .before .before .before .before .args .kept) (c .before .before .before .before .before .before .before .before .before .before .before .before .before .args .first) (c .before .before .before .before .before .before .before .before .before .before .before .before .before .args .count) (now (c .before .before .before .before .before .before .before .before .before .before .before .before .before .args .w)) (c .before .before .before .before .before .before .loop .w) (c .before .before .before .total .last .0) (c .before .before .before .before .before .before .loop .lead .action) (c .before .before .before .before .before .before .loop .lead .sum) (c .before .before .before .before .before .before .loop .action) (c .before .before .before .total .result) (c .past .result .action) (c .past .result .sum) (c .before .before .before .before .before .before .loop .inv .0) (c .before .before .before .before .before .loop-test .taken) (c .before .before .before .total .ensures) (c .past .ensures .0) (c .past .ensures .1), omega (arith, c .past .ensures .0, past-few (lt (c .before .before .before .before .before .before .loop .lead .sum) (c .before .before .before .total .result)) (c .before .before .before .before .before .before .loop .action) (c .before .before .before .before .before .before .loop .lead .action) (c .before .before .before .before .before .before .loop .inv .1)), omega (arith, c .before .before .before .before .before .loop-test .taken), omega (arith, c .before .before .before .total .kept .0, c .before .before .before .before .before .before .loop .inv .3))
+
+choose-add-put : (t : ℕ) → choose-lts.Need-add-put (
+  word-reads.Asked,
+  word-reads.Learnt,
+  start-reads.Asked,
+  start-reads.Learnt,
+  total-below t,
+  total.Post,
+  past-reads.Asked,
+  past-reads.Learnt,
+  put-reads.Asked,
+  put-reads.Learnt,
+) (choose-at t) choose.Post choose-Inv-loop choose-μ-loop
+choose-add-put t c = record { fits = omega (arith, c .before .before .before .before .before .before .before .before .before .pre .1 .kept, c .before .before .before .before .before .before .before .before .before .pre .1 .place) }
+
+choose-add-put-2 : (t : ℕ) → choose-lts.Need-add-put-2 (
+  word-reads.Asked,
+  word-reads.Learnt,
+  start-reads.Asked,
+  start-reads.Learnt,
+  total-below t,
+  total.Post,
+  past-reads.Asked,
+  past-reads.Learnt,
+  put-reads.Asked,
+  put-reads.Learnt,
+) (choose-at t) choose.Post choose-Inv-loop choose-μ-loop
+choose-add-put-2 t c = record { fits = omega (arith, c .before .before .loop .inv .1, c .before .before .loop .inv .2, c .before .loop-test .left) }
+
+choose-put-requires : (t : ℕ) → choose-lts.Need-put-requires (
+  word-reads.Asked,
+  word-reads.Learnt,
+  start-reads.Asked,
+  start-reads.Learnt,
+  total-below t,
+  total.Post,
+  past-reads.Asked,
+  past-reads.Learnt,
+  put-reads.Asked,
+  put-reads.Learnt,
+) (choose-at t) choose.Post choose-Inv-loop choose-μ-loop
+choose-put-requires t c κs = search needs
+
+choose-same-length-2 : (t : ℕ) → choose-lts.Need-same-length-2 (
+  word-reads.Asked,
+  word-reads.Learnt,
+  start-reads.Asked,
+  start-reads.Learnt,
+  total-below t,
+  total.Post,
+  past-reads.Asked,
+  past-reads.Learnt,
+  put-reads.Asked,
+  put-reads.Learnt,
+) (choose-at t) choose.Post choose-Inv-loop choose-μ-loop
+choose-same-length-2 t c = search needs
+
+choose-returns-2 : (t : ℕ) → choose-lts.Need-returns-2 (
+  word-reads.Asked,
+  word-reads.Learnt,
+  start-reads.Asked,
+  start-reads.Learnt,
+  total-below t,
+  total.Post,
+  past-reads.Asked,
+  past-reads.Learnt,
+  put-reads.Asked,
+  put-reads.Learnt,
+) (choose-at t) choose.Post choose-Inv-loop choose-μ-loop
+choose-returns-2 t c = choosing.led-end (now (c .before .before .before .before .before .before .before .before .before .before .before .before .args .profile)) (c .before .before .before .before .before .before .before .before .before .before .before .before .args .seat) (c .before .before .before .before .before .before .before .before .before .before .before .before .args .depth) (c .before .before .before .before .before .before .before .before .before .before .before .before .args .heads) (c .before .before .before .before .before .before .before .before .before .before .before .before .args .reach) (c .before .before .before .before .before .before .before .before .before .before .before .before .args .kept) (c .before .before .before .before .before .before .before .before .before .before .before .before .args .first) (c .before .before .before .before .before .before .before .before .before .before .before .before .args .count) (now (c .before .before .before .before .before .before .before .before .before .before .before .before .args .w)) (c .before .before .before .before .before .loop .w) (c .before .before .put .last .0) (c .before .before .before .before .before .loop .lead .action) (c .before .before .before .before .before .loop .lead .sum) (c .before .before .before .before .before .loop .action) (c .before .before .before .before .before .loop .inv .0) (omega (arith, c .before .before .before .before .loop-test .left)) (c .before .before .put .ensures)
+
+abbrev dealt-Inv-loop : dealt-lts.InvT-loop
+dealt-Inv-loop w₀ profile a end seat depth heads reach kept each sum₀ at₀ w sum at = valuing.Along profile seat depth heads reach kept a end w₀ each w at sum × (at + depth < 8388608) × (length w ≡ length w₀)
+
+abbrev dealt-μ-loop : dealt-lts.MeasureT-loop
+dealt-μ-loop w₀ profile a end seat depth heads reach kept each sum₀ at₀ w sum at = end - at
+
+dealt-fan-requires : (t : ℕ) → dealt-lts.Need-fan-requires (
+  fan-reads.Asked,
+  fan-reads.Learnt,
+  weight-reads.Asked,
+  weight-reads.Learnt,
+  gain-below t,
+  gain.Post,
+  behind-reads.Asked,
+  behind-reads.Learnt,
+) (dealt-at t) dealt.Post dealt-Inv-loop dealt-μ-loop
+dealt-fan-requires t c κs = omega (arith, c .before .before .before .pre .1 .place)
+
+dealt-weight-requires : (t : ℕ) → dealt-lts.Need-weight-requires (
+  fan-reads.Asked,
+  fan-reads.Learnt,
+  weight-reads.Asked,
+  weight-reads.Learnt,
+  gain-below t,
+  gain.Post,
+  behind-reads.Asked,
+  behind-reads.Learnt,
+) (dealt-at t) dealt.Post dealt-Inv-loop dealt-μ-loop
+dealt-weight-requires t c κs = search needs
+
+dealt-loop-holds : (t : ℕ) → dealt-lts.Need-loop-holds (
+  fan-reads.Asked,
+  fan-reads.Learnt,
+  weight-reads.Asked,
+  weight-reads.Learnt,
+  gain-below t,
+  gain.Post,
+  behind-reads.Asked,
+  behind-reads.Learnt,
+) (dealt-at t) dealt.Post dealt-Inv-loop dealt-μ-loop
+dealt-loop-holds t c = (valuing.along-start (now (c .before .before .before .before .before .args .profile)) (c .before .before .before .before .before .args .seat) (c .before .before .before .before .before .args .depth) (c .before .before .before .before .before .args .heads) (c .before .before .before .before .before .args .reach) (c .before .before .before .before .before .args .kept) (c .before .before .before .before .before .args .a) (c .before .before .before .before .before .args .end) (now (c .before .before .before .before .before .args .w)) (c .weight .result) (c .before .fan .result) (c .before .fan .ensures) (c .weight .ensures), c .before .before .before .before .before .pre .1 .place, refl)
+
+dealt-gain-requires : (t : ℕ) → dealt-lts.Need-gain-requires (
+  fan-reads.Asked,
+  fan-reads.Learnt,
+  weight-reads.Asked,
+  weight-reads.Learnt,
+  gain-below t,
+  gain.Post,
+  behind-reads.Asked,
+  behind-reads.Learnt,
+) (dealt-at t) dealt.Post dealt-Inv-loop dealt-μ-loop
+dealt-gain-requires t c κs = (omega (arith, c .before .before .before .before .before .before .before .before .pre .0), valuing.walk-at (c .before .before .before .before .before .before .before .before .args .a) (c .before .before .before .before .before .before .before .before .args .seat) (c .before .before .before .before .before .before .before .before .args .depth) (c .before .before .before .before .before .before .before .before .args .heads) (c .before .before .before .before .before .before .before .before .args .reach) (c .before .before .before .before .before .before .before .before .args .kept) (c .before .before .before .before .before .before .before .before .pre .1) (c .before .before .loop .at) (c .before .before .before .before .before .before .before .before .args .depth) (omega arith) (c .before .before .loop .inv .1))
+
+dealt-behind-requires : (t : ℕ) → dealt-lts.Need-behind-requires (
+  fan-reads.Asked,
+  fan-reads.Learnt,
+  weight-reads.Asked,
+  weight-reads.Learnt,
+  gain-below t,
+  gain.Post,
+  behind-reads.Asked,
+  behind-reads.Learnt,
+) (dealt-at t) dealt.Post dealt-Inv-loop dealt-μ-loop
+dealt-behind-requires t c κs = omega (arith, c .before .before .before .before .before .before .loop .inv .1)
+
+dealt-same-length : (t : ℕ) → dealt-lts.Need-same-length (
+  fan-reads.Asked,
+  fan-reads.Learnt,
+  weight-reads.Asked,
+  weight-reads.Learnt,
+  gain-below t,
+  gain.Post,
+  behind-reads.Asked,
+  behind-reads.Learnt,
+) (dealt-at t) dealt.Post dealt-Inv-loop dealt-μ-loop
+dealt-same-length t c = search needs
+
+dealt-returns : (t : ℕ) → dealt-lts.Need-returns (
+  fan-reads.Asked,
+  fan-reads.Learnt,
+  weight-reads.Asked,
+  weight-reads.Learnt,
+  gain-below t,
+  gain.Post,
+  behind-reads.Asked,
+  behind-reads.Learnt,
+) (dealt-at t) dealt.Post dealt-Inv-loop dealt-μ-loop
+dealt-returns t c = valuing.along-stuck (now (c .before .before .before .before .before .before .before .before .before .before .before .before .before .before .args .profile)) (c .before .before .before .before .before .before .before .before .before .before .before .before .before .before .args .seat) (c .before .before .before .before .before .before .before .before .before .before .before .before .before .before .args .depth) (c .before .before .before .before .before .before .before .before .before .before .before .before .before .before .args .heads) (c .before .before .before .before .before .before .before .before .before .before .before .before .before .before .args .reach) (c .before .before .before .before .before .before .before .before .before .before .before .before .before .before .args .kept) (c .before .before .before .before .before .before .before .before .before .before .before .before .before .before .args .a) (c .before .before .before .before .before .before .before .before .before .before .before .before .before .before .args .end) (now (c .before .before .before .before .before .before .before .before .before .before .before .before .before .before .args .w)) (c .before .before .before .before .before .before .before .before .before .weight .result) (c .before .before .before .before .before .before .before .before .loop .w) (c .before .before .before .before .before .gain .last .0) (c .before .before .before .before .before .before .before .before .loop .at) (c .before .before .before .before .before .before .before .before .loop .sum) (c .before .before .before .before .before .gain .result) _ (c .before .behind .result) (c .before .before .before .before .before .before .before .before .loop .inv .0) (c .before .before .before .before .before .before .before .loop-test .taken) (c .before .before .before .before .before .gain .ensures) (c .before .behind .ensures) (c .if1 .taken)
+
+dealt-loop-less : (t : ℕ) → dealt-lts.Need-loop-less (
+  fan-reads.Asked,
+  fan-reads.Learnt,
+  weight-reads.Asked,
+  weight-reads.Learnt,
+  gain-below t,
+  gain.Post,
+  behind-reads.Asked,
+  behind-reads.Learnt,
+) (dealt-at t) dealt.Post dealt-Inv-loop dealt-μ-loop
+dealt-loop-less t c = omega (arith, c .before .before .before .before .before .before .before .loop-test .taken, c .if1 .left)
+
+dealt-loop-again : (t : ℕ) → dealt-lts.Need-loop-again (
+  fan-reads.Asked,
+  fan-reads.Learnt,
+  weight-reads.Asked,
+  weight-reads.Learnt,
+  gain-below t,
+  gain.Post,
+  behind-reads.Asked,
+  behind-reads.Learnt,
+) (dealt-at t) dealt.Post dealt-Inv-loop dealt-μ-loop
+dealt-loop-again t c = (valuing.along-more (now (c .before .before .before .before .before .before .before .before .before .before .before .before .before .before .args .profile)) (c .before .before .before .before .before .before .before .before .before .before .before .before .before .before .args .seat) (c .before .before .before .before .before .before .before .before .before .before .before .before .before .before .args .depth) (c .before .before .before .before .before .before .before .before .before .before .before .before .before .before .args .heads) (c .before .before .before .before .before .before .before .before .before .before .before .before .before .before .args .reach) (c .before .before .before .before .before .before .before .before .before .before .before .before .before .before .args .kept) (c .before .before .before .before .before .before .before .before .before .before .before .before .before .before .args .a) (c .before .before .before .before .before .before .before .before .before .before .before .before .before .before .args .end) (now (c .before .before .before .before .before .before .before .before .before .before .before .before .before .before .args .w)) (c .before .before .before .before .before .before .before .before .before .weight .result) (c .before .before .before .before .before .before .before .before .loop .w) (c .before .before .before .before .before .gain .last .0) (c .before .before .before .before .before .before .before .before .loop .at) (c .before .before .before .before .before .before .before .before .loop .sum) (c .before .before .before .before .before .gain .result) _ (c .before .behind .result) (c .before .before .before .before .before .before .before .before .loop .inv .0) (c .before .before .before .before .before .before .before .loop-test .taken) (c .before .before .before .before .before .gain .ensures) refl (c .before .behind .ensures), omega (arith, c .before .behind .ensures .near, c .before .before .before .before .before .before .before .before .before .before .before .before .before .before .pre .1 .shallow), omega (arith, c .before .before .before .before .before .gain .kept .0, c .before .before .before .before .before .before .before .before .loop .inv .2))
+
+dealt-same-length-2 : (t : ℕ) → dealt-lts.Need-same-length-2 (
+  fan-reads.Asked,
+  fan-reads.Learnt,
+  weight-reads.Asked,
+  weight-reads.Learnt,
+  gain-below t,
+  gain.Post,
+  behind-reads.Asked,
+  behind-reads.Learnt,
+) (dealt-at t) dealt.Post dealt-Inv-loop dealt-μ-loop
+dealt-same-length-2 t c = search needs
+
+dealt-returns-2 : (t : ℕ) → dealt-lts.Need-returns-2 (
+  fan-reads.Asked,
+  fan-reads.Learnt,
+  weight-reads.Asked,
+  weight-reads.Learnt,
+  gain-below t,
+  gain.Post,
+  behind-reads.Asked,
+  behind-reads.Learnt,
+) (dealt-at t) dealt.Post dealt-Inv-loop dealt-μ-loop
+dealt-returns-2 t c = valuing.along-end (now (c .before .before .before .before .before .before .before .args .profile)) (c .before .before .before .before .before .before .before .args .seat) (c .before .before .before .before .before .before .before .args .depth) (c .before .before .before .before .before .before .before .args .heads) (c .before .before .before .before .before .before .before .args .reach) (c .before .before .before .before .before .before .before .args .kept) (c .before .before .before .before .before .before .before .args .a) (c .before .before .before .before .before .before .before .args .end) (now (c .before .before .before .before .before .before .before .args .w)) (c .before .before .weight .result) (c .before .loop .w) (c .before .loop .at) (c .before .loop .sum) (c .before .loop .inv .0) (omega (arith, c .loop-test .left))
+
+gain-word-requires : (t : ℕ) → gain-lts.Need-word-requires (
+  word-reads.Asked,
+  word-reads.Learnt,
+  kind-reads.Asked,
+  kind-reads.Learnt,
+  payoff-of-reads.Asked,
+  payoff-of-reads.Learnt,
+  value-below t,
+  value.Post,
+) (gain-at t) gain.Post
+gain-word-requires t c κs = search needs
+
+gain-kind-requires : (t : ℕ) → gain-lts.Need-kind-requires (
+  word-reads.Asked,
+  word-reads.Learnt,
+  kind-reads.Asked,
+  kind-reads.Learnt,
+  payoff-of-reads.Asked,
+  payoff-of-reads.Learnt,
+  value-below t,
+  value.Post,
+) (gain-at t) gain.Post
+gain-kind-requires t c κs = search needs
+
+gain-payoff-of-requires : (t : ℕ) → gain-lts.Need-payoff-of-requires (
+  word-reads.Asked,
+  word-reads.Learnt,
+  kind-reads.Asked,
+  kind-reads.Learnt,
+  payoff-of-reads.Asked,
+  payoff-of-reads.Learnt,
+  value-below t,
+  value.Post,
+) (gain-at t) gain.Post
+gain-payoff-of-requires t c κs = c .before .before .before .before .before .before .pre .1 .seat
+
+gain-same-length : (t : ℕ) → gain-lts.Need-same-length (
+  word-reads.Asked,
+  word-reads.Learnt,
+  kind-reads.Asked,
+  kind-reads.Learnt,
+  payoff-of-reads.Asked,
+  payoff-of-reads.Learnt,
+  value-below t,
+  value.Post,
+) (gain-at t) gain.Post
+gain-same-length t c = search needs
+
+gain-returns : (t : ℕ) → gain-lts.Need-returns (
+  word-reads.Asked,
+  word-reads.Learnt,
+  kind-reads.Asked,
+  kind-reads.Learnt,
+  payoff-of-reads.Asked,
+  payoff-of-reads.Learnt,
+  value-below t,
+  value.Post,
+) (gain-at t) gain.Post
+gain-returns t c = valuing.gain-end (now (c .before .before .before .before .before .before .before .args .profile)) (c .before .before .before .before .before .before .before .args .seat) (c .before .before .before .before .before .before .before .args .depth) (c .before .before .before .before .before .before .before .args .heads) (c .before .before .before .before .before .before .before .args .reach) (c .before .before .before .before .before .before .before .args .kept) (c .before .before .before .before .before .before .before .args .a) (now (c .before .before .before .before .before .before .before .args .w)) (c .before .before .before .word .result) (c .before .before .before .word .ensures) _ (sym (c .before .before .kind .ensures) ∙ c .before .if1 .taken) (ap (λ y. plus y nought) (c .payoff-of .ensures))
+
+gain-value-requires : (t : ℕ) → gain-lts.Need-value-requires (
+  word-reads.Asked,
+  word-reads.Learnt,
+  kind-reads.Asked,
+  kind-reads.Learnt,
+  payoff-of-reads.Asked,
+  payoff-of-reads.Learnt,
+  value-below t,
+  value.Post,
+) (gain-at t) gain.Post
+gain-value-requires t c κs = (omega (arith, c .before .before .before .before .before .before .before .pre .0), c .before .before .before .before .before .before .before .pre .1)
+
+gain-same-length-2 : (t : ℕ) → gain-lts.Need-same-length-2 (
+  word-reads.Asked,
+  word-reads.Learnt,
+  kind-reads.Asked,
+  kind-reads.Learnt,
+  payoff-of-reads.Asked,
+  payoff-of-reads.Learnt,
+  value-below t,
+  value.Post,
+) (gain-at t) gain.Post
+gain-same-length-2 t c = search needs
+
+gain-returns-2 : (t : ℕ) → gain-lts.Need-returns-2 (
+  word-reads.Asked,
+  word-reads.Learnt,
+  kind-reads.Asked,
+  kind-reads.Learnt,
+  payoff-of-reads.Asked,
+  payoff-of-reads.Learnt,
+  value-below t,
+  value.Post,
+) (gain-at t) gain.Post
+gain-returns-2 t c = valuing.gain-more (now (c .before .before .before .before .before .before .before .before .before .before .args .profile)) (c .before .before .before .before .before .before .before .before .before .before .args .seat) (c .before .before .before .before .before .before .before .before .before .before .args .depth) (c .before .before .before .before .before .before .before .before .before .before .args .heads) (c .before .before .before .before .before .before .before .before .before .before .args .reach) (c .before .before .before .before .before .before .before .before .before .before .args .kept) (c .before .before .before .before .before .before .before .before .before .before .args .a) (now (c .before .before .before .before .before .before .before .before .before .before .args .w)) (c .before .before .before .before .before .before .word .result) (c .before .before .before .before .before .before .word .ensures) (c .before .before .value .last .0) (c .before .before .value .result) _ (λ q. c .before .before .before .before .if1 .left (c .before .before .before .before .before .kind .ensures ∙ q)) (c .before .before .value .ensures) refl
+
+own-set-requires : (t : ℕ) → own-lts.Need-set-requires (
+  set-reads.Asked,
+  set-reads.Learnt,
+  actions-reads.Asked,
+  actions-reads.Learnt,
+  choose-below t,
+  choose.Post,
+  child-reads.Asked,
+  child-reads.Learnt,
+  gain-below t,
+  gain.Post,
+) (own-at t) own.Post
+own-set-requires t c κs = search needs
+
+own-actions-requires : (t : ℕ) → own-lts.Need-actions-requires (
+  set-reads.Asked,
+  set-reads.Learnt,
+  actions-reads.Asked,
+  actions-reads.Learnt,
+  choose-below t,
+  choose.Post,
+  child-reads.Asked,
+  child-reads.Learnt,
+  gain-below t,
+  gain.Post,
+) (own-at t) own.Post
+own-actions-requires t c κs = search needs
+
+own-choose-requires : (t : ℕ) → own-lts.Need-choose-requires (
+  set-reads.Asked,
+  set-reads.Learnt,
+  actions-reads.Asked,
+  actions-reads.Learnt,
+  choose-below t,
+  choose.Post,
+  child-reads.Asked,
+  child-reads.Learnt,
+  gain-below t,
+  gain.Post,
+) (own-at t) own.Post
+own-choose-requires t c κs = (omega (arith, c .before .before .before .before .before .pre .0), valuing.walk-at (c .before .before .before .before .before .args .a + 1) (c .before .before .before .before .before .args .seat) (c .before .before .before .before .before .args .depth) (c .before .before .before .before .before .args .heads) (c .before .before .before .before .before .args .reach) (c .before .before .before .before .before .args .kept) (c .before .before .before .before .before .pre .1) (c .before .set .result) (c .before .before .before .before .before .args .depth) (omega arith) (omega (arith, c .before .set .ensures, c .before .before .before .before .before .pre .1 .shallow)))
+
+own-child-requires : (t : ℕ) → own-lts.Need-child-requires (
+  set-reads.Asked,
+  set-reads.Learnt,
+  actions-reads.Asked,
+  actions-reads.Learnt,
+  choose-below t,
+  choose.Post,
+  child-reads.Asked,
+  child-reads.Learnt,
+  gain-below t,
+  gain.Post,
+) (own-at t) own.Post
+own-child-requires t c κs = omega (arith, c .before .before .before .before .before .before .before .before .before .pre .1 .place)
+
+own-gain-requires : (t : ℕ) → own-lts.Need-gain-requires (
+  set-reads.Asked,
+  set-reads.Learnt,
+  actions-reads.Asked,
+  actions-reads.Learnt,
+  choose-below t,
+  choose.Post,
+  child-reads.Asked,
+  child-reads.Learnt,
+  gain-below t,
+  gain.Post,
+) (own-at t) own.Post
+own-gain-requires t c κs = (omega (arith, c .before .before .before .before .before .before .before .before .before .before .before .pre .0), valuing.walk-at (c .before .before .before .before .before .before .before .before .before .before .before .args .a + 1) (c .before .before .before .before .before .before .before .before .before .before .before .args .seat) (c .before .before .before .before .before .before .before .before .before .before .before .args .depth) (c .before .before .before .before .before .before .before .before .before .before .before .args .heads) (c .before .before .before .before .before .before .before .before .before .before .before .args .reach) (c .before .before .before .before .before .before .before .before .before .before .before .args .kept) (c .before .before .before .before .before .before .before .before .before .before .before .pre .1) (c .before .child .result) (c .before .before .before .before .before .before .before .before .before .before .before .args .depth) (omega arith) (omega (arith, c .before .child .ensures .near, c .before .before .before .before .before .before .before .before .before .before .before .pre .1 .shallow)))
+
+own-same-length : (t : ℕ) → own-lts.Need-same-length (
+  set-reads.Asked,
+  set-reads.Learnt,
+  actions-reads.Asked,
+  actions-reads.Learnt,
+  choose-below t,
+  choose.Post,
+  child-reads.Asked,
+  child-reads.Learnt,
+  gain-below t,
+  gain.Post,
+) (own-at t) own.Post
+own-same-length t c = search needs
+
+own-returns : (t : ℕ) → own-lts.Need-returns (
+  set-reads.Asked,
+  set-reads.Learnt,
+  actions-reads.Asked,
+  actions-reads.Learnt,
+  choose-below t,
+  choose.Post,
+  child-reads.Asked,
+  child-reads.Learnt,
+  gain-below t,
+  gain.Post,
+) (own-at t) own.Post
+own-returns t c = valuing.own-is (now (c .before .before .before .before .before .before .before .before .before .before .before .before .before .before .args .profile)) (c .before .before .before .before .before .before .before .before .before .before .before .before .before .before .args .seat) (c .before .before .before .before .before .before .before .before .before .before .before .before .before .before .args .depth) (c .before .before .before .before .before .before .before .before .before .before .before .before .before .before .args .heads) (c .before .before .before .before .before .before .before .before .before .before .before .before .before .before .args .reach) (c .before .before .before .before .before .before .before .before .before .before .before .before .before .before .args .kept) (c .before .before .before .before .before .before .before .before .before .before .before .before .before .before .args .a) (c .before .before .before .before .before .before .before .before .before .before .before .before .before .before .args .x) (now (c .before .before .before .before .before .before .before .before .before .before .before .before .before .before .args .w)) (c .before .before .before .before .before .before .before .before .choose .last .0) (c .before .before .gain .last .0) (c .before .before .before .before .before .before .before .before .choose .result) (c .before .before .before .before .child .result) (c .before .before .gain .result) (subst (λ e. Chosen (now (c .before .before .before .before .before .before .before .before .before .before .before .before .before .before .args .profile)) (c .before .before .before .before .before .before .before .before .before .before .before .before .before .before .args .seat) (c .before .before .before .before .before .before .before .before .before .before .before .before .before .before .args .depth) (c .before .before .before .before .before .before .before .before .before .before .before .before .before .before .args .heads) (c .before .before .before .before .before .before .before .before .before .before .before .before .before .before .args .reach) (c .before .before .before .before .before .before .before .before .before .before .before .before .before .before .args .kept) e (actionsOf (c .before .before .before .before .before .before .before .before .before .before .before .before .before .before .args .x)) (now (c .before .before .before .before .before .before .before .before .before .before .before .before .before .before .args .w)) (c .before .before .before .before .before .before .before .before .choose .last .0) (c .before .before .before .before .before .before .before .before .choose .result)) (c .before .before .before .before .before .before .before .before .before .before .set .ensures) (subst (λ n. Chosen (now (c .before .before .before .before .before .before .before .before .before .before .before .before .before .before .args .profile)) (c .before .before .before .before .before .before .before .before .before .before .before .before .before .before .args .seat) (c .before .before .before .before .before .before .before .before .before .before .before .before .before .before .args .depth) (c .before .before .before .before .before .before .before .before .before .before .before .before .before .before .args .heads) (c .before .before .before .before .before .before .before .before .before .before .before .before .before .before .args .reach) (c .before .before .before .before .before .before .before .before .before .before .before .before .before .before .args .kept) (c .before .before .before .before .before .before .before .before .before .before .set .result) n (now (c .before .before .before .before .before .before .before .before .before .before .before .before .before .before .args .w)) (c .before .before .before .before .before .before .before .before .choose .last .0) (c .before .before .before .before .before .before .before .before .choose .result)) (c .before .before .before .before .before .before .before .before .before .actions .ensures) (c .before .before .before .before .before .before .before .before .choose .ensures))) (c .before .before .before .before .child .ensures) (c .before .before .gain .ensures)
+
+abbrev split-Inv-loop : split-lts.InvT-loop
+split-Inv-loop w₀ profile a x seat depth heads reach kept first end part sum₀ at₀ action₀ w sum at action = valuing.Halfway profile seat depth heads reach kept a x w₀ w at action sum × (at + depth < 8388608) × (length w ≡ length w₀)
+
+abbrev split-μ-loop : split-lts.MeasureT-loop
+split-μ-loop w₀ profile a x seat depth heads reach kept first end part sum₀ at₀ action₀ w sum at action = length part - action
+
+split-set-requires : (t : ℕ) → split-lts.Need-set-requires (
+  set-reads.Asked,
+  set-reads.Learnt,
+  actions-reads.Asked,
+  actions-reads.Learnt,
+  gain-below t,
+  gain.Post,
+  weighed-reads.Asked,
+  weighed-reads.Learnt,
+  behind-reads.Asked,
+  behind-reads.Learnt,
+) (split-at t) split.Post split-Inv-loop split-μ-loop
+split-set-requires t c κs = search needs
+
+split-actions-requires : (t : ℕ) → split-lts.Need-actions-requires (
+  set-reads.Asked,
+  set-reads.Learnt,
+  actions-reads.Asked,
+  actions-reads.Learnt,
+  gain-below t,
+  gain.Post,
+  weighed-reads.Asked,
+  weighed-reads.Learnt,
+  behind-reads.Asked,
+  behind-reads.Learnt,
+) (split-at t) split.Post split-Inv-loop split-μ-loop
+split-actions-requires t c κs = search needs
+
+split-add-end : (t : ℕ) → split-lts.Need-add-end (
+  set-reads.Asked,
+  set-reads.Learnt,
+  actions-reads.Asked,
+  actions-reads.Learnt,
+  gain-below t,
+  gain.Post,
+  weighed-reads.Asked,
+  weighed-reads.Learnt,
+  behind-reads.Asked,
+  behind-reads.Learnt,
+) (split-at t) split.Post split-Inv-loop split-μ-loop
+split-add-end t c = record { fits = omega (arith, c .before .set .ensures, c .actions .ensures) }
+
+split-returns : (t : ℕ) → split-lts.Need-returns (
+  set-reads.Asked,
+  set-reads.Learnt,
+  actions-reads.Asked,
+  actions-reads.Learnt,
+  gain-below t,
+  gain.Post,
+  weighed-reads.Asked,
+  weighed-reads.Learnt,
+  behind-reads.Asked,
+  behind-reads.Learnt,
+) (split-at t) split.Post split-Inv-loop split-μ-loop
+split-returns t c = valuing.split-short (now (c .before .before .before .before .before .args .profile)) (c .before .before .before .before .before .args .seat) (c .before .before .before .before .before .args .depth) (c .before .before .before .before .before .args .heads) (c .before .before .before .before .before .args .reach) (c .before .before .before .before .before .args .kept) (c .before .before .before .before .before .args .a) (c .before .before .before .before .before .args .x) (now (c .before .before .before .before .before .args .w)) _ (omega (arith, c .if1 .taken, c .before .before .set .ensures, c .before .actions .ensures))
+
+split-mul-part : (t : ℕ) → split-lts.Need-mul-part (
+  set-reads.Asked,
+  set-reads.Learnt,
+  actions-reads.Asked,
+  actions-reads.Learnt,
+  gain-below t,
+  gain.Post,
+  weighed-reads.Asked,
+  weighed-reads.Learnt,
+  behind-reads.Asked,
+  behind-reads.Learnt,
+) (split-at t) split.Post split-Inv-loop split-μ-loop
+split-mul-part t c = search needs
+
+split-sub-part : (t : ℕ) → split-lts.Need-sub-part (
+  set-reads.Asked,
+  set-reads.Learnt,
+  actions-reads.Asked,
+  actions-reads.Learnt,
+  gain-below t,
+  gain.Post,
+  weighed-reads.Asked,
+  weighed-reads.Learnt,
+  behind-reads.Asked,
+  behind-reads.Learnt,
+) (split-at t) split.Post split-Inv-loop split-μ-loop
+split-sub-part t c = search needs
+
+split-part-part-start : (t : ℕ) → split-lts.Need-part-part-start (
+  set-reads.Asked,
+  set-reads.Learnt,
+  actions-reads.Asked,
+  actions-reads.Learnt,
+  gain-below t,
+  gain.Post,
+  weighed-reads.Asked,
+  weighed-reads.Learnt,
+  behind-reads.Asked,
+  behind-reads.Learnt,
+) (split-at t) split.Post split-Inv-loop split-μ-loop
+split-part-part-start t c = search needs
+
+split-part-part-end : (t : ℕ) → split-lts.Need-part-part-end (
+  set-reads.Asked,
+  set-reads.Learnt,
+  actions-reads.Asked,
+  actions-reads.Learnt,
+  gain-below t,
+  gain.Post,
+  weighed-reads.Asked,
+  weighed-reads.Learnt,
+  behind-reads.Asked,
+  behind-reads.Learnt,
+) (split-at t) split.Post split-Inv-loop split-μ-loop
+split-part-part-end t c = search needs
+
+split-loop-holds : (t : ℕ) → split-lts.Need-loop-holds (
+  set-reads.Asked,
+  set-reads.Learnt,
+  actions-reads.Asked,
+  actions-reads.Learnt,
+  gain-below t,
+  gain.Post,
+  weighed-reads.Asked,
+  weighed-reads.Learnt,
+  behind-reads.Asked,
+  behind-reads.Learnt,
+) (split-at t) split.Post split-Inv-loop split-μ-loop
+split-loop-holds t c = (valuing.halfway-start (now (c .before .before .before .before .before .before .args .profile)) (c .before .before .before .before .before .before .args .seat) (c .before .before .before .before .before .before .args .depth) (c .before .before .before .before .before .before .args .heads) (c .before .before .before .before .before .before .args .reach) (c .before .before .before .before .before .before .args .kept) (c .before .before .before .before .before .before .args .a) (c .before .before .before .before .before .before .args .x) (now (c .before .before .before .before .before .before .args .w)), c .before .before .before .before .before .before .pre .1 .place, refl)
+
+split-gain-requires : (t : ℕ) → split-lts.Need-gain-requires (
+  set-reads.Asked,
+  set-reads.Learnt,
+  actions-reads.Asked,
+  actions-reads.Learnt,
+  gain-below t,
+  gain.Post,
+  weighed-reads.Asked,
+  weighed-reads.Learnt,
+  behind-reads.Asked,
+  behind-reads.Learnt,
+) (split-at t) split.Post split-Inv-loop split-μ-loop
+split-gain-requires t c κs = (omega (arith, c .before .before .before .before .before .before .before .before .before .pre .0), valuing.walk-at (c .before .before .before .before .before .before .before .before .before .args .a) (c .before .before .before .before .before .before .before .before .before .args .seat) (c .before .before .before .before .before .before .before .before .before .args .depth) (c .before .before .before .before .before .before .before .before .before .args .heads) (c .before .before .before .before .before .before .before .before .before .args .reach) (c .before .before .before .before .before .before .before .before .before .args .kept) (c .before .before .before .before .before .before .before .before .before .pre .1) (c .before .before .loop .at) (c .before .before .before .before .before .before .before .before .before .args .depth) (omega arith) (c .before .before .loop .inv .1))
+
+split-weighed-requires : (t : ℕ) → split-lts.Need-weighed-requires (
+  set-reads.Asked,
+  set-reads.Learnt,
+  actions-reads.Asked,
+  actions-reads.Learnt,
+  gain-below t,
+  gain.Post,
+  weighed-reads.Asked,
+  weighed-reads.Learnt,
+  behind-reads.Asked,
+  behind-reads.Learnt,
+) (split-at t) split.Post split-Inv-loop split-μ-loop
+split-weighed-requires t c κs = c .before .before .before .before .loop-test .taken
+
+split-behind-requires : (t : ℕ) → split-lts.Need-behind-requires (
+  set-reads.Asked,
+  set-reads.Learnt,
+  actions-reads.Asked,
+  actions-reads.Learnt,
+  gain-below t,
+  gain.Post,
+  weighed-reads.Asked,
+  weighed-reads.Learnt,
+  behind-reads.Asked,
+  behind-reads.Learnt,
+) (split-at t) split.Post split-Inv-loop split-μ-loop
+split-behind-requires t c κs = omega (arith, c .before .before .before .before .before .before .before .loop .inv .1)
+
+split-add-action : (t : ℕ) → split-lts.Need-add-action (
+  set-reads.Asked,
+  set-reads.Learnt,
+  actions-reads.Asked,
+  actions-reads.Learnt,
+  gain-below t,
+  gain.Post,
+  weighed-reads.Asked,
+  weighed-reads.Learnt,
+  behind-reads.Asked,
+  behind-reads.Learnt,
+) (split-at t) split.Post split-Inv-loop split-μ-loop
+split-add-action t c = record { fits = omega (arith, c .before .before .before .before .before .before .before .loop-test .taken) }
+
+split-loop-less : (t : ℕ) → split-lts.Need-loop-less (
+  set-reads.Asked,
+  set-reads.Learnt,
+  actions-reads.Asked,
+  actions-reads.Learnt,
+  gain-below t,
+  gain.Post,
+  weighed-reads.Asked,
+  weighed-reads.Learnt,
+  behind-reads.Asked,
+  behind-reads.Learnt,
+) (split-at t) split.Post split-Inv-loop split-μ-loop
+split-loop-less t c = omega (arith, c .before .before .before .before .before .before .before .loop-test .taken)
+
+split-loop-again : (t : ℕ) → split-lts.Need-loop-again (
+  set-reads.Asked,
+  set-reads.Learnt,
+  actions-reads.Asked,
+  actions-reads.Learnt,
+  gain-below t,
+  gain.Post,
+  weighed-reads.Asked,
+  weighed-reads.Learnt,
+  behind-reads.Asked,
+  behind-reads.Learnt,
+) (split-at t) split.Post split-Inv-loop split-μ-loop
+split-loop-again t c = (valuing.halfway-more (now (c .before .before .before .before .before .before .before .before .before .before .before .before .before .before .before .args .profile)) (c .before .before .before .before .before .before .before .before .before .before .before .before .before .before .before .args .seat) (c .before .before .before .before .before .before .before .before .before .before .before .before .before .before .before .args .depth) (c .before .before .before .before .before .before .before .before .before .before .before .before .before .before .before .args .heads) (c .before .before .before .before .before .before .before .before .before .before .before .before .before .before .before .args .reach) (c .before .before .before .before .before .before .before .before .before .before .before .before .before .before .before .args .kept) (c .before .before .before .before .before .before .before .before .before .before .before .before .before .before .before .args .a) (c .before .before .before .before .before .before .before .before .before .before .before .before .before .before .before .args .x) (now (c .before .before .before .before .before .before .before .before .before .before .before .before .before .before .before .args .w)) (c .before .before .before .before .before .before .before .before .before .before .before .before .set .result) (c .before .before .before .before .before .before .before .before .before .before .before .actions .result) (c .before .before .before .before .before .before .before .before .before .before .before .before .set .ensures) (c .before .before .before .before .before .before .before .before .before .before .before .actions .ensures) (c .before .before .before .before .before .before .before .before .before .before .if1 .left) (c .before .before .before .before .before .before .before .before .loop .w) (c .before .before .before .before .before .gain .last .0) (c .before .before .before .before .before .before .before .before .loop .at) (c .before .before .before .before .before .before .before .before .loop .action) (c .before .before .before .before .before .before .before .before .loop .sum) (c .before .before .before .before .before .gain .result) (c .before .before .weighed .result) (c .behind .result) (c .before .before .before .before .before .before .before .before .loop .inv .0) (c .before .before .before .before .before .before .before .loop-test .taken) (c .before .before .before .before .before .gain .ensures) (c .before .before .weighed .ensures) (c .behind .ensures), omega (arith, c .behind .ensures .near, c .before .before .before .before .before .before .before .before .before .before .before .before .before .before .before .pre .1 .shallow), omega (arith, c .before .before .before .before .before .gain .kept .0, c .before .before .before .before .before .before .before .before .loop .inv .2))
+
+split-same-length : (t : ℕ) → split-lts.Need-same-length (
+  set-reads.Asked,
+  set-reads.Learnt,
+  actions-reads.Asked,
+  actions-reads.Learnt,
+  gain-below t,
+  gain.Post,
+  weighed-reads.Asked,
+  weighed-reads.Learnt,
+  behind-reads.Asked,
+  behind-reads.Learnt,
+) (split-at t) split.Post split-Inv-loop split-μ-loop
+split-same-length t c = search needs
+
+split-returns-2 : (t : ℕ) → split-lts.Need-returns-2 (
+  set-reads.Asked,
+  set-reads.Learnt,
+  actions-reads.Asked,
+  actions-reads.Learnt,
+  gain-below t,
+  gain.Post,
+  weighed-reads.Asked,
+  weighed-reads.Learnt,
+  behind-reads.Asked,
+  behind-reads.Learnt,
+) (split-at t) split.Post split-Inv-loop split-μ-loop
+split-returns-2 t c = valuing.halfway-end (now (c .before .before .before .before .before .before .before .before .args .profile)) (c .before .before .before .before .before .before .before .before .args .seat) (c .before .before .before .before .before .before .before .before .args .depth) (c .before .before .before .before .before .before .before .before .args .heads) (c .before .before .before .before .before .before .before .before .args .reach) (c .before .before .before .before .before .before .before .before .args .kept) (c .before .before .before .before .before .before .before .before .args .a) (c .before .before .before .before .before .before .before .before .args .x) (now (c .before .before .before .before .before .before .before .before .args .w)) (c .before .before .before .before .before .set .result) (c .before .before .before .before .actions .result) (c .before .before .before .before .before .set .ensures) (c .before .before .before .before .actions .ensures) (c .before .before .before .if1 .left) (c .before .loop .w) (c .before .loop .at) (c .before .loop .action) (c .before .loop .sum) (c .before .loop .inv .0) (omega (arith, c .loop-test .left))
+
+abbrev total-Inv-loop : total-lts.InvT-loop
+total-Inv-loop w₀ profile first action seat depth heads reach kept sum₀ at₀ w sum at = choosing.Summed profile seat depth heads reach kept first action w₀ w at sum × (at < 2097152) × (length w ≡ length w₀)
+
+abbrev total-μ-loop : total-lts.MeasureT-loop
+total-μ-loop w₀ profile first action seat depth heads reach kept sum₀ at₀ w sum at = 2097152 - at
+
+total-add-word : (t : ℕ) → total-lts.Need-add-word (
+  word-reads.Asked,
+  word-reads.Learnt,
+  child-reads.Asked,
+  child-reads.Learnt,
+  gain-below t,
+  gain.Post,
+  reached-reads.Asked,
+  reached-reads.Learnt,
+  later-reads.Asked,
+  later-reads.Learnt,
+) (total-at t) total.Post total-Inv-loop total-μ-loop
+total-add-word t c = record { fits = omega (arith, c .before .before .before .pre .1 .heads, c .before .before .before .pre .1 .place) }
+
+total-word-requires : (t : ℕ) → total-lts.Need-word-requires (
+  word-reads.Asked,
+  word-reads.Learnt,
+  child-reads.Asked,
+  child-reads.Learnt,
+  gain-below t,
+  gain.Post,
+  reached-reads.Asked,
+  reached-reads.Learnt,
+  later-reads.Asked,
+  later-reads.Learnt,
+) (total-at t) total.Post total-Inv-loop total-μ-loop
+total-word-requires t c κs = search needs
+
+total-loop-holds : (t : ℕ) → total-lts.Need-loop-holds (
+  word-reads.Asked,
+  word-reads.Learnt,
+  child-reads.Asked,
+  child-reads.Learnt,
+  gain-below t,
+  gain.Post,
+  reached-reads.Asked,
+  reached-reads.Learnt,
+  later-reads.Asked,
+  later-reads.Learnt,
+) (total-at t) total.Post total-Inv-loop total-μ-loop
+total-loop-holds t c = (choosing.summed-start (now (c .before .before .before .before .args .profile)) (c .before .before .before .before .args .seat) (c .before .before .before .before .args .depth) (c .before .before .before .before .args .heads) (c .before .before .before .before .args .reach) (c .before .before .before .before .args .kept) (c .before .before .before .before .args .first) (c .before .before .before .before .args .action) (now (c .before .before .before .before .args .w)) _ (ap (λ j. j % 2097152) (c .word .ensures)), omega arith, refl)
+
+total-child-requires : (t : ℕ) → total-lts.Need-child-requires (
+  word-reads.Asked,
+  word-reads.Learnt,
+  child-reads.Asked,
+  child-reads.Learnt,
+  gain-below t,
+  gain.Post,
+  reached-reads.Asked,
+  reached-reads.Learnt,
+  later-reads.Asked,
+  later-reads.Learnt,
+) (total-at t) total.Post total-Inv-loop total-μ-loop
+total-child-requires t c κs = omega (arith, c .before .before .loop .inv .1)
+
+total-gain-requires : (t : ℕ) → total-lts.Need-gain-requires (
+  word-reads.Asked,
+  word-reads.Learnt,
+  child-reads.Asked,
+  child-reads.Learnt,
+  gain-below t,
+  gain.Post,
+  reached-reads.Asked,
+  reached-reads.Learnt,
+  later-reads.Asked,
+  later-reads.Learnt,
+) (total-at t) total.Post total-Inv-loop total-μ-loop
+total-gain-requires t c κs = (omega (arith, c .before .before .before .before .before .before .before .before .before .pre .0), valuing.walk-at (c .before .before .before .before .before .before .before .before .before .args .first) (c .before .before .before .before .before .before .before .before .before .args .seat) (c .before .before .before .before .before .before .before .before .before .args .depth) (c .before .before .before .before .before .before .before .before .before .args .heads) (c .before .before .before .before .before .before .before .before .before .args .reach) (c .before .before .before .before .before .before .before .before .before .args .kept) (c .before .before .before .before .before .before .before .before .before .pre .1) (c .before .child .result) (c .before .before .before .before .before .before .before .before .before .args .depth) (omega arith) (omega (arith, c .before .child .ensures .near, c .before .before .before .before .before .before .before .before .before .pre .1 .shallow)))
+
+total-add-reached : (t : ℕ) → total-lts.Need-add-reached (
+  word-reads.Asked,
+  word-reads.Learnt,
+  child-reads.Asked,
+  child-reads.Learnt,
+  gain-below t,
+  gain.Post,
+  reached-reads.Asked,
+  reached-reads.Learnt,
+  later-reads.Asked,
+  later-reads.Learnt,
+) (total-at t) total.Post total-Inv-loop total-μ-loop
+total-add-reached t c = record { fits = omega (arith, c .before .before .before .before .before .before .before .before .before .before .before .before .before .pre .1 .reach, c .before .before .before .before .before .before .before .before .loop .inv .1) }
+
+total-reached-requires : (t : ℕ) → total-lts.Need-reached-requires (
+  word-reads.Asked,
+  word-reads.Learnt,
+  child-reads.Asked,
+  child-reads.Learnt,
+  gain-below t,
+  gain.Post,
+  reached-reads.Asked,
+  reached-reads.Learnt,
+  later-reads.Asked,
+  later-reads.Learnt,
+) (total-at t) total.Post total-Inv-loop total-μ-loop
+total-reached-requires t c κs = search needs
+
+total-word-requires-2 : (t : ℕ) → total-lts.Need-word-requires-2 (
+  word-reads.Asked,
+  word-reads.Learnt,
+  child-reads.Asked,
+  child-reads.Learnt,
+  gain-below t,
+  gain.Post,
+  reached-reads.Asked,
+  reached-reads.Learnt,
+  later-reads.Asked,
+  later-reads.Learnt,
+) (total-at t) total.Post total-Inv-loop total-μ-loop
+total-word-requires-2 t c κs = search needs
+
+total-later-requires : (t : ℕ) → total-lts.Need-later-requires (
+  word-reads.Asked,
+  word-reads.Learnt,
+  child-reads.Asked,
+  child-reads.Learnt,
+  gain-below t,
+  gain.Post,
+  reached-reads.Asked,
+  reached-reads.Learnt,
+  later-reads.Asked,
+  later-reads.Learnt,
+) (total-at t) total.Post total-Inv-loop total-μ-loop
+total-later-requires t c κs = search needs
+
+total-same-length : (t : ℕ) → total-lts.Need-same-length (
+  word-reads.Asked,
+  word-reads.Learnt,
+  child-reads.Asked,
+  child-reads.Learnt,
+  gain-below t,
+  gain.Post,
+  reached-reads.Asked,
+  reached-reads.Learnt,
+  later-reads.Asked,
+  later-reads.Learnt,
+) (total-at t) total.Post total-Inv-loop total-μ-loop
+total-same-length t c = search needs
+
+total-returns : (t : ℕ) → total-lts.Need-returns (
+  word-reads.Asked,
+  word-reads.Learnt,
+  child-reads.Asked,
+  child-reads.Learnt,
+  gain-below t,
+  gain.Post,
+  reached-reads.Asked,
+  reached-reads.Learnt,
+  later-reads.Asked,
+  later-reads.Learnt,
+) (total-at t) total.Post total-Inv-loop total-μ-loop
+total-returns t c = choosing.summed-stuck (now (c .before .before .before .before .before .before .before .before .before .before .before .before .before .before .before .before .before .before .args .profile)) (c .before .before .before .before .before .before .before .before .before .before .before .before .before .before .before .before .before .before .args .seat) (c .before .before .before .before .before .before .before .before .before .before .before .before .before .before .before .before .before .before .args .depth) (c .before .before .before .before .before .before .before .before .before .before .before .before .before .before .before .before .before .before .args .heads) (c .before .before .before .before .before .before .before .before .before .before .before .before .before .before .before .before .before .before .args .reach) (c .before .before .before .before .before .before .before .before .before .before .before .before .before .before .before .before .before .before .args .kept) (c .before .before .before .before .before .before .before .before .before .before .before .before .before .before .before .before .before .before .args .first) (c .before .before .before .before .before .before .before .before .before .before .before .before .before .before .before .before .before .before .args .action) (now (c .before .before .before .before .before .before .before .before .before .before .before .before .before .before .before .before .before .before .args .w)) (c .before .before .before .before .before .before .before .before .before .before .before .before .before .loop .w) (c .before .before .before .before .before .before .before .before .gain .last .0) (c .before .before .before .before .before .before .before .before .before .before .before .before .before .loop .at) (c .before .before .before .before .before .before .before .before .before .before .before .before .before .loop .sum) (c .before .before .before .before .before .before .before .before .before .before .child .result) (c .before .before .before .before .before .before .before .before .gain .result) _ (c .before .later .result) (c .before .before .before .before .before .before .before .before .before .before .before .before .before .loop .inv .0) (c .before .before .before .before .before .before .before .before .before .before .before .before .loop-test .taken) (c .before .before .before .before .before .before .before .before .before .before .child .ensures) (c .before .before .before .before .before .before .before .before .gain .ensures) (c .before .before .before .before .reached .ensures) (c .before .later .ensures ∙ ap laterOf (c .before .before .word2 .ensures)) (c .if1 .taken)
+
+total-loop-less : (t : ℕ) → total-lts.Need-loop-less (
+  word-reads.Asked,
+  word-reads.Learnt,
+  child-reads.Asked,
+  child-reads.Learnt,
+  gain-below t,
+  gain.Post,
+  reached-reads.Asked,
+  reached-reads.Learnt,
+  later-reads.Asked,
+  later-reads.Learnt,
+) (total-at t) total.Post total-Inv-loop total-μ-loop
+total-loop-less t c = omega (arith, c .if1 .left, c .before .before .before .before .before .before .before .before .before .before .before .before .before .loop .inv .1)
+
+total-loop-again : (t : ℕ) → total-lts.Need-loop-again (
+  word-reads.Asked,
+  word-reads.Learnt,
+  child-reads.Asked,
+  child-reads.Learnt,
+  gain-below t,
+  gain.Post,
+  reached-reads.Asked,
+  reached-reads.Learnt,
+  later-reads.Asked,
+  later-reads.Learnt,
+) (total-at t) total.Post total-Inv-loop total-μ-loop
+total-loop-again t c = (choosing.summed-more (now (c .before .before .before .before .before .before .before .before .before .before .before .before .before .before .before .before .before .before .args .profile)) (c .before .before .before .before .before .before .before .before .before .before .before .before .before .before .before .before .before .before .args .seat) (c .before .before .before .before .before .before .before .before .before .before .before .before .before .before .before .before .before .before .args .depth) (c .before .before .before .before .before .before .before .before .before .before .before .before .before .before .before .before .before .before .args .heads) (c .before .before .before .before .before .before .before .before .before .before .before .before .before .before .before .before .before .before .args .reach) (c .before .before .before .before .before .before .before .before .before .before .before .before .before .before .before .before .before .before .args .kept) (c .before .before .before .before .before .before .before .before .before .before .before .before .before .before .before .before .before .before .args .first) (c .before .before .before .before .before .before .before .before .before .before .before .before .before .before .before .before .before .before .args .action) (now (c .before .before .before .before .before .before .before .before .before .before .before .before .before .before .before .before .before .before .args .w)) (c .before .before .before .before .before .before .before .before .before .before .before .before .before .loop .w) (c .before .before .before .before .before .before .before .before .gain .last .0) (c .before .before .before .before .before .before .before .before .before .before .before .before .before .loop .at) (c .before .before .before .before .before .before .before .before .before .before .before .before .before .loop .sum) (c .before .before .before .before .before .before .before .before .before .before .child .result) (c .before .before .before .before .before .before .before .before .gain .result) _ (c .before .later .result) (c .before .before .before .before .before .before .before .before .before .before .before .before .before .loop .inv .0) (c .before .before .before .before .before .before .before .before .before .before .before .before .loop-test .taken) (c .before .before .before .before .before .before .before .before .before .before .child .ensures) (c .before .before .before .before .before .before .before .before .gain .ensures) (c .before .before .before .before .reached .ensures) (c .before .later .ensures ∙ ap laterOf (c .before .before .word2 .ensures)), omega (arith, c .before .later .ensures), omega (arith, c .before .before .before .before .before .before .before .before .gain .kept .0, c .before .before .before .before .before .before .before .before .before .before .before .before .before .loop .inv .2))
+
+total-same-length-2 : (t : ℕ) → total-lts.Need-same-length-2 (
+  word-reads.Asked,
+  word-reads.Learnt,
+  child-reads.Asked,
+  child-reads.Learnt,
+  gain-below t,
+  gain.Post,
+  reached-reads.Asked,
+  reached-reads.Learnt,
+  later-reads.Asked,
+  later-reads.Learnt,
+) (total-at t) total.Post total-Inv-loop total-μ-loop
+total-same-length-2 t c = search needs
+
+total-returns-2 : (t : ℕ) → total-lts.Need-returns-2 (
+  word-reads.Asked,
+  word-reads.Learnt,
+  child-reads.Asked,
+  child-reads.Learnt,
+  gain-below t,
+  gain.Post,
+  reached-reads.Asked,
+  reached-reads.Learnt,
+  later-reads.Asked,
+  later-reads.Learnt,
+) (total-at t) total.Post total-Inv-loop total-μ-loop
+total-returns-2 t c = choosing.summed-end (now (c .before .before .before .before .before .before .args .profile)) (c .before .before .before .before .before .before .args .seat) (c .before .before .before .before .before .before .args .depth) (c .before .before .before .before .before .before .args .heads) (c .before .before .before .before .before .before .args .reach) (c .before .before .before .before .before .before .args .kept) (c .before .before .before .before .before .before .args .first) (c .before .before .before .before .before .before .args .action) (now (c .before .before .before .before .before .before .args .w)) (c .before .loop .w) (c .before .loop .at) (c .before .loop .sum) (c .before .loop .inv .0) (λ l. omega (arith, l, c .loop-test .left))
+
+value-returns : (t : ℕ) → value-lts.Need-returns (
+  word-reads.Asked,
+  word-reads.Learnt,
+  kind-reads.Asked,
+  kind-reads.Learnt,
+  next-reads.Asked,
+  next-reads.Learnt,
+  dealt-below t,
+  dealt.Post,
+  actor-reads.Asked,
+  actor-reads.Learnt,
+  own-below t,
+  own.Post,
+  split-below t,
+  split.Post,
+) (value-at t) value.Post
+value-returns t c = valuing.value-none (now (c .before .before .before .args .profile)) (c .before .before .before .args .seat) (c .before .before .before .args .depth) (c .before .before .before .args .heads) (c .before .before .before .args .reach) (c .before .before .before .args .kept) (c .before .before .before .args .a) (now (c .before .before .before .args .w)) _ (c .if1 .taken)
+
+value-word-requires : (t : ℕ) → value-lts.Need-word-requires (
+  word-reads.Asked,
+  word-reads.Learnt,
+  kind-reads.Asked,
+  kind-reads.Learnt,
+  next-reads.Asked,
+  next-reads.Learnt,
+  dealt-below t,
+  dealt.Post,
+  actor-reads.Asked,
+  actor-reads.Learnt,
+  own-below t,
+  own.Post,
+  split-below t,
+  split.Post,
+) (value-at t) value.Post
+value-word-requires t c κs = search needs
+
+value-kind-requires : (t : ℕ) → value-lts.Need-kind-requires (
+  word-reads.Asked,
+  word-reads.Learnt,
+  kind-reads.Asked,
+  kind-reads.Learnt,
+  next-reads.Asked,
+  next-reads.Learnt,
+  dealt-below t,
+  dealt.Post,
+  actor-reads.Asked,
+  actor-reads.Learnt,
+  own-below t,
+  own.Post,
+  split-below t,
+  split.Post,
+) (value-at t) value.Post
+value-kind-requires t c κs = search needs
+
+value-same-length : (t : ℕ) → value-lts.Need-same-length (
+  word-reads.Asked,
+  word-reads.Learnt,
+  kind-reads.Asked,
+  kind-reads.Learnt,
+  next-reads.Asked,
+  next-reads.Learnt,
+  dealt-below t,
+  dealt.Post,
+  actor-reads.Asked,
+  actor-reads.Learnt,
+  own-below t,
+  own.Post,
+  split-below t,
+  split.Post,
+) (value-at t) value.Post
+value-same-length t c = search needs
+
+value-returns-2 : (t : ℕ) → value-lts.Need-returns-2 (
+  word-reads.Asked,
+  word-reads.Learnt,
+  kind-reads.Asked,
+  kind-reads.Learnt,
+  next-reads.Asked,
+  next-reads.Learnt,
+  dealt-below t,
+  dealt.Post,
+  actor-reads.Asked,
+  actor-reads.Learnt,
+  own-below t,
+  own.Post,
+  split-below t,
+  split.Post,
+) (value-at t) value.Post
+value-returns-2 t c = valuing.value-end (now (c .before .before .before .before .before .before .before .args .profile)) (c .before .before .before .before .before .before .before .args .seat) (c .before .before .before .before .before .before .before .args .depth) (c .before .before .before .before .before .before .before .args .heads) (c .before .before .before .before .before .before .before .args .reach) (c .before .before .before .before .before .before .before .args .kept) (c .before .before .before .before .before .before .before .args .a) (now (c .before .before .before .before .before .before .before .args .w)) (c .before .before .word .result) (c .before .before .word .ensures) (sym (c .before .kind .ensures) ∙ c .if2 .taken)
+
+value-add-dealt : (t : ℕ) → value-lts.Need-add-dealt (
+  word-reads.Asked,
+  word-reads.Learnt,
+  kind-reads.Asked,
+  kind-reads.Learnt,
+  next-reads.Asked,
+  next-reads.Learnt,
+  dealt-below t,
+  dealt.Post,
+  actor-reads.Asked,
+  actor-reads.Learnt,
+  own-below t,
+  own.Post,
+  split-below t,
+  split.Post,
+) (value-at t) value.Post
+value-add-dealt t c = record { fits = omega (arith, c .before .before .before .before .before .before .before .before .before .pre .1 .place) }
+
+value-next-requires : (t : ℕ) → value-lts.Need-next-requires (
+  word-reads.Asked,
+  word-reads.Learnt,
+  kind-reads.Asked,
+  kind-reads.Learnt,
+  next-reads.Asked,
+  next-reads.Learnt,
+  dealt-below t,
+  dealt.Post,
+  actor-reads.Asked,
+  actor-reads.Learnt,
+  own-below t,
+  own.Post,
+  split-below t,
+  split.Post,
+) (value-at t) value.Post
+value-next-requires t c κs = search needs
+
+value-sub-dealt : (t : ℕ) → value-lts.Need-sub-dealt (
+  word-reads.Asked,
+  word-reads.Learnt,
+  kind-reads.Asked,
+  kind-reads.Learnt,
+  next-reads.Asked,
+  next-reads.Learnt,
+  dealt-below t,
+  dealt.Post,
+  actor-reads.Asked,
+  actor-reads.Learnt,
+  own-below t,
+  own.Post,
+  split-below t,
+  split.Post,
+) (value-at t) value.Post
+value-sub-dealt t c = omega (arith, c .before .before .before .before .before .before .before .if1 .left)
+
+value-dealt-requires : (t : ℕ) → value-lts.Need-dealt-requires (
+  word-reads.Asked,
+  word-reads.Learnt,
+  kind-reads.Asked,
+  kind-reads.Learnt,
+  next-reads.Asked,
+  next-reads.Learnt,
+  dealt-below t,
+  dealt.Post,
+  actor-reads.Asked,
+  actor-reads.Learnt,
+  own-below t,
+  own.Post,
+  split-below t,
+  split.Post,
+) (value-at t) value.Post
+value-dealt-requires t c κs = (omega (arith, c .before .before .before .before .before .before .before .before .before .before .pre .0, c .before .before .before .before .before .before .before .if1 .left), valuing.walk-at (c .before .before .before .before .before .before .before .before .before .before .args .a) (c .before .before .before .before .before .before .before .before .before .before .args .seat) (c .before .before .before .before .before .before .before .before .before .before .args .depth) (c .before .before .before .before .before .before .before .before .before .before .args .heads) (c .before .before .before .before .before .before .before .before .before .before .args .reach) (c .before .before .before .before .before .before .before .before .before .before .args .kept) (c .before .before .before .before .before .before .before .before .before .before .pre .1) (c .before .before .before .before .before .before .before .before .before .before .args .a + 1) (c .before .before .before .before .before .before .before .before .before .before .args .depth - 1) (omega arith) (omega (arith, c .before .before .before .before .before .before .before .before .before .before .pre .1 .place, c .before .before .before .before .before .before .before .if1 .left)))
+
+value-same-length-2 : (t : ℕ) → value-lts.Need-same-length-2 (
+  word-reads.Asked,
+  word-reads.Learnt,
+  kind-reads.Asked,
+  kind-reads.Learnt,
+  next-reads.Asked,
+  next-reads.Learnt,
+  dealt-below t,
+  dealt.Post,
+  actor-reads.Asked,
+  actor-reads.Learnt,
+  own-below t,
+  own.Post,
+  split-below t,
+  split.Post,
+) (value-at t) value.Post
+value-same-length-2 t c = search needs
+
+value-returns-3 : (t : ℕ) → value-lts.Need-returns-3 (
+  word-reads.Asked,
+  word-reads.Learnt,
+  kind-reads.Asked,
+  kind-reads.Learnt,
+  next-reads.Asked,
+  next-reads.Learnt,
+  dealt-below t,
+  dealt.Post,
+  actor-reads.Asked,
+  actor-reads.Learnt,
+  own-below t,
+  own.Post,
+  split-below t,
+  split.Post,
+) (value-at t) value.Post
+value-returns-3 t c = valuing.value-chance (now (c .before .before .before .before .before .before .before .before .before .before .before .before .before .args .profile)) (c .before .before .before .before .before .before .before .before .before .before .before .before .before .args .seat) (c .before .before .before .before .before .before .before .before .before .before .before .before .before .args .depth) (c .before .before .before .before .before .before .before .before .before .before .before .before .before .args .heads) (c .before .before .before .before .before .before .before .before .before .before .before .before .before .args .reach) (c .before .before .before .before .before .before .before .before .before .before .before .before .before .args .kept) (c .before .before .before .before .before .before .before .before .before .before .before .before .before .args .a) (now (c .before .before .before .before .before .before .before .before .before .before .before .before .before .args .w)) (c .before .before .before .before .before .before .before .before .word .result) (c .before .before .before .before .before .before .before .before .word .ensures) (c .before .before .dealt .last .0) (c .before .before .dealt .result) (sym (c .before .before .before .before .before .before .before .kind .ensures) ∙ c .before .before .before .before .before .if3 .taken) (subst (λ z. Dealt (now (c .before .before .before .before .before .before .before .before .before .before .before .before .before .args .profile)) (c .before .before .before .before .before .before .before .before .before .before .before .before .before .args .seat) (c .before .before .before .before .before .before .before .before .before .before .before .before .before .args .depth - 1) (c .before .before .before .before .before .before .before .before .before .before .before .before .before .args .heads) (c .before .before .before .before .before .before .before .before .before .before .before .before .before .args .reach) (c .before .before .before .before .before .before .before .before .before .before .before .before .before .args .kept) (c .before .before .before .before .before .before .before .before .before .before .before .before .before .args .a + 1) z (now (c .before .before .before .before .before .before .before .before .before .before .before .before .before .args .w)) (c .before .before .dealt .last .0) (c .before .before .dealt .result)) (c .before .before .before .next .ensures) (c .before .before .dealt .ensures))
+
+value-actor-requires : (t : ℕ) → value-lts.Need-actor-requires (
+  word-reads.Asked,
+  word-reads.Learnt,
+  kind-reads.Asked,
+  kind-reads.Learnt,
+  next-reads.Asked,
+  next-reads.Learnt,
+  dealt-below t,
+  dealt.Post,
+  actor-reads.Asked,
+  actor-reads.Learnt,
+  own-below t,
+  own.Post,
+  split-below t,
+  split.Post,
+) (value-at t) value.Post
+value-actor-requires t c κs = search needs
+
+value-sub-own : (t : ℕ) → value-lts.Need-sub-own (
+  word-reads.Asked,
+  word-reads.Learnt,
+  kind-reads.Asked,
+  kind-reads.Learnt,
+  next-reads.Asked,
+  next-reads.Learnt,
+  dealt-below t,
+  dealt.Post,
+  actor-reads.Asked,
+  actor-reads.Learnt,
+  own-below t,
+  own.Post,
+  split-below t,
+  split.Post,
+) (value-at t) value.Post
+value-sub-own t c = omega (arith, c .before .before .before .before .before .before .before .before .if1 .left)
+
+value-own-requires : (t : ℕ) → value-lts.Need-own-requires (
+  word-reads.Asked,
+  word-reads.Learnt,
+  kind-reads.Asked,
+  kind-reads.Learnt,
+  next-reads.Asked,
+  next-reads.Learnt,
+  dealt-below t,
+  dealt.Post,
+  actor-reads.Asked,
+  actor-reads.Learnt,
+  own-below t,
+  own.Post,
+  split-below t,
+  split.Post,
+) (value-at t) value.Post
+value-own-requires t c κs = (omega (arith, c .before .before .before .before .before .before .before .before .before .before .before .pre .0, c .before .before .before .before .before .before .before .before .if1 .left), valuing.walk-at (c .before .before .before .before .before .before .before .before .before .before .before .args .a) (c .before .before .before .before .before .before .before .before .before .before .before .args .seat) (c .before .before .before .before .before .before .before .before .before .before .before .args .depth) (c .before .before .before .before .before .before .before .before .before .before .before .args .heads) (c .before .before .before .before .before .before .before .before .before .before .before .args .reach) (c .before .before .before .before .before .before .before .before .before .before .before .args .kept) (c .before .before .before .before .before .before .before .before .before .before .before .pre .1) (c .before .before .before .before .before .before .before .before .before .before .before .args .a + 1) (c .before .before .before .before .before .before .before .before .before .before .before .args .depth - 1) (omega arith) (omega (arith, c .before .before .before .before .before .before .before .before .before .before .before .pre .1 .place, c .before .before .before .before .before .before .before .before .if1 .left)))
+
+value-same-length-3 : (t : ℕ) → value-lts.Need-same-length-3 (
+  word-reads.Asked,
+  word-reads.Learnt,
+  kind-reads.Asked,
+  kind-reads.Learnt,
+  next-reads.Asked,
+  next-reads.Learnt,
+  dealt-below t,
+  dealt.Post,
+  actor-reads.Asked,
+  actor-reads.Learnt,
+  own-below t,
+  own.Post,
+  split-below t,
+  split.Post,
+) (value-at t) value.Post
+value-same-length-3 t c = search needs
+
+value-returns-4 : (t : ℕ) → value-lts.Need-returns-4 (
+  word-reads.Asked,
+  word-reads.Learnt,
+  kind-reads.Asked,
+  kind-reads.Learnt,
+  next-reads.Asked,
+  next-reads.Learnt,
+  dealt-below t,
+  dealt.Post,
+  actor-reads.Asked,
+  actor-reads.Learnt,
+  own-below t,
+  own.Post,
+  split-below t,
+  split.Post,
+) (value-at t) value.Post
+value-returns-4 t c = valuing.value-own (now (c .before .before .before .before .before .before .before .before .before .before .before .before .before .before .args .profile)) (c .before .before .before .before .before .before .before .before .before .before .before .before .before .before .args .seat) (c .before .before .before .before .before .before .before .before .before .before .before .before .before .before .args .depth) (c .before .before .before .before .before .before .before .before .before .before .before .before .before .before .args .heads) (c .before .before .before .before .before .before .before .before .before .before .before .before .before .before .args .reach) (c .before .before .before .before .before .before .before .before .before .before .before .before .before .before .args .kept) (c .before .before .before .before .before .before .before .before .before .before .before .before .before .before .args .a) (now (c .before .before .before .before .before .before .before .before .before .before .before .before .before .before .args .w)) (c .before .before .before .before .before .before .before .before .before .word .result) (c .before .before .before .before .before .before .before .before .before .word .ensures) (c .before .before .own .last .0) (c .before .before .own .result) (λ q. c .before .before .before .before .before .before .before .if2 .left (c .before .before .before .before .before .before .before .before .kind .ensures ∙ q)) (λ q. c .before .before .before .before .before .before .if3 .left (c .before .before .before .before .before .before .before .before .kind .ensures ∙ q)) (sym (c .before .before .before .before .before .actor .ensures) ∙ c .before .before .before .before .if4 .taken) (c .before .before .own .ensures)
+
+value-add-split : (t : ℕ) → value-lts.Need-add-split (
+  word-reads.Asked,
+  word-reads.Learnt,
+  kind-reads.Asked,
+  kind-reads.Learnt,
+  next-reads.Asked,
+  next-reads.Learnt,
+  dealt-below t,
+  dealt.Post,
+  actor-reads.Asked,
+  actor-reads.Learnt,
+  own-below t,
+  own.Post,
+  split-below t,
+  split.Post,
+) (value-at t) value.Post
+value-add-split t c = record { fits = omega (arith, c .before .before .before .before .before .before .before .before .before .before .before .pre .1 .place) }
+
+value-sub-split : (t : ℕ) → value-lts.Need-sub-split (
+  word-reads.Asked,
+  word-reads.Learnt,
+  kind-reads.Asked,
+  kind-reads.Learnt,
+  next-reads.Asked,
+  next-reads.Learnt,
+  dealt-below t,
+  dealt.Post,
+  actor-reads.Asked,
+  actor-reads.Learnt,
+  own-below t,
+  own.Post,
+  split-below t,
+  split.Post,
+) (value-at t) value.Post
+value-sub-split t c = omega (arith, c .before .before .before .before .before .before .before .before .if1 .left)
+
+value-split-requires : (t : ℕ) → value-lts.Need-split-requires (
+  word-reads.Asked,
+  word-reads.Learnt,
+  kind-reads.Asked,
+  kind-reads.Learnt,
+  next-reads.Asked,
+  next-reads.Learnt,
+  dealt-below t,
+  dealt.Post,
+  actor-reads.Asked,
+  actor-reads.Learnt,
+  own-below t,
+  own.Post,
+  split-below t,
+  split.Post,
+) (value-at t) value.Post
+value-split-requires t c κs = (omega (arith, c .before .before .before .before .before .before .before .before .before .before .before .pre .0, c .before .before .before .before .before .before .before .before .if1 .left), valuing.walk-at (c .before .before .before .before .before .before .before .before .before .before .before .args .a) (c .before .before .before .before .before .before .before .before .before .before .before .args .seat) (c .before .before .before .before .before .before .before .before .before .before .before .args .depth) (c .before .before .before .before .before .before .before .before .before .before .before .args .heads) (c .before .before .before .before .before .before .before .before .before .before .before .args .reach) (c .before .before .before .before .before .before .before .before .before .before .before .args .kept) (c .before .before .before .before .before .before .before .before .before .before .before .pre .1) (c .before .before .before .before .before .before .before .before .before .before .before .args .a + 1) (c .before .before .before .before .before .before .before .before .before .before .before .args .depth - 1) (omega arith) (omega (arith, c .before .before .before .before .before .before .before .before .before .before .before .pre .1 .place, c .before .before .before .before .before .before .before .before .if1 .left)))
+
+value-same-length-4 : (t : ℕ) → value-lts.Need-same-length-4 (
+  word-reads.Asked,
+  word-reads.Learnt,
+  kind-reads.Asked,
+  kind-reads.Learnt,
+  next-reads.Asked,
+  next-reads.Learnt,
+  dealt-below t,
+  dealt.Post,
+  actor-reads.Asked,
+  actor-reads.Learnt,
+  own-below t,
+  own.Post,
+  split-below t,
+  split.Post,
+) (value-at t) value.Post
+value-same-length-4 t c = search needs
+
+value-returns-5 : (t : ℕ) → value-lts.Need-returns-5 (
+  word-reads.Asked,
+  word-reads.Learnt,
+  kind-reads.Asked,
+  kind-reads.Learnt,
+  next-reads.Asked,
+  next-reads.Learnt,
+  dealt-below t,
+  dealt.Post,
+  actor-reads.Asked,
+  actor-reads.Learnt,
+  own-below t,
+  own.Post,
+  split-below t,
+  split.Post,
+) (value-at t) value.Post
+value-returns-5 t c = valuing.value-other (now (c .before .before .before .before .before .before .before .before .before .before .before .before .before .before .args .profile)) (c .before .before .before .before .before .before .before .before .before .before .before .before .before .before .args .seat) (c .before .before .before .before .before .before .before .before .before .before .before .before .before .before .args .depth) (c .before .before .before .before .before .before .before .before .before .before .before .before .before .before .args .heads) (c .before .before .before .before .before .before .before .before .before .before .before .before .before .before .args .reach) (c .before .before .before .before .before .before .before .before .before .before .before .before .before .before .args .kept) (c .before .before .before .before .before .before .before .before .before .before .before .before .before .before .args .a) (now (c .before .before .before .before .before .before .before .before .before .before .before .before .before .before .args .w)) (c .before .before .before .before .before .before .before .before .before .word .result) (c .before .before .before .before .before .before .before .before .before .word .ensures) (c .before .before .split .last .0) (c .before .before .split .result) (λ q. c .before .before .before .before .before .before .before .if2 .left (c .before .before .before .before .before .before .before .before .kind .ensures ∙ q)) (λ q. c .before .before .before .before .before .before .if3 .left (c .before .before .before .before .before .before .before .before .kind .ensures ∙ q)) (λ q. c .before .before .before .before .if4 .left (c .before .before .before .before .before .actor .ensures ∙ q)) (c .before .before .split .ensures)
+
+pub +choose+dealt+gain+own+split+total+value-spec : {M : Type 1} → statement M
++choose+dealt+gain+own+split+total+value-spec =
+    close μ-choose μ-dealt μ-gain μ-own μ-split μ-total μ-value (λ t. choose-lts.spec (
+      word-reads.Asked,
+      word-reads.Learnt,
+      start-reads.Asked,
+      start-reads.Learnt,
+      total-below t,
+      total.Post,
+      past-reads.Asked,
+      past-reads.Learnt,
+      put-reads.Asked,
+      put-reads.Learnt,
+    )
+    (choose-at t)
+    choose.Post
+    choose-Inv-loop
+    choose-μ-loop
+    (choose-add-word t)
+    (choose-word-requires t)
+    (choose-sub-result t)
+    (choose-same-length t)
+    (choose-returns t)
+    (choose-start-requires t)
+    (choose-loop-holds t)
+    (choose-total-requires t)
+    (choose-past-requires t)
+    (choose-add-action t)
+    (choose-loop-less t)
+    (choose-loop-again t)
+    (choose-add-put t)
+    (choose-add-put-2 t)
+    (choose-put-requires t)
+    (choose-same-length-2 t)
+    (choose-returns-2 t))
+    (λ t. dealt-lts.spec (
+      fan-reads.Asked,
+      fan-reads.Learnt,
+      weight-reads.Asked,
+      weight-reads.Learnt,
+      gain-below t,
+      gain.Post,
+      behind-reads.Asked,
+      behind-reads.Learnt,
+    )
+    (dealt-at t)
+    dealt.Post
+    dealt-Inv-loop
+    dealt-μ-loop
+    (dealt-fan-requires t)
+    (dealt-weight-requires t)
+    (dealt-loop-holds t)
+    (dealt-gain-requires t)
+    (dealt-behind-requires t)
+    (dealt-same-length t)
+    (dealt-returns t)
+    (dealt-loop-less t)
+    (dealt-loop-again t)
+    (dealt-same-length-2 t)
+    (dealt-returns-2 t))
+    (λ t. gain-lts.spec (
+      word-reads.Asked,
+      word-reads.Learnt,
+      kind-reads.Asked,
+      kind-reads.Learnt,
+      payoff-of-reads.Asked,
+      payoff-of-reads.Learnt,
+      value-below t,
+      value.Post,
+    )
+    (gain-at t)
+    gain.Post
+    (gain-word-requires t)
+    (gain-kind-requires t)
+    (gain-payoff-of-requires t)
+    (gain-same-length t)
+    (gain-returns t)
+    (gain-value-requires t)
+    (gain-same-length-2 t)
+    (gain-returns-2 t))
+    (λ t. own-lts.spec (
+      set-reads.Asked,
+      set-reads.Learnt,
+      actions-reads.Asked,
+      actions-reads.Learnt,
+      choose-below t,
+      choose.Post,
+      child-reads.Asked,
+      child-reads.Learnt,
+      gain-below t,
+      gain.Post,
+    )
+    (own-at t)
+    own.Post
+    (own-set-requires t)
+    (own-actions-requires t)
+    (own-choose-requires t)
+    (own-child-requires t)
+    (own-gain-requires t)
+    (own-same-length t)
+    (own-returns t))
+    (λ t. split-lts.spec (
+      set-reads.Asked,
+      set-reads.Learnt,
+      actions-reads.Asked,
+      actions-reads.Learnt,
+      gain-below t,
+      gain.Post,
+      weighed-reads.Asked,
+      weighed-reads.Learnt,
+      behind-reads.Asked,
+      behind-reads.Learnt,
+    )
+    (split-at t)
+    split.Post
+    split-Inv-loop
+    split-μ-loop
+    (split-set-requires t)
+    (split-actions-requires t)
+    (split-add-end t)
+    (split-returns t)
+    (split-mul-part t)
+    (split-sub-part t)
+    (split-part-part-start t)
+    (split-part-part-end t)
+    (split-loop-holds t)
+    (split-gain-requires t)
+    (split-weighed-requires t)
+    (split-behind-requires t)
+    (split-add-action t)
+    (split-loop-less t)
+    (split-loop-again t)
+    (split-same-length t)
+    (split-returns-2 t))
+    (λ t. total-lts.spec (
+      word-reads.Asked,
+      word-reads.Learnt,
+      child-reads.Asked,
+      child-reads.Learnt,
+      gain-below t,
+      gain.Post,
+      reached-reads.Asked,
+      reached-reads.Learnt,
+      later-reads.Asked,
+      later-reads.Learnt,
+    )
+    (total-at t)
+    total.Post
+    total-Inv-loop
+    total-μ-loop
+    (total-add-word t)
+    (total-word-requires t)
+    (total-loop-holds t)
+    (total-child-requires t)
+    (total-gain-requires t)
+    (total-add-reached t)
+    (total-reached-requires t)
+    (total-word-requires-2 t)
+    (total-later-requires t)
+    (total-same-length t)
+    (total-returns t)
+    (total-loop-less t)
+    (total-loop-again t)
+    (total-same-length-2 t)
+    (total-returns-2 t))
+    λ t. value-lts.spec (
+      word-reads.Asked,
+      word-reads.Learnt,
+      kind-reads.Asked,
+      kind-reads.Learnt,
+      next-reads.Asked,
+      next-reads.Learnt,
+      dealt-below t,
+      dealt.Post,
+      actor-reads.Asked,
+      actor-reads.Learnt,
+      own-below t,
+      own.Post,
+      split-below t,
+      split.Post,
+    )
+    (value-at t)
+    value.Post
+    (value-returns t)
+    (value-word-requires t)
+    (value-kind-requires t)
+    (value-same-length t)
+    (value-returns-2 t)
+    (value-add-dealt t)
+    (value-next-requires t)
+    (value-sub-dealt t)
+    (value-dealt-requires t)
+    (value-same-length-2 t)
+    (value-returns-3 t)
+    (value-actor-requires t)
+    (value-sub-own t)
+    (value-own-requires t)
+    (value-same-length-3 t)
+    (value-returns-4 t)
+    (value-add-split t)
+    (value-sub-split t)
+    (value-split-requires t)
+    (value-same-length-4 t)
+    (value-returns-5 t)

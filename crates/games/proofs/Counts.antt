@@ -1,0 +1,126 @@
+-- The constant counts are those of the definitions. Assumes nothing.
+use mathlib.Core.Path.{_≡_, refl, sym, ap, _∙_}
+use mathlib.Core.Bool.{Bool, true, false, cond}
+use mathlib.Core.List.{List, [], _∷_}
+use Prim.Native.Nat.{ℕ, zero, suc, _+_, _*_, _≤_, _<_}
+use native.Mathlib.Nat as NatL
+use native.Mathlib.Omega.{arith}
+use lib.Dec.{ltb}
+use borrow.Author.Tests.{eq-eqb, ne-eqb, ltb-false}
+use lib.ListN.{length, getD, take, replicate, length-replicate, getD-replicate}
+use Rattle.prelude.specs.Finite.{or, places}
+use Rattle.prelude.proofs.Tests.{or-false-left, or-false-right}
+use Rattle.kuhn_tree.specs.Counts.{dealNodes, kuhnNodes, kuhnSets, kuhnEntries}
+use Rattle.leduc_tree.specs.Turns.{actionsInOrder}
+use Rattle.leduc_set_actions.proofs.Facts.{threes, actionsAt, in-words, actions-in-all}
+use Rattle.games.specs.Seats.{seats-out}
+use Rattle.games.specs.Facts.{nodesOf, setsOf, entriesOf}
+use Rattle.games.specs.Actions.{actionsOf}
+use Rattle.games.specs.Games.{isKuhn}
+use Rattle.games.specs.declared.Game.{Game}
+use Rattle.games.proofs.Totals.{total, total-same, total-more, total-most}
+
+-- what holds of each number from 2 to 10
+each-seats : (P : ℕ → Type 0) → P 2 → P 3 → P 4 → P 5 → P 6 → P 7 → P 8 → P 9 → P 10 → (n : ℕ) → 2 ≤ n → n ≤ 10 → P n
+each-seats P a b c d e f g h i zero u v = absurd (omega arith)
+each-seats P a b c d e f g h i (suc zero) u v = absurd (omega arith)
+each-seats P a b c d e f g h i (suc (suc zero)) u v = a
+each-seats P a b c d e f g h i (suc (suc (suc zero))) u v = b
+each-seats P a b c d e f g h i (suc (suc (suc (suc zero)))) u v = c
+each-seats P a b c d e f g h i (suc (suc (suc (suc (suc zero))))) u v = d
+each-seats P a b c d e f g h i (suc (suc (suc (suc (suc (suc zero)))))) u v = e
+each-seats P a b c d e f g h i (suc (suc (suc (suc (suc (suc (suc zero))))))) u v = f
+each-seats P a b c d e f g h i (suc (suc (suc (suc (suc (suc (suc (suc zero)))))))) u v = g
+each-seats P a b c d e f g h i (suc (suc (suc (suc (suc (suc (suc (suc (suc zero))))))))) u v = h
+each-seats P a b c d e f g h i (suc (suc (suc (suc (suc (suc (suc (suc (suc (suc zero)))))))))) u v = i
+each-seats P a b c d e f g h i (suc (suc (suc (suc (suc (suc (suc (suc (suc (suc (suc n))))))))))) u v = absurd (omega arith)
+
+abbrev pub nodes-table : List ℕ
+nodes-table = 0 ∷ 0 ∷ 58 ∷ 617 ∷ 7886 ∷ 116437 ∷ 1944020 ∷ 36196001 ∷ 743801770 ∷ 16727745701 ∷ 408816620312 ∷ []
+
+abbrev pub sets-table : List ℕ
+sets-table = 0 ∷ 0 ∷ 12 ∷ 48 ∷ 160 ∷ 480 ∷ 1344 ∷ 3584 ∷ 9216 ∷ 23040 ∷ 56320 ∷ []
+
+pub nodes-right : (n : ℕ) → 2 ≤ n → n ≤ 10 → getD nodes-table n 0 ≡ kuhnNodes n
+unfolding dealNodes
+nodes-right = each-seats (λ n. getD nodes-table n 0 ≡ kuhnNodes n) refl refl refl refl refl refl refl refl refl
+
+pub sets-right : (n : ℕ) → 2 ≤ n → n ≤ 10 → getD sets-table n 0 ≡ kuhnSets n
+sets-right = each-seats (λ n. getD sets-table n 0 ≡ kuhnSets n) refl refl refl refl refl refl refl refl refl
+
+-- the seats of Kuhn, once number 2 is settled
+module _ (g : Game) (k : g .number ≡ 0) where
+  seats-kuhn : seats-out g ≡ false → or (ltb (g .seats) 2) (ltb 10 (g .seats)) ≡ false
+  seats-kuhn e = rw (eq-eqb (g .number) 0 k) at e
+
+  pub kuhn-least : seats-out g ≡ false → 2 ≤ g .seats
+  kuhn-least e = ltb-false (g .seats) 2 (or-false-left (ltb (g .seats) 2) (ltb 10 (g .seats)) (seats-kuhn e))
+
+  pub kuhn-most : seats-out g ≡ false → g .seats ≤ 10
+  kuhn-most e = ltb-false 10 (g .seats) (or-false-right (ltb (g .seats) 2) (ltb 10 (g .seats)) (seats-kuhn e))
+
+  pub kuhn-nodes : seats-out g ≡ false → getD nodes-table (g .seats) 0 ≡ nodesOf g
+  kuhn-nodes e = nodes-right (g .seats) (kuhn-least e) (kuhn-most e) ∙ ap (λ t. cond t (kuhnNodes (g .seats)) 9457) (sym (eq-eqb (g .number) 0 k))
+
+  pub kuhn-sets : seats-out g ≡ false → getD sets-table (g .seats) 0 ≡ setsOf g
+  kuhn-sets e = sets-right (g .seats) (kuhn-least e) (kuhn-most e) ∙ ap (λ t. cond t (kuhnSets (g .seats)) 936) (sym (eq-eqb (g .number) 0 k))
+
+  pub kuhn-entries : 2 * setsOf g ≡ entriesOf g
+  kuhn-entries = ap (λ t. 2 * cond t (kuhnSets (g .seats)) 936) (eq-eqb (g .number) 0 k) ∙ NatL.mul-comm 2 (kuhnSets (g .seats)) ∙ ap (λ t. cond t (kuhnEntries (g .seats)) 2184) (sym (eq-eqb (g .number) 0 k))
+
+  pub sets-at-most : seats-out g ≡ false → setsOf g ≤ 56320
+  sets-at-most e = rw (← (kuhn-sets e)) (each-seats (λ n. getD sets-table n 0 ≤ 56320) (omega arith) (omega arith) (omega arith) (omega arith) (omega arith) (omega arith) (omega arith) (omega arith) (omega arith) (g .seats) (kuhn-least e) (kuhn-most e))
+
+  pub kuhn-actions : (x : ℕ) → x < setsOf g → 2 ≡ getD (actionsOf g) x 0
+  unfolding actionsOf
+  kuhn-actions x w = sym (getD-replicate (kuhnSets (g .seats)) x 2 0 (rw (eq-eqb (g .number) 0 k) at w)) ∙ ap (λ t. getD (cond t (replicate (kuhnSets (g .seats)) 2) actionsInOrder) x 0) (sym (eq-eqb (g .number) 0 k))
+
+module _ (g : Game) (k : g .number ≡ 0 → ⊥) where
+  pub leduc-nodes : 9457 ≡ nodesOf g
+  leduc-nodes = ap (λ t. cond t (kuhnNodes (g .seats)) 9457) (sym (ne-eqb (g .number) 0 k))
+
+  pub leduc-entries : 2184 ≡ entriesOf g
+  leduc-entries = ap (λ t. cond t (kuhnEntries (g .seats)) 2184) (sym (ne-eqb (g .number) 0 k))
+
+  pub leduc-sets : 936 ≡ setsOf g
+  leduc-sets = ap (λ t. cond t (kuhnSets (g .seats)) 936) (sym (ne-eqb (g .number) 0 k))
+
+  pub leduc-actions : (x : ℕ) → getD actionsInOrder x 0 ≡ getD (actionsOf g) x 0
+  unfolding actionsOf
+  leduc-actions x = ap (λ t. getD (cond t (replicate (kuhnSets (g .seats)) 2) actionsInOrder) x 0) (sym (ne-eqb (g .number) 0 k))
+
+-- ---- the actions of all sets
+
+words-total : total (places 936 actionsAt) ≡ 2184
+unfolding total actionsAt threes places
+words-total = refl
+
+leduc-total : total actionsInOrder ≡ 2184
+leduc-total = ap total in-words ∙ words-total
+
+pub actions-counted : (g : Game) → length (actionsOf g) ≡ setsOf g
+unfolding actionsOf
+actions-counted g = at (isKuhn g)
+  where
+    at : (b : Bool) → length (cond b (replicate (kuhnSets (g .seats)) 2) actionsInOrder) ≡ cond b (kuhnSets (g .seats)) 936
+    at true = length-replicate (kuhnSets (g .seats)) 2
+    at false = actions-in-all
+
+pub actions-total : (g : Game) → total (actionsOf g) ≡ entriesOf g
+unfolding actionsOf
+actions-total g = at (isKuhn g)
+  where
+    at : (b : Bool) → total (cond b (replicate (kuhnSets (g .seats)) 2) actionsInOrder) ≡ cond b (kuhnEntries (g .seats)) 2184
+    at true = total-same (kuhnSets (g .seats)) 2
+    at false = leduc-total
+
+pub in-actions : (g : Game) (i : ℕ) → i < setsOf g → i < length (actionsOf g)
+in-actions g i w = rw (actions-counted g) w
+
+-- there is room for each set's part
+pub part-room : (g : Game) (table : List ℕ) (i : ℕ) → length table ≡ entriesOf g → i < setsOf g → total (take i (actionsOf g)) + getD (actionsOf g) i 0 ≤ length table
+part-room g table i e w =
+    let t = total-more (actionsOf g) i (rw (actions-counted g) w) in
+    let u = total-most (actionsOf g) (i + 1) in
+    let v = actions-total g in
+    omega arith

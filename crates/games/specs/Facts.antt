@@ -1,0 +1,60 @@
+-- What holds of the games by number, proved in proofs/Facts.antt: their counts as numbers that a program can hold, and what the reply theorem asks of their trees.
+use mathlib.Core.Path.{_≡_}
+use mathlib.Core.Bool.{false, cond}
+use Prim.Native.Nat.{ℕ, _≤_, _<_}
+use Rattle.game_tree.specs.Tree.{Tree, U, Splits, Pays}
+use Rattle.game_tree.specs.Recall.{PerfectRecall}
+use Rattle.game_tree.specs.Sets.{setActions, Sized, SameActions}
+use Rattle.game_tree.specs.Table.{Table, ValidTable, tableBest, replyTable, BestReply}
+use Rattle.kuhn_tree.specs.Counts.{kuhnNodes, kuhnSets, kuhnEntries}
+use Rattle.games.specs.Games.{isKuhn, treeOf, C, m, largestPayoff}
+use Rattle.games.specs.Seats.{seats-out}
+use Rattle.games.specs.Actions.{actionsOf}
+use Rattle.games.specs.declared.Game.{Game}
+
+-- the counts by game
+abbrev pub nodesOf : Game → ℕ
+nodesOf g = cond (isKuhn g) (kuhnNodes (g .seats)) 9457
+
+abbrev pub setsOf : Game → ℕ
+setsOf g = cond (isKuhn g) (kuhnSets (g .seats)) 936
+
+abbrev pub entriesOf : Game → ℕ
+entriesOf g = cond (isKuhn g) (kuhnEntries (g .seats)) 2184
+
+-- every game that numbers 1 and 2 let through has so many nodes, sets and entries
+abbrev pub Counted : Type 0
+Counted = (g : Game) → seats-out g ≡ false → Sized (treeOf g) (nodesOf g) (setsOf g) (entriesOf g)
+
+-- and its sets, in order, these actions
+abbrev pub Actions-listed : Type 0
+Actions-listed = (g : Game) → seats-out g ≡ false → setActions (treeOf g) ≡ actionsOf g
+
+-- document 01's table of counts
+abbrev pub kuhn : ℕ → Game
+kuhn n = record { number = 0; seats = n }
+
+abbrev pub leduc : Game
+leduc = record { number = 1; seats = 2 }
+
+abbrev pub Table-of-counts : Type 0
+Table-of-counts = Sized (treeOf (kuhn 2)) 58 12 24 × Sized (treeOf (kuhn 3)) 617 48 96 × Sized (treeOf (kuhn 4)) 7886 160 320
+    × Sized (treeOf (kuhn 5)) 116437 480 960 × Sized (treeOf (kuhn 6)) 1944020 1344 2688 × Sized (treeOf leduc) 9457 936 2184
+
+-- what the reply theorem asks of a tree: fans that divide C, at most m decisions on a path, perfect recall, equally many actions at equal keys, bounded payoffs
+pub record Fit (g : Game) : Type 0 where
+  pub splits : Splits (C g) (m g) (treeOf g)
+  pub recall : (i : ℕ) → i < g .seats → PerfectRecall i (treeOf g)
+  pub actions : SameActions (treeOf g)
+  pub pays : (i : ℕ) → i < g .seats → Pays (largestPayoff g) i (treeOf g)
+
+abbrev pub Games-fit : Type 0
+Games-fit = (g : Game) → g .number ≤ 1 → seats-out g ≡ false → Fit g
+
+-- so the reply to a valid table is a rival table, its worth is the best value, and no rival table is worth more
+abbrev pub rootUnits : Game → ℕ → ℕ
+rootUnits g D = U (C g) D (m g)
+
+abbrev pub Reply-best : Type 0
+Reply-best = (g : Game) (D i : ℕ) (table : Table) → g .number ≤ 1 → seats-out g ≡ false → i < g .seats → 0 < D → ValidTable (treeOf g) D table
+    → BestReply (treeOf g) D (rootUnits g D) i table (tableBest (treeOf g) D (rootUnits g D) table i) (replyTable (treeOf g) D (rootUnits g D) table i)

@@ -1,0 +1,448 @@
+use Prim.Native.Nat.{ℕ, _<_}
+use borrow.Fn.Kinds.{In}
+use borrow.Fn.PlainCycle.{Measures, is, falls, and}
+use denote.Ref.{now}
+use native.Mathlib.Omega.{arith}
+use borrow.Author.Needs.{needs}
+use Rattle.kuhn_arena_layout.proofs.Numbers.{less-left, last-left}
+use Rattle.kuhn_arena_layout.proofs.Hands as hands
+use Rattle.kuhn_arena_bets.proofs.after_bet.Reads as after-bet
+use Rattle.kuhn_arena_bets.proofs.after_bet.Kinds as after-bet-kinds
+use Rattle.kuhn_arena_bets.proofs.+after_bet.Lts-after_bet as after-bet-lts
+use Rattle.arena.proofs.words.put.Reads as put-reads
+use Rattle.kuhn_arena_words.proofs.decision_word.Reads as decision-word-reads
+use Rattle.kuhn_arena_words.proofs.following.Reads as following-reads
+use Rattle.kuhn_arena_words.proofs.higher.Reads as higher-reads
+use Rattle.kuhn_arena_bets.proofs.last_action.Reads as last-action-reads
+use Rattle.kuhn_arena_words.proofs.unit.Reads as unit-reads
+use Rattle.kuhn_arena_bets.proofs.+after_bet.{statement}
+use Rattle.kuhn_arena_bets.proofs.+after_bet.Tie.{close}
+
+abbrev μ-after-bet : Measures 1 after-bet-kinds.ps ℕ
+μ-after-bet κs a = a .1 .1 .1 .1 .1 .1 .0
+
+abbrev after-bet-at : ℕ → In 1 after-bet-kinds.ps
+after-bet-at t = and 1 after-bet-kinds.ps (is 1 after-bet-kinds.ps μ-after-bet t) after-bet.Pre
+
+abbrev after-bet-below : ℕ → In 1 after-bet-kinds.ps
+after-bet-below t =
+    and 1 after-bet-kinds.ps (falls 1 after-bet-kinds.ps _<_ μ-after-bet t) after-bet.Pre
+
+after-bet-last-action-requires : (t : ℕ) → after-bet-lts.Need-last-action-requires (
+  last-action-reads.Asked,
+  last-action-reads.Learnt,
+  following-reads.Asked,
+  following-reads.Learnt,
+  after-bet-below t,
+  after-bet.Post,
+  unit-reads.Asked,
+  unit-reads.Learnt,
+  higher-reads.Asked,
+  higher-reads.Learnt,
+  decision-word-reads.Asked,
+  decision-word-reads.Learnt,
+  put-reads.Asked,
+  put-reads.Learnt,
+) (after-bet-at t) after-bet.Post
+after-bet-last-action-requires t c κs = ((hands.one-betting (c .before .before .before .args .n) (c .before .before .before .args .cards) (c .before .before .before .args .number) (c .before .before .before .args .seat) (c .before .before .before .args .left) (c .before .before .before .args .pays) (c .before .before .before .args .pot) (c .before .before .before .args .win) (c .before .before .before .args .at) (now (c .before .before .before .args .w)) (c .before .before .before .pre .1 .0 .0) (c .before .before .before .pre .1 .1) (c .before .if1 .taken), (last-left (c .before .before .before .args .number) (c .before .before .before .args .left) (hands.some-left (c .before .before .before .args .left) (c .before .before .before .pre .1 .0 .1)) (c .before .before .before .pre .1 .0 .2))), hands.one-room (c .before .before .before .args .n) (c .before .before .before .args .cards) (c .before .before .before .args .number) (c .before .before .before .args .seat) (c .before .before .before .args .left) (c .before .before .before .args .pays) (c .before .before .before .args .pot) (c .before .before .before .args .win) (c .before .before .before .args .at) (now (c .before .before .before .args .w)) (c .before .before .before .pre .1 .0 .0) (c .before .before .before .pre .1 .1) (c .before .if1 .taken))
+
+after-bet-same-length : (t : ℕ) → after-bet-lts.Need-same-length (
+  last-action-reads.Asked,
+  last-action-reads.Learnt,
+  following-reads.Asked,
+  following-reads.Learnt,
+  after-bet-below t,
+  after-bet.Post,
+  unit-reads.Asked,
+  unit-reads.Learnt,
+  higher-reads.Asked,
+  higher-reads.Learnt,
+  decision-word-reads.Asked,
+  decision-word-reads.Learnt,
+  put-reads.Asked,
+  put-reads.Learnt,
+) (after-bet-at t) after-bet.Post
+after-bet-same-length t c = search needs
+
+after-bet-returns : (t : ℕ) → after-bet-lts.Need-returns (
+  last-action-reads.Asked,
+  last-action-reads.Learnt,
+  following-reads.Asked,
+  following-reads.Learnt,
+  after-bet-below t,
+  after-bet.Post,
+  unit-reads.Asked,
+  unit-reads.Learnt,
+  higher-reads.Asked,
+  higher-reads.Learnt,
+  decision-word-reads.Asked,
+  decision-word-reads.Learnt,
+  put-reads.Asked,
+  put-reads.Learnt,
+) (after-bet-at t) after-bet.Post
+after-bet-returns t c = hands.one-built (c .before .before .before .before .before .before .args .n) (c .before .before .before .before .before .before .args .cards) (c .before .before .before .before .before .before .args .number) (c .before .before .before .before .before .before .args .seat) (c .before .before .before .before .before .before .args .left) (c .before .before .before .before .before .before .args .pays) (c .before .before .before .before .before .before .args .pot) (c .before .before .before .before .before .before .args .win) (c .before .before .before .before .before .before .args .at) (now (c .before .before .before .before .before .before .args .w)) (c .before .before .before .before .before .before .pre .1 .0 .0) (c .before .before .before .before .before .before .pre .1 .1) (c .before .before .before .before .if1 .taken) _ _ (c .before .before .last-action .ensures)
+
+after-bet-following-requires : (t : ℕ) → after-bet-lts.Need-following-requires (
+  last-action-reads.Asked,
+  last-action-reads.Learnt,
+  following-reads.Asked,
+  following-reads.Learnt,
+  after-bet-below t,
+  after-bet.Post,
+  unit-reads.Asked,
+  unit-reads.Learnt,
+  higher-reads.Asked,
+  higher-reads.Learnt,
+  decision-word-reads.Asked,
+  decision-word-reads.Learnt,
+  put-reads.Asked,
+  put-reads.Learnt,
+) (after-bet-at t) after-bet.Post
+after-bet-following-requires t c κs = hands.after-seat (c .before .before .args .n) (c .before .before .args .cards) (c .before .before .args .number) (c .before .before .args .seat) (c .before .before .args .left) (c .before .before .args .pays) (c .before .before .args .pot) (c .before .before .args .win) (c .before .before .args .at) (now (c .before .before .args .w)) (c .before .before .pre .1 .0 .0) (c .before .before .pre .1 .1)
+
+after-bet-add-after-bet : (t : ℕ) → after-bet-lts.Need-add-after-bet (
+  last-action-reads.Asked,
+  last-action-reads.Learnt,
+  following-reads.Asked,
+  following-reads.Learnt,
+  after-bet-below t,
+  after-bet.Post,
+  unit-reads.Asked,
+  unit-reads.Learnt,
+  higher-reads.Asked,
+  higher-reads.Learnt,
+  decision-word-reads.Asked,
+  decision-word-reads.Learnt,
+  put-reads.Asked,
+  put-reads.Learnt,
+) (after-bet-at t) after-bet.Post
+after-bet-add-after-bet t c = record { fits = omega (arith, c .before .before .before .before .pre .1 .1 .places) }
+
+after-bet-mul-after-bet : (t : ℕ) → after-bet-lts.Need-mul-after-bet (
+  last-action-reads.Asked,
+  last-action-reads.Learnt,
+  following-reads.Asked,
+  following-reads.Learnt,
+  after-bet-below t,
+  after-bet.Post,
+  unit-reads.Asked,
+  unit-reads.Learnt,
+  higher-reads.Asked,
+  higher-reads.Learnt,
+  decision-word-reads.Asked,
+  decision-word-reads.Learnt,
+  put-reads.Asked,
+  put-reads.Learnt,
+) (after-bet-at t) after-bet.Post
+after-bet-mul-after-bet t c = record { fits = omega (arith, last-left (c .before .before .before .before .args .number) (c .before .before .before .before .args .left) (hands.some-left (c .before .before .before .before .args .left) (c .before .before .before .before .pre .1 .0 .1)) (c .before .before .before .before .pre .1 .0 .2)) }
+
+after-bet-add-after-bet-2 : (t : ℕ) → after-bet-lts.Need-add-after-bet-2 (
+  last-action-reads.Asked,
+  last-action-reads.Learnt,
+  following-reads.Asked,
+  following-reads.Learnt,
+  after-bet-below t,
+  after-bet.Post,
+  unit-reads.Asked,
+  unit-reads.Learnt,
+  higher-reads.Asked,
+  higher-reads.Learnt,
+  decision-word-reads.Asked,
+  decision-word-reads.Learnt,
+  put-reads.Asked,
+  put-reads.Learnt,
+) (after-bet-at t) after-bet.Post
+after-bet-add-after-bet-2 t c = record { fits = omega (arith, last-left (c .before .before .before .before .args .number) (c .before .before .before .before .args .left) (hands.some-left (c .before .before .before .before .args .left) (c .before .before .before .before .pre .1 .0 .1)) (c .before .before .before .before .pre .1 .0 .2)) }
+
+after-bet-sub-after-bet : (t : ℕ) → after-bet-lts.Need-sub-after-bet (
+  last-action-reads.Asked,
+  last-action-reads.Learnt,
+  following-reads.Asked,
+  following-reads.Learnt,
+  after-bet-below t,
+  after-bet.Post,
+  unit-reads.Asked,
+  unit-reads.Learnt,
+  higher-reads.Asked,
+  higher-reads.Learnt,
+  decision-word-reads.Asked,
+  decision-word-reads.Learnt,
+  put-reads.Asked,
+  put-reads.Learnt,
+) (after-bet-at t) after-bet.Post
+after-bet-sub-after-bet t c = omega (arith, c .before .before .before .before .pre .1 .0 .1)
+
+after-bet-after-bet-requires : (t : ℕ) → after-bet-lts.Need-after-bet-requires (
+  last-action-reads.Asked,
+  last-action-reads.Learnt,
+  following-reads.Asked,
+  following-reads.Learnt,
+  after-bet-below t,
+  after-bet.Post,
+  unit-reads.Asked,
+  unit-reads.Learnt,
+  higher-reads.Asked,
+  higher-reads.Learnt,
+  decision-word-reads.Asked,
+  decision-word-reads.Learnt,
+  put-reads.Asked,
+  put-reads.Learnt,
+) (after-bet-at t) after-bet.Post
+after-bet-after-bet-requires t c κs = (omega (arith, c .before .before .before .before .pre .0, c .before .before .before .before .pre .1 .0 .1), ((hands.after-pass (c .before .before .before .before .args .n) (c .before .before .before .before .args .cards) (c .before .before .before .before .args .number) (c .before .before .before .before .args .seat) (c .before .before .before .before .args .left) (c .before .before .before .before .args .pays) (c .before .before .before .before .args .pot) (c .before .before .before .before .args .win) (c .before .before .before .before .args .at) (now (c .before .before .before .before .args .w)) (c .before .before .before .before .pre .1 .0 .0) (c .before .before .before .before .pre .1 .1) (hands.some-left (c .before .before .before .before .args .left) (c .before .before .before .before .pre .1 .0 .1)) _ (c .before .following .ensures), omega (arith, c .before .before .before .before .pre .1 .0 .1, c .before .before .if1 .left), less-left (c .before .before .before .before .args .number) (c .before .before .before .before .args .left) 1 (hands.some-left (c .before .before .before .before .args .left) (c .before .before .before .before .pre .1 .0 .1)) (c .before .before .before .before .pre .1 .0 .2) (omega arith)), hands.first-room (c .before .before .before .before .args .n) (c .before .before .before .before .args .cards) (c .before .before .before .before .args .number) (c .before .before .before .before .args .at) (now (c .before .before .before .before .args .w)) _ _ _ (hands.after-goes-on (c .before .before .before .before .args .n) (c .before .before .before .before .args .cards) (c .before .before .before .before .args .number) (c .before .before .before .before .args .seat) (c .before .before .before .before .args .left) (c .before .before .before .before .args .pays) (c .before .before .before .before .args .pot) (c .before .before .before .before .args .win) (c .before .before .before .before .args .at) (now (c .before .before .before .before .args .w)) (c .before .before .before .before .pre .1 .0 .0) (c .before .before .before .before .pre .1 .1) (hands.some-left (c .before .before .before .before .args .left) (c .before .before .before .before .pre .1 .0 .1))) (c .before .before .before .before .pre .1 .1)))
+
+after-bet-mul-after-bet-2 : (t : ℕ) → after-bet-lts.Need-mul-after-bet-2 (
+  last-action-reads.Asked,
+  last-action-reads.Learnt,
+  following-reads.Asked,
+  following-reads.Learnt,
+  after-bet-below t,
+  after-bet.Post,
+  unit-reads.Asked,
+  unit-reads.Learnt,
+  higher-reads.Asked,
+  higher-reads.Learnt,
+  decision-word-reads.Asked,
+  decision-word-reads.Learnt,
+  put-reads.Asked,
+  put-reads.Learnt,
+) (after-bet-at t) after-bet.Post
+after-bet-mul-after-bet-2 t c = record { fits = omega (arith, last-left (c .before .before .before .before .before .before .before .before .args .number) (c .before .before .before .before .before .before .before .before .args .left) (hands.some-left (c .before .before .before .before .before .before .before .before .args .left) (c .before .before .before .before .before .before .before .before .pre .1 .0 .1)) (c .before .before .before .before .before .before .before .before .pre .1 .0 .2)) }
+
+after-bet-add-after-bet-3 : (t : ℕ) → after-bet-lts.Need-add-after-bet-3 (
+  last-action-reads.Asked,
+  last-action-reads.Learnt,
+  following-reads.Asked,
+  following-reads.Learnt,
+  after-bet-below t,
+  after-bet.Post,
+  unit-reads.Asked,
+  unit-reads.Learnt,
+  higher-reads.Asked,
+  higher-reads.Learnt,
+  decision-word-reads.Asked,
+  decision-word-reads.Learnt,
+  put-reads.Asked,
+  put-reads.Learnt,
+) (after-bet-at t) after-bet.Post
+after-bet-add-after-bet-3 t c = record { fits = omega (arith, last-left (c .before .before .before .before .before .before .before .before .args .number) (c .before .before .before .before .before .before .before .before .args .left) (hands.some-left (c .before .before .before .before .before .before .before .before .args .left) (c .before .before .before .before .before .before .before .before .pre .1 .0 .1)) (c .before .before .before .before .before .before .before .before .pre .1 .0 .2)) }
+
+after-bet-sub-after-bet-2 : (t : ℕ) → after-bet-lts.Need-sub-after-bet-2 (
+  last-action-reads.Asked,
+  last-action-reads.Learnt,
+  following-reads.Asked,
+  following-reads.Learnt,
+  after-bet-below t,
+  after-bet.Post,
+  unit-reads.Asked,
+  unit-reads.Learnt,
+  higher-reads.Asked,
+  higher-reads.Learnt,
+  decision-word-reads.Asked,
+  decision-word-reads.Learnt,
+  put-reads.Asked,
+  put-reads.Learnt,
+) (after-bet-at t) after-bet.Post
+after-bet-sub-after-bet-2 t c = omega (arith, c .before .before .before .before .before .before .before .before .pre .1 .0 .1)
+
+after-bet-unit-requires : (t : ℕ) → after-bet-lts.Need-unit-requires (
+  last-action-reads.Asked,
+  last-action-reads.Learnt,
+  following-reads.Asked,
+  following-reads.Learnt,
+  after-bet-below t,
+  after-bet.Post,
+  unit-reads.Asked,
+  unit-reads.Learnt,
+  higher-reads.Asked,
+  higher-reads.Learnt,
+  decision-word-reads.Asked,
+  decision-word-reads.Learnt,
+  put-reads.Asked,
+  put-reads.Learnt,
+) (after-bet-at t) after-bet.Post
+after-bet-unit-requires t c κs = omega (arith, hands.after-seat (c .before .before .before .before .before .before .before .before .args .n) (c .before .before .before .before .before .before .before .before .args .cards) (c .before .before .before .before .before .before .before .before .args .number) (c .before .before .before .before .before .before .before .before .args .seat) (c .before .before .before .before .before .before .before .before .args .left) (c .before .before .before .before .before .before .before .before .args .pays) (c .before .before .before .before .before .before .before .before .args .pot) (c .before .before .before .before .before .before .before .before .args .win) (c .before .before .before .before .before .before .before .before .args .at) (now (c .before .before .before .before .before .before .before .before .args .w)) (c .before .before .before .before .before .before .before .before .pre .1 .0 .0) (c .before .before .before .before .before .before .before .before .pre .1 .1))
+
+after-bet-sub-after-bet-3 : (t : ℕ) → after-bet-lts.Need-sub-after-bet-3 (
+  last-action-reads.Asked,
+  last-action-reads.Learnt,
+  following-reads.Asked,
+  following-reads.Learnt,
+  after-bet-below t,
+  after-bet.Post,
+  unit-reads.Asked,
+  unit-reads.Learnt,
+  higher-reads.Asked,
+  higher-reads.Learnt,
+  decision-word-reads.Asked,
+  decision-word-reads.Learnt,
+  put-reads.Asked,
+  put-reads.Learnt,
+) (after-bet-at t) after-bet.Post
+after-bet-sub-after-bet-3 t c = hands.after-unit (c .before .before .before .before .before .before .before .before .before .args .n) (c .before .before .before .before .before .before .before .before .before .args .cards) (c .before .before .before .before .before .before .before .before .before .args .number) (c .before .before .before .before .before .before .before .before .before .args .seat) (c .before .before .before .before .before .before .before .before .before .args .left) (c .before .before .before .before .before .before .before .before .before .args .pays) (c .before .before .before .before .before .before .before .before .before .args .pot) (c .before .before .before .before .before .before .before .before .before .args .win) (c .before .before .before .before .before .before .before .before .before .args .at) (now (c .before .before .before .before .before .before .before .before .before .args .w)) (c .before .before .before .before .before .before .before .before .before .pre .1 .0 .0) (c .before .before .before .before .before .before .before .before .before .pre .1 .1) (hands.some-left (c .before .before .before .before .before .before .before .before .before .args .left) (c .before .before .before .before .before .before .before .before .before .pre .1 .0 .1)) _ (c .before .before .before .before .before .before .following .ensures) _ (c .unit .ensures .0)
+
+after-bet-add-after-bet-4 : (t : ℕ) → after-bet-lts.Need-add-after-bet-4 (
+  last-action-reads.Asked,
+  last-action-reads.Learnt,
+  following-reads.Asked,
+  following-reads.Learnt,
+  after-bet-below t,
+  after-bet.Post,
+  unit-reads.Asked,
+  unit-reads.Learnt,
+  higher-reads.Asked,
+  higher-reads.Learnt,
+  decision-word-reads.Asked,
+  decision-word-reads.Learnt,
+  put-reads.Asked,
+  put-reads.Learnt,
+) (after-bet-at t) after-bet.Post
+after-bet-add-after-bet-4 t c = record { fits = omega (arith, hands.after-words (c .before .before .before .before .before .before .before .before .before .args .n) (c .before .before .before .before .before .before .before .before .before .args .cards) (c .before .before .before .before .before .before .before .before .before .args .number) (c .before .before .before .before .before .before .before .before .before .args .seat) (c .before .before .before .before .before .before .before .before .before .args .left) (c .before .before .before .before .before .before .before .before .before .args .pays) (c .before .before .before .before .before .before .before .before .before .args .pot) (c .before .before .before .before .before .before .before .before .before .args .win) (c .before .before .before .before .before .before .before .before .before .args .at) (now (c .before .before .before .before .before .before .before .before .before .args .w)) (c .before .before .before .before .before .before .before .before .before .pre .1 .0 .0) (c .before .before .before .before .before .before .before .before .before .pre .1 .1) .1) }
+
+after-bet-higher-requires : (t : ℕ) → after-bet-lts.Need-higher-requires (
+  last-action-reads.Asked,
+  last-action-reads.Learnt,
+  following-reads.Asked,
+  following-reads.Learnt,
+  after-bet-below t,
+  after-bet.Post,
+  unit-reads.Asked,
+  unit-reads.Learnt,
+  higher-reads.Asked,
+  higher-reads.Learnt,
+  decision-word-reads.Asked,
+  decision-word-reads.Learnt,
+  put-reads.Asked,
+  put-reads.Learnt,
+) (after-bet-at t) after-bet.Post
+after-bet-higher-requires t c κs = (hands.after-words (c .before .before .before .before .before .before .before .before .before .args .n) (c .before .before .before .before .before .before .before .before .before .args .cards) (c .before .before .before .before .before .before .before .before .before .args .number) (c .before .before .before .before .before .before .before .before .before .args .seat) (c .before .before .before .before .before .before .before .before .before .args .left) (c .before .before .before .before .before .before .before .before .before .args .pays) (c .before .before .before .before .before .before .before .before .before .args .pot) (c .before .before .before .before .before .before .before .before .before .args .win) (c .before .before .before .before .before .before .before .before .before .args .at) (now (c .before .before .before .before .before .before .before .before .before .args .w)) (c .before .before .before .before .before .before .before .before .before .pre .1 .0 .0) (c .before .before .before .before .before .before .before .before .before .pre .1 .1) .2, omega (arith, hands.after-seat (c .before .before .before .before .before .before .before .before .before .args .n) (c .before .before .before .before .before .before .before .before .before .args .cards) (c .before .before .before .before .before .before .before .before .before .args .number) (c .before .before .before .before .before .before .before .before .before .args .seat) (c .before .before .before .before .before .before .before .before .before .args .left) (c .before .before .before .before .before .before .before .before .before .args .pays) (c .before .before .before .before .before .before .before .before .before .args .pot) (c .before .before .before .before .before .before .before .before .before .args .win) (c .before .before .before .before .before .before .before .before .before .args .at) (now (c .before .before .before .before .before .before .before .before .before .args .w)) (c .before .before .before .before .before .before .before .before .before .pre .1 .0 .0) (c .before .before .before .before .before .before .before .before .before .pre .1 .1)))
+
+after-bet-after-bet-requires-2 : (t : ℕ) → after-bet-lts.Need-after-bet-requires-2 (
+  last-action-reads.Asked,
+  last-action-reads.Learnt,
+  following-reads.Asked,
+  following-reads.Learnt,
+  after-bet-below t,
+  after-bet.Post,
+  unit-reads.Asked,
+  unit-reads.Learnt,
+  higher-reads.Asked,
+  higher-reads.Learnt,
+  decision-word-reads.Asked,
+  decision-word-reads.Learnt,
+  put-reads.Asked,
+  put-reads.Learnt,
+) (after-bet-at t) after-bet.Post
+after-bet-after-bet-requires-2 t c κs = (omega (arith, c .before .before .before .before .before .before .before .before .before .before .pre .0, c .before .before .before .before .before .before .before .before .before .before .pre .1 .0 .1), ((hands.after-raise (c .before .before .before .before .before .before .before .before .before .before .args .n) (c .before .before .before .before .before .before .before .before .before .before .args .cards) (c .before .before .before .before .before .before .before .before .before .before .args .number) (c .before .before .before .before .before .before .before .before .before .before .args .seat) (c .before .before .before .before .before .before .before .before .before .before .args .left) (c .before .before .before .before .before .before .before .before .before .before .args .pays) (c .before .before .before .before .before .before .before .before .before .before .args .pot) (c .before .before .before .before .before .before .before .before .before .before .args .win) (c .before .before .before .before .before .before .before .before .before .before .args .at) (now (c .before .before .before .before .before .before .before .before .before .before .args .w)) (c .before .before .before .before .before .before .before .before .before .before .pre .1 .0 .0) (c .before .before .before .before .before .before .before .before .before .before .pre .1 .1) (hands.some-left (c .before .before .before .before .before .before .before .before .before .before .args .left) (c .before .before .before .before .before .before .before .before .before .before .pre .1 .0 .1)) _ (c .before .before .before .before .before .before .before .following .ensures) _ _ (c .before .unit .ensures .0) (c .higher .ensures), omega (arith, c .before .before .before .before .before .before .before .before .before .before .pre .1 .0 .1, c .before .before .before .before .before .before .before .before .if1 .left), less-left (c .before .before .before .before .before .before .before .before .before .before .args .number) (c .before .before .before .before .before .before .before .before .before .before .args .left) 2 (hands.some-left (c .before .before .before .before .before .before .before .before .before .before .args .left) (c .before .before .before .before .before .before .before .before .before .before .pre .1 .0 .1)) (c .before .before .before .before .before .before .before .before .before .before .pre .1 .0 .2) (omega arith)), hands.second-room (c .before .before .before .before .before .before .before .before .before .before .args .n) (c .before .before .before .before .before .before .before .before .before .before .args .cards) (c .before .before .before .before .before .before .before .before .before .before .args .number) (c .before .before .before .before .before .before .before .before .before .before .args .at) (now (c .before .before .before .before .before .before .before .before .before .before .args .w)) _ _ _ (hands.after-goes-on (c .before .before .before .before .before .before .before .before .before .before .args .n) (c .before .before .before .before .before .before .before .before .before .before .args .cards) (c .before .before .before .before .before .before .before .before .before .before .args .number) (c .before .before .before .before .before .before .before .before .before .before .args .seat) (c .before .before .before .before .before .before .before .before .before .before .args .left) (c .before .before .before .before .before .before .before .before .before .before .args .pays) (c .before .before .before .before .before .before .before .before .before .before .args .pot) (c .before .before .before .before .before .before .before .before .before .before .args .win) (c .before .before .before .before .before .before .before .before .before .before .args .at) (now (c .before .before .before .before .before .before .before .before .before .before .args .w)) (c .before .before .before .before .before .before .before .before .before .before .pre .1 .0 .0) (c .before .before .before .before .before .before .before .before .before .before .pre .1 .1) (hands.some-left (c .before .before .before .before .before .before .before .before .before .before .args .left) (c .before .before .before .before .before .before .before .before .before .before .pre .1 .0 .1))) (c .before .before .before .before .before .before .before .before .before .before .pre .1 .1) _ _ (c .before .before .before .before .before .after-bet .ensures)))
+
+after-bet-decision-word-requires : (t : ℕ) → after-bet-lts.Need-decision-word-requires (
+  last-action-reads.Asked,
+  last-action-reads.Learnt,
+  following-reads.Asked,
+  following-reads.Learnt,
+  after-bet-below t,
+  after-bet.Post,
+  unit-reads.Asked,
+  unit-reads.Learnt,
+  higher-reads.Asked,
+  higher-reads.Learnt,
+  decision-word-reads.Asked,
+  decision-word-reads.Learnt,
+  put-reads.Asked,
+  put-reads.Learnt,
+) (after-bet-at t) after-bet.Post
+after-bet-decision-word-requires t c κs = (hands.after-seat (c .before .before .before .before .before .before .before .before .before .before .before .before .before .before .args .n) (c .before .before .before .before .before .before .before .before .before .before .before .before .before .before .args .cards) (c .before .before .before .before .before .before .before .before .before .before .before .before .before .before .args .number) (c .before .before .before .before .before .before .before .before .before .before .before .before .before .before .args .seat) (c .before .before .before .before .before .before .before .before .before .before .before .before .before .before .args .left) (c .before .before .before .before .before .before .before .before .before .before .before .before .before .before .args .pays) (c .before .before .before .before .before .before .before .before .before .before .before .before .before .before .args .pot) (c .before .before .before .before .before .before .before .before .before .before .before .before .before .before .args .win) (c .before .before .before .before .before .before .before .before .before .before .before .before .before .before .args .at) (now (c .before .before .before .before .before .before .before .before .before .before .before .before .before .before .args .w)) (c .before .before .before .before .before .before .before .before .before .before .before .before .before .before .pre .1 .0 .0) (c .before .before .before .before .before .before .before .before .before .before .before .before .before .before .pre .1 .1) .1, (last-left (c .before .before .before .before .before .before .before .before .before .before .before .before .before .before .args .number) (c .before .before .before .before .before .before .before .before .before .before .before .before .before .before .args .left) (hands.some-left (c .before .before .before .before .before .before .before .before .before .before .before .before .before .before .args .left) (c .before .before .before .before .before .before .before .before .before .before .before .before .before .before .pre .1 .0 .1)) (c .before .before .before .before .before .before .before .before .before .before .before .before .before .before .pre .1 .0 .2)), hands.after-seat (c .before .before .before .before .before .before .before .before .before .before .before .before .before .before .args .n) (c .before .before .before .before .before .before .before .before .before .before .before .before .before .before .args .cards) (c .before .before .before .before .before .before .before .before .before .before .before .before .before .before .args .number) (c .before .before .before .before .before .before .before .before .before .before .before .before .before .before .args .seat) (c .before .before .before .before .before .before .before .before .before .before .before .before .before .before .args .left) (c .before .before .before .before .before .before .before .before .before .before .before .before .before .before .args .pays) (c .before .before .before .before .before .before .before .before .before .before .before .before .before .before .args .pot) (c .before .before .before .before .before .before .before .before .before .before .before .before .before .before .args .win) (c .before .before .before .before .before .before .before .before .before .before .before .before .before .before .args .at) (now (c .before .before .before .before .before .before .before .before .before .before .before .before .before .before .args .w)) (c .before .before .before .before .before .before .before .before .before .before .before .before .before .before .pre .1 .0 .0) (c .before .before .before .before .before .before .before .before .before .before .before .before .before .before .pre .1 .1) .0, hands.behind-few (c .before .before .before .before .before .before .before .before .before .before .before .before .before .before .args .n) (c .before .before .before .before .before .before .before .before .before .before .before .before .before .before .args .cards) (c .before .before .before .before .before .before .before .before .before .before .before .before .before .before .args .number) (c .before .before .before .before .before .before .before .before .before .before .before .before .before .before .args .at) (now (c .before .before .before .before .before .before .before .before .before .before .before .before .before .before .args .w)) _ _ _ (hands.after-goes-on (c .before .before .before .before .before .before .before .before .before .before .before .before .before .before .args .n) (c .before .before .before .before .before .before .before .before .before .before .before .before .before .before .args .cards) (c .before .before .before .before .before .before .before .before .before .before .before .before .before .before .args .number) (c .before .before .before .before .before .before .before .before .before .before .before .before .before .before .args .seat) (c .before .before .before .before .before .before .before .before .before .before .before .before .before .before .args .left) (c .before .before .before .before .before .before .before .before .before .before .before .before .before .before .args .pays) (c .before .before .before .before .before .before .before .before .before .before .before .before .before .before .args .pot) (c .before .before .before .before .before .before .before .before .before .before .before .before .before .before .args .win) (c .before .before .before .before .before .before .before .before .before .before .before .before .before .before .args .at) (now (c .before .before .before .before .before .before .before .before .before .before .before .before .before .before .args .w)) (c .before .before .before .before .before .before .before .before .before .before .before .before .before .before .pre .1 .0 .0) (c .before .before .before .before .before .before .before .before .before .before .before .before .before .before .pre .1 .1) (hands.some-left (c .before .before .before .before .before .before .before .before .before .before .before .before .before .before .args .left) (c .before .before .before .before .before .before .before .before .before .before .before .before .before .before .pre .1 .0 .1))) (c .before .before .before .before .before .before .before .before .before .before .before .before .before .before .pre .1 .1) _ _ (c .before .before .before .before .before .before .before .before .before .after-bet .ensures) _ _ (c .before .before .before .after-bet2 .ensures))
+
+after-bet-put-requires : (t : ℕ) → after-bet-lts.Need-put-requires (
+  last-action-reads.Asked,
+  last-action-reads.Learnt,
+  following-reads.Asked,
+  following-reads.Learnt,
+  after-bet-below t,
+  after-bet.Post,
+  unit-reads.Asked,
+  unit-reads.Learnt,
+  higher-reads.Asked,
+  higher-reads.Learnt,
+  decision-word-reads.Asked,
+  decision-word-reads.Learnt,
+  put-reads.Asked,
+  put-reads.Learnt,
+) (after-bet-at t) after-bet.Post
+after-bet-put-requires t c κs = search needs
+
+after-bet-same-length-2 : (t : ℕ) → after-bet-lts.Need-same-length-2 (
+  last-action-reads.Asked,
+  last-action-reads.Learnt,
+  following-reads.Asked,
+  following-reads.Learnt,
+  after-bet-below t,
+  after-bet.Post,
+  unit-reads.Asked,
+  unit-reads.Learnt,
+  higher-reads.Asked,
+  higher-reads.Learnt,
+  decision-word-reads.Asked,
+  decision-word-reads.Learnt,
+  put-reads.Asked,
+  put-reads.Learnt,
+) (after-bet-at t) after-bet.Post
+after-bet-same-length-2 t c = search needs
+
+after-bet-returns-2 : (t : ℕ) → after-bet-lts.Need-returns-2 (
+  last-action-reads.Asked,
+  last-action-reads.Learnt,
+  following-reads.Asked,
+  following-reads.Learnt,
+  after-bet-below t,
+  after-bet.Post,
+  unit-reads.Asked,
+  unit-reads.Learnt,
+  higher-reads.Asked,
+  higher-reads.Learnt,
+  decision-word-reads.Asked,
+  decision-word-reads.Learnt,
+  put-reads.Asked,
+  put-reads.Learnt,
+) (after-bet-at t) after-bet.Post
+after-bet-returns-2 t c = hands.lays-decision (c .before .before .before .before .before .before .before .before .before .before .before .before .before .before .before .before .before .before .args .n) (c .before .before .before .before .before .before .before .before .before .before .before .before .before .before .before .before .before .before .args .cards) (c .before .before .before .before .before .before .before .before .before .before .before .before .before .before .before .before .before .before .args .number) (c .before .before .before .before .before .before .before .before .before .before .before .before .before .before .before .before .before .before .args .at) (now (c .before .before .before .before .before .before .before .before .before .before .before .before .before .before .before .before .before .before .args .w)) _ _ _ (hands.after-goes-on (c .before .before .before .before .before .before .before .before .before .before .before .before .before .before .before .before .before .before .args .n) (c .before .before .before .before .before .before .before .before .before .before .before .before .before .before .before .before .before .before .args .cards) (c .before .before .before .before .before .before .before .before .before .before .before .before .before .before .before .before .before .before .args .number) (c .before .before .before .before .before .before .before .before .before .before .before .before .before .before .before .before .before .before .args .seat) (c .before .before .before .before .before .before .before .before .before .before .before .before .before .before .before .before .before .before .args .left) (c .before .before .before .before .before .before .before .before .before .before .before .before .before .before .before .before .before .before .args .pays) (c .before .before .before .before .before .before .before .before .before .before .before .before .before .before .before .before .before .before .args .pot) (c .before .before .before .before .before .before .before .before .before .before .before .before .before .before .before .before .before .before .args .win) (c .before .before .before .before .before .before .before .before .before .before .before .before .before .before .before .before .before .before .args .at) (now (c .before .before .before .before .before .before .before .before .before .before .before .before .before .before .before .before .before .before .args .w)) (c .before .before .before .before .before .before .before .before .before .before .before .before .before .before .before .before .before .before .pre .1 .0 .0) (c .before .before .before .before .before .before .before .before .before .before .before .before .before .before .before .before .before .before .pre .1 .1) (hands.some-left (c .before .before .before .before .before .before .before .before .before .before .before .before .before .before .before .before .before .before .args .left) (c .before .before .before .before .before .before .before .before .before .before .before .before .before .before .before .before .before .before .pre .1 .0 .1))) (c .before .before .before .before .before .before .before .before .before .before .before .before .before .before .before .before .before .before .pre .1 .1) _ _ (c .before .before .before .before .before .before .before .before .before .before .before .before .before .after-bet .ensures) _ _ (c .before .before .before .before .before .before .before .after-bet2 .ensures) (c .before .before .before .before .before .before .before .before .before .before .before .before .before .before .before .before .before .before .args .seat) _ _ (hands.after-seat (c .before .before .before .before .before .before .before .before .before .before .before .before .before .before .before .before .before .before .args .n) (c .before .before .before .before .before .before .before .before .before .before .before .before .before .before .before .before .before .before .args .cards) (c .before .before .before .before .before .before .before .before .before .before .before .before .before .before .before .before .before .before .args .number) (c .before .before .before .before .before .before .before .before .before .before .before .before .before .before .before .before .before .before .args .seat) (c .before .before .before .before .before .before .before .before .before .before .before .before .before .before .before .before .before .before .args .left) (c .before .before .before .before .before .before .before .before .before .before .before .before .before .before .before .before .before .before .args .pays) (c .before .before .before .before .before .before .before .before .before .before .before .before .before .before .before .before .before .before .args .pot) (c .before .before .before .before .before .before .before .before .before .before .before .before .before .before .before .before .before .before .args .win) (c .before .before .before .before .before .before .before .before .before .before .before .before .before .before .before .before .before .before .args .at) (now (c .before .before .before .before .before .before .before .before .before .before .before .before .before .before .before .before .before .before .args .w)) (c .before .before .before .before .before .before .before .before .before .before .before .before .before .before .before .before .before .before .pre .1 .0 .0) (c .before .before .before .before .before .before .before .before .before .before .before .before .before .before .before .before .before .before .pre .1 .1) .1) (hands.after-seat (c .before .before .before .before .before .before .before .before .before .before .before .before .before .before .before .before .before .before .args .n) (c .before .before .before .before .before .before .before .before .before .before .before .before .before .before .before .before .before .before .args .cards) (c .before .before .before .before .before .before .before .before .before .before .before .before .before .before .before .before .before .before .args .number) (c .before .before .before .before .before .before .before .before .before .before .before .before .before .before .before .before .before .before .args .seat) (c .before .before .before .before .before .before .before .before .before .before .before .before .before .before .before .before .before .before .args .left) (c .before .before .before .before .before .before .before .before .before .before .before .before .before .before .before .before .before .before .args .pays) (c .before .before .before .before .before .before .before .before .before .before .before .before .before .before .before .before .before .before .args .pot) (c .before .before .before .before .before .before .before .before .before .before .before .before .before .before .before .before .before .before .args .win) (c .before .before .before .before .before .before .before .before .before .before .before .before .before .before .before .before .before .before .args .at) (now (c .before .before .before .before .before .before .before .before .before .before .before .before .before .before .before .before .before .before .args .w)) (c .before .before .before .before .before .before .before .before .before .before .before .before .before .before .before .before .before .before .pre .1 .0 .0) (c .before .before .before .before .before .before .before .before .before .before .before .before .before .before .before .before .before .before .pre .1 .1) .0) (c .before .before .before .before .before .before .before .before .before .before .before .before .before .before .before .before .before .before .pre .1 .0 .0 .acts) (last-left (c .before .before .before .before .before .before .before .before .before .before .before .before .before .before .before .before .before .before .args .number) (c .before .before .before .before .before .before .before .before .before .before .before .before .before .before .before .before .before .before .args .left) (hands.some-left (c .before .before .before .before .before .before .before .before .before .before .before .before .before .before .before .before .before .before .args .left) (c .before .before .before .before .before .before .before .before .before .before .before .before .before .before .before .before .before .before .pre .1 .0 .1)) (c .before .before .before .before .before .before .before .before .before .before .before .before .before .before .before .before .before .before .pre .1 .0 .2)) (c .before .before .before .decision-word .ensures) (c .before .before .put .ensures)
+
+pub +after-bet-spec : {M : Type 1} → statement M
++after-bet-spec = close μ-after-bet λ t. after-bet-lts.spec (
+  last-action-reads.Asked,
+  last-action-reads.Learnt,
+  following-reads.Asked,
+  following-reads.Learnt,
+  after-bet-below t,
+  after-bet.Post,
+  unit-reads.Asked,
+  unit-reads.Learnt,
+  higher-reads.Asked,
+  higher-reads.Learnt,
+  decision-word-reads.Asked,
+  decision-word-reads.Learnt,
+  put-reads.Asked,
+  put-reads.Learnt,
+)
+    (after-bet-at t)
+    after-bet.Post
+    (after-bet-last-action-requires t)
+    (after-bet-same-length t)
+    (after-bet-returns t)
+    (after-bet-following-requires t)
+    (after-bet-add-after-bet t)
+    (after-bet-mul-after-bet t)
+    (after-bet-add-after-bet-2 t)
+    (after-bet-sub-after-bet t)
+    (after-bet-after-bet-requires t)
+    (after-bet-mul-after-bet-2 t)
+    (after-bet-add-after-bet-3 t)
+    (after-bet-sub-after-bet-2 t)
+    (after-bet-unit-requires t)
+    (after-bet-sub-after-bet-3 t)
+    (after-bet-add-after-bet-4 t)
+    (after-bet-higher-requires t)
+    (after-bet-after-bet-requires-2 t)
+    (after-bet-decision-word-requires t)
+    (after-bet-put-requires t)
+    (after-bet-same-length-2 t)
+    (after-bet-returns-2 t)

@@ -1,0 +1,34 @@
+-- CALL and RAISE after a CALL of the second round. Assumes nothing.
+use Prim.Native.Nat.{_-_}
+use native.Mathlib.Nat as NatL
+use native.Mathlib.Bridge.{le-by-compare, IsLe}
+use borrow.Author.Needs.{needs}
+use Rattle.leduc_arena_layout.specs.Layout.{calledTree}
+use Rattle.leduc_arena_layout.proofs.Laying.{place-fits, room-one, room-two, two-fit, lays-two, start-few}
+use Rattle.leduc_arena_round2.proofs.called.Statement.{statement}
+use Rattle.leduc_arena_round2.proofs.called.Tie as tie
+
+add-end : tie.Need-add-end
+add-end c = place-fits (c .before .before .pre .1)
+
+end-requires : tie.Need-end-requires
+unfolding calledTree IsLe
+end-requires c κs = (c .before .before .pre .0 .2, NatL.le-trans (c .before .before .pre .0 .3) (le-by-compare 5 13 tt), room-one _ _ _ _ (c .before .before .pre .1))
+
+raised-requires : tie.Need-raised-requires
+unfolding calledTree IsLe
+raised-requires c κs = ((c .before .before .before .before .before .before .pre .0 .0, c .before .before .before .before .before .before .pre .0 .1, c .before .before .before .before .before .before .pre .0 .2, le-by-compare 1 2 tt, le-by-compare 420 420 tt, start-few (c .before .before .before .before .before .before .pre .0 .3)), room-two _ _ _ _ _ (c .before .before .before .end .ensures) (c .before .before .before .before .before .before .pre .1))
+
+choose-requires : tie.Need-choose-requires
+unfolding calledTree IsLe
+choose-requires c κs = ((le-by-compare 2 2 tt, le-by-compare 3 4 tt, c .before .before .before .before .before .before .before .before .before .before .pre .0 .0, c .before .before .before .before .before .before .before .before .before .before .pre .0 .1, le-by-compare 42 4656 tt), two-fit _ _ (c .before .before .before .before .before .before .before .end .ensures) (c .before .before .before .raised .ensures) (c .before .before .before .before .before .before .before .before .before .before .pre .1))
+
+same-length : tie.Need-same-length
+same-length c = search needs
+
+returns : tie.Need-returns
+unfolding calledTree
+returns c = lays-two _ _ (c .before .before .before .before .before .before .before .before .before .before .end .ensures) (c .before .before .before .before .before .before .raised .ensures) (c .before .before .before .before .before .before .before .before .before .before .before .before .before .pre .1) (c .before .before .choose .ensures)
+
+pub called-spec : {M : Type 1} → statement M
+called-spec = tie.close (tie.spec add-end end-requires raised-requires choose-requires same-length returns)

@@ -1,0 +1,33 @@
+-- The second round. Assumes nothing.
+use Prim.Native.Nat.{_-_}
+use native.Mathlib.Bridge.{le-by-compare, IsLe}
+use borrow.Author.Needs.{needs}
+use Rattle.leduc_arena_layout.specs.Layout.{roundTree}
+use Rattle.leduc_arena_layout.proofs.Laying.{place-fits, room-one, room-two, two-fit, lays-two, start-few}
+use Rattle.leduc_arena_round2.proofs.round.Statement.{statement}
+use Rattle.leduc_arena_round2.proofs.round.Tie as tie
+
+add-called : tie.Need-add-called
+add-called c = place-fits (c .before .before .pre .1)
+
+called-requires : tie.Need-called-requires
+unfolding roundTree
+called-requires c κs = (c .before .before .pre .0, room-one _ _ _ _ (c .before .before .pre .1))
+
+raised-requires : tie.Need-raised-requires
+unfolding roundTree IsLe
+raised-requires c κs = ((c .before .before .before .before .before .before .pre .0 .0, c .before .before .before .before .before .before .pre .0 .1, c .before .before .before .before .before .before .pre .0 .2, le-by-compare 2 2 tt, le-by-compare 336 420 tt, start-few (c .before .before .before .before .before .before .pre .0 .3)), room-two _ _ _ _ _ (c .before .before .before .called .ensures) (c .before .before .before .before .before .before .pre .1))
+
+choose-requires : tie.Need-choose-requires
+unfolding roundTree IsLe
+choose-requires c κs = ((le-by-compare 1 2 tt, le-by-compare 3 4 tt, c .before .before .before .before .before .before .before .before .before .before .pre .0 .0, c .before .before .before .before .before .before .before .before .before .before .pre .0 .1, le-by-compare 0 4656 tt), two-fit _ _ (c .before .before .before .before .before .before .before .called .ensures) (c .before .before .before .raised .ensures) (c .before .before .before .before .before .before .before .before .before .before .pre .1))
+
+same-length : tie.Need-same-length
+same-length c = search needs
+
+returns : tie.Need-returns
+unfolding roundTree
+returns c = lays-two _ _ (c .before .before .before .before .before .before .before .before .before .before .called .ensures) (c .before .before .before .before .before .before .raised .ensures) (c .before .before .before .before .before .before .before .before .before .before .before .before .before .pre .1) (c .before .before .choose .ensures)
+
+pub round-spec : {M : Type 1} → statement M
+round-spec = tie.close (tie.spec add-called called-requires raised-requires choose-requires same-length returns)

@@ -1,0 +1,92 @@
+-- Seat, card, public card and the rounds onto zeros. Assumes nothing.
+use mathlib.Core.Path.{_≡_, ap, _∙_}
+use Prim.Native.Nat.{_+_}
+use native.Mathlib.Omega.{arith}
+use lib.ListN.{length, getD, length-set}
+use Rattle.leduc_listing_positions.proofs.Spots.{key-stored, key-told}
+use Rattle.listing_records.specs.Listing.{padded}
+use borrow.Author.Needs.{needs}
+use Rattle.leduc_listing_positions.proofs.key_of.Statement.{statement}
+use Rattle.leduc_listing_positions.proofs.key_of.Tie as tie
+
+cast-key : tie.Need-cast-key
+cast-key c = search needs
+
+array-write-key : tie.Need-array-write-key
+array-write-key c = search needs
+
+array-read-key : tie.Need-array-read-key
+array-read-key c = search needs
+
+array-write-key-2 : tie.Need-array-write-key-2
+array-write-key-2 c = search needs
+
+public-byte-requires : tie.Need-public-byte-requires
+public-byte-requires c κs = search needs
+
+array-write-key-3 : tie.Need-array-write-key-3
+array-write-key-3 c = search needs
+
+cast-key-2 : tie.Need-cast-key-2
+cast-key-2 c = search needs
+
+array-write-key-4 : tie.Need-array-write-key-4
+array-write-key-4 c = search needs
+
+slice-aggregate-copy-at : tie.Need-slice-aggregate-copy-at
+slice-aggregate-copy-at c = search needs
+
+slice-aggregate-copy-at-2 : tie.Need-slice-aggregate-copy-at-2
+slice-aggregate-copy-at-2 c = search needs
+
+copy-at-requires : tie.Need-copy-at-requires
+copy-at-requires c κs = (omega (arith, c .before .before .before .before .before .before .pre .1), let len : length (c .before .before .before .before .before .before .args .s .first) ≡ 11 = search needs in omega (arith, c .before .before .before .before .before .before .pre .1))
+
+cast-key-3 : tie.Need-cast-key-3
+cast-key-3 c = search needs
+
+add-key : tie.Need-add-key
+add-key c = search needs
+
+array-write-key-5 : tie.Need-array-write-key-5
+array-write-key-5 c = search needs
+
+slice-aggregate-copy-at-3 : tie.Need-slice-aggregate-copy-at-3
+slice-aggregate-copy-at-3 c = search needs
+
+add-copy-at : tie.Need-add-copy-at
+add-copy-at c = search needs
+
+slice-aggregate-copy-at-4 : tie.Need-slice-aggregate-copy-at-4
+slice-aggregate-copy-at-4 c = search needs
+
+copy-at-requires-2 : tie.Need-copy-at-requires-2
+copy-at-requires-2 c κs = (omega (arith, c .before .before .before .before .before .before .before .before .before .before .pre .1, length-set (c .before .before .before .copy-at .last .0) (c .before .before .before .before .before .before .before .before .before .before .args .s .acted1 + 4) (c .before .before .before .before .before .before .before .before .before .before .args .s .acted2), c .before .before .before .copy-at .kept .0), let len : length (c .before .before .before .before .before .before .before .before .before .before .args .s .second) ≡ 11 = search needs in omega (arith, c .before .before .before .before .before .before .before .before .before .before .pre .1))
+
+returns : tie.Need-returns
+returns c = key-stored (c .before .before .before .before .before .before .before .before .before .before .before .before .args .seat) (getD (c .before .before .before .before .before .before .before .before .before .before .before .before .args .s .cards) (c .before .before .before .before .before .before .before .before .before .before .before .before .args .seat) 0) _ (c .before .before .before .before .before .before .before .before .before .before .before .before .args .s .acted1) (c .before .before .before .before .before .before .before .before .before .before .before .before .args .s .acted2) (c .before .before .before .before .before .before .before .before .before .before .before .before .args .s .first) (c .before .before .before .before .before .before .before .before .before .before .before .before .args .s .second) _ _ (c .before .before .before .before .before .before .before .before .before .before .before .before .pre .1) (let len : length (c .before .before .before .before .before .before .before .before .before .before .before .before .args .s .first) ≡ 11 = search needs in omega (arith, c .before .before .before .before .before .before .before .before .before .before .before .before .pre .1)) (let len : length (c .before .before .before .before .before .before .before .before .before .before .before .before .args .s .second) ≡ 11 = search needs in omega (arith, c .before .before .before .before .before .before .before .before .before .before .before .before .pre .1)) (c .before .before .before .before .before .copy-at .ensures) (c .before .copy-at2 .ensures)
+    ∙ ap (padded 13) (key-told (c .before .before .before .before .before .before .before .before .before .before .before .before .args .s .cards) _ _ (c .before .before .before .before .before .before .before .before .before .before .before .before .args .s .public) (c .before .before .before .before .before .before .before .before .before .before .before .before .args .s .dealt) (c .before .before .before .before .before .before .before .before .before .before .before .before .args .seat) _ (c .before .before .before .before .before .before .before .before .before .before .before .before .pre .0) (c .before .before .before .before .before .before .before .before .before .before .before .before .pre .3) (c .before .before .before .before .before .before .before .before .before .before .before .before .pre .2) (c .before .before .before .before .before .before .before .before .public-byte .ensures))
+
+pub key-of-spec : {M : Type 1} → statement M
+key-of-spec =
+    tie.close
+    (tie.spec
+    cast-key
+    array-write-key
+    array-read-key
+    array-write-key-2
+    public-byte-requires
+    array-write-key-3
+    cast-key-2
+    array-write-key-4
+    slice-aggregate-copy-at
+    slice-aggregate-copy-at-2
+    copy-at-requires
+    cast-key-3
+    add-key
+    array-write-key-5
+    slice-aggregate-copy-at-3
+    add-copy-at
+    slice-aggregate-copy-at-4
+    copy-at-requires-2
+    returns)

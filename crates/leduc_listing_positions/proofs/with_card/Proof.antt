@@ -1,0 +1,26 @@
+-- A card to a seat, or the public card. Assumes nothing.
+use mathlib.Core.Path.{_≡_, refl}
+use native.Mathlib.Omega.{arith}
+use Prim.Native.Nat.{_≤_}
+use lib.ListN.{length}
+use lib.Seq.{length-take-le}
+use Rattle.leduc_listing_positions.specs.Spots.{placed}
+use Rattle.leduc_listing_positions.proofs.Spots.{card-to-seat, card-for-all}
+use borrow.Author.Needs.{needs}
+use Rattle.leduc_listing_positions.proofs.with_card.Statement.{statement}
+use Rattle.leduc_listing_positions.proofs.with_card.Tie as tie
+
+element-write-next : tie.Need-element-write-next
+element-write-next c = search needs
+
+add-next : tie.Need-add-next
+add-next c = search needs
+
+returns : tie.Need-returns
+returns c = (card-to-seat (placed (c .before .args .s)) (c .before .args .s .cards) (c .before .args .s .dealt) (c .before .args .c) (c .if1 .taken) (let len : length (c .before .args .s .cards) ≡ 2 = search needs in omega arith) refl, search needs, omega arith)
+
+returns-2 : tie.Need-returns-2
+returns-2 c = (card-for-all (placed (c .before .before .before .before .args .s)) (c .before .before .before .before .args .c) (let len : length (c .before .before .before .before .args .s .cards) ≡ 2 = search needs in let w : c .before .before .before .before .args .s .dealt ≤ length (c .before .before .before .before .args .s .cards) = omega (arith, c .before .before .before .before .pre .seats) in omega (arith, c .before .before .before .if1 .left, length-take-le (c .before .before .before .before .args .s .dealt) (c .before .before .before .before .args .s .cards) w)), search needs, omega arith)
+
+pub with-card-spec : {M : Type 1} → statement M
+with-card-spec = tie.close (tie.spec element-write-next add-next returns returns-2)

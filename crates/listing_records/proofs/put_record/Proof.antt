@@ -1,0 +1,85 @@
+-- A record, part by part. Assumes nothing.
+use mathlib.Core.Path.{_∙_}
+use borrow.Author.Needs.{needs}
+use native.Mathlib.Omega.{arith}
+use Prim.Native.Nat.{_+_}
+use lib.ListN.{length-set}
+use Rattle.listing_records.proofs.Bytes.{length-two, record-stored}
+use Rattle.listing_records.proofs.put_record.Statement.{statement}
+use Rattle.listing_records.proofs.put_record.Tie as tie
+
+slice-write-out : tie.Need-slice-write-out
+slice-write-out c = search needs
+
+add-out : tie.Need-add-out
+add-out c = search needs
+
+slice-write-out-2 : tie.Need-slice-write-out-2
+slice-write-out-2 c = simp length-set (omega arith)
+
+add-copy-at : tie.Need-add-copy-at
+add-copy-at c = search needs
+
+slice-aggregate-copy-at : tie.Need-slice-aggregate-copy-at
+slice-aggregate-copy-at c = search needs
+
+copy-at-requires : tie.Need-copy-at-requires
+copy-at-requires c κs = (simp length-set (omega arith), search needs)
+
+add-out-2 : tie.Need-add-out-2
+add-out-2 c = search needs
+
+slice-write-out-3 : tie.Need-slice-write-out-3
+slice-write-out-3 c = omega (arith, c .before .before .copy-at .kept .0, length-two (c .before .before .before .before .before .before .args .out .now) (c .before .before .before .before .before .before .args .at) (c .before .before .before .before .before .before .args .seat) (c .before .before .before .before .before .before .args .at + 1) (c .before .before .before .before .before .before .args .count))
+
+add-copy-at-2 : tie.Need-add-copy-at-2
+add-copy-at-2 c = search needs
+
+slice-aggregate-copy-at-2 : tie.Need-slice-aggregate-copy-at-2
+slice-aggregate-copy-at-2 c = search needs
+
+copy-at-requires-2 : tie.Need-copy-at-requires-2
+copy-at-requires-2 c κs = (
+  omega (arith, length-set (c .before .before .before .before .copy-at .last .0) (c .before .before .before .before .before .before .before .before .args .at + 15) (c .before .before .before .before .before .before .before .before .args .public), c .before .before .before .before .copy-at .kept .0, length-two (c .before .before .before .before .before .before .before .before .args .out .now) (c .before .before .before .before .before .before .before .before .args .at) (c .before .before .before .before .before .before .before .before .args .seat) (c .before .before .before .before .before .before .before .before .args .at + 1) (c .before .before .before .before .before .before .before .before .args .count)),
+  search needs,
+)
+
+add-out-3 : tie.Need-add-out-3
+add-out-3 c = search needs
+
+slice-write-out-4 : tie.Need-slice-write-out-4
+slice-write-out-4 c = omega (arith, c .before .before .copy-at2 .kept .0, length-set (c .before .before .before .before .before .before .before .copy-at .last .0) (c .before .before .before .before .before .before .before .before .before .before .before .args .at + 15) (c .before .before .before .before .before .before .before .before .before .before .before .args .public), c .before .before .before .before .before .before .before .copy-at .kept .0, length-two (c .before .before .before .before .before .before .before .before .before .before .before .args .out .now) (c .before .before .before .before .before .before .before .before .before .before .before .args .at) (c .before .before .before .before .before .before .before .before .before .before .before .args .seat) (c .before .before .before .before .before .before .before .before .before .before .before .args .at + 1) (c .before .before .before .before .before .before .before .before .before .before .before .args .count))
+
+add-out-4 : tie.Need-add-out-4
+add-out-4 c = search needs
+
+slice-write-out-5 : tie.Need-slice-write-out-5
+slice-write-out-5 c = omega (arith, length-set (c .before .before .copy-at2 .last .0) (c .before .before .before .before .before .before .before .before .before .before .before .args .at + 22) (c .before .before .before .before .before .before .before .before .before .before .before .args .legal), c .before .before .copy-at2 .kept .0, length-set (c .before .before .before .before .before .before .before .copy-at .last .0) (c .before .before .before .before .before .before .before .before .before .before .before .args .at + 15) (c .before .before .before .before .before .before .before .before .before .before .before .args .public), c .before .before .before .before .before .before .before .copy-at .kept .0, length-two (c .before .before .before .before .before .before .before .before .before .before .before .args .out .now) (c .before .before .before .before .before .before .before .before .before .before .before .args .at) (c .before .before .before .before .before .before .before .before .before .before .before .args .seat) (c .before .before .before .before .before .before .before .before .before .before .before .args .at + 1) (c .before .before .before .before .before .before .before .before .before .before .before .args .count))
+
+same-length : tie.Need-same-length
+same-length c = length-two (c .before .before .copy-at2 .last .0) (c .before .before .before .before .before .before .before .before .before .before .before .args .at + 22) (c .before .before .before .before .before .before .before .before .before .before .before .args .legal) (c .before .before .before .before .before .before .before .before .before .before .before .args .at + 23) 0 ∙ c .before .before .copy-at2 .kept .0 ∙ length-set (c .before .before .before .before .before .before .before .copy-at .last .0) (c .before .before .before .before .before .before .before .before .before .before .before .args .at + 15) (c .before .before .before .before .before .before .before .before .before .before .before .args .public) ∙ c .before .before .before .before .before .before .before .copy-at .kept .0 ∙ length-two (c .before .before .before .before .before .before .before .before .before .before .before .args .out .now) (c .before .before .before .before .before .before .before .before .before .before .before .args .at) (c .before .before .before .before .before .before .before .before .before .before .before .args .seat) (c .before .before .before .before .before .before .before .before .before .before .before .args .at + 1) (c .before .before .before .before .before .before .before .before .before .before .before .args .count)
+
+returns : tie.Need-returns
+returns c = record-stored (c .before .before .before .before .before .before .before .before .before .before .before .args .out .now) (c .before .before .before .before .before .before .before .before .before .before .before .args .t5) (c .before .before .before .before .before .before .before .before .before .before .before .args .t7) (c .before .before .before .before .before .before .before .before .before .before .before .args .at) (c .before .before .before .before .before .before .before .before .before .before .before .args .seat) (c .before .before .before .before .before .before .before .before .before .before .before .args .count) (c .before .before .before .before .before .before .before .before .before .before .before .args .public) (c .before .before .before .before .before .before .before .before .before .before .before .args .legal) (search needs) (search needs) (search needs) _ _ (c .before .before .before .before .before .before .before .copy-at .ensures) (c .before .before .copy-at2 .ensures)
+
+pub put-record-spec : {M : Type 1} → statement M
+put-record-spec =
+    tie.close
+    (tie.spec
+    slice-write-out
+    add-out
+    slice-write-out-2
+    add-copy-at
+    slice-aggregate-copy-at
+    copy-at-requires
+    add-out-2
+    slice-write-out-3
+    add-copy-at-2
+    slice-aggregate-copy-at-2
+    copy-at-requires-2
+    add-out-3
+    slice-write-out-4
+    add-out-4
+    slice-write-out-5
+    same-length
+    returns)

@@ -1,0 +1,47 @@
+-- Two or three bytes, one after the other. Assumes nothing.
+use denote.Ref.{now}
+use borrow.Author.Needs.{needs}
+use Rattle.units_reply.proofs.write.Statement.{statement}
+use Rattle.units_reply.proofs.Laying as laying
+use Rattle.units_reply.proofs.write.Tie as tie
+
+put-requires : tie.Need-put-requires
+put-requires c κs = search needs
+
+add-put : tie.Need-add-put
+add-put c = search needs
+
+put-requires-2 : tie.Need-put-requires-2
+put-requires-2 c κs = search needs
+
+add-put-2 : tie.Need-add-put-2
+add-put-2 c = search needs
+
+put-requires-3 : tie.Need-put-requires-3
+put-requires-3 c κs = search needs
+
+same-length : tie.Need-same-length
+same-length c = search needs
+
+returns : tie.Need-returns
+returns c = laying.wrote-three (now (c .before .before .before .before .before .before .before .before .before .before .before .before .before .before .args .out)) (c .before .before .before .before .before .before .before .before .before .before .before .put .last .0) (c .before .before .before .before .before .before .before .put2 .last .0) (c .before .before .put3 .last .0) (c .before .before .before .before .before .before .before .before .before .before .before .before .before .before .args .at) (c .before .before .before .before .before .before .before .before .before .before .before .before .before .before .args .count) (c .before .before .before .before .before .before .before .before .before .before .before .before .before .before .args .x) (c .before .before .before .before .before .before .before .before .before .before .before .before .before .before .args .y) (c .before .before .before .before .before .before .before .before .before .before .before .before .before .before .args .z) (c .before .before .before .before .before .before .before .before .before .before .before .put .ensures) (c .before .before .before .before .before .before .before .put2 .ensures) (c .before .before .put3 .ensures) (c .before .before .before .before .if1 .taken)
+
+same-length-2 : tie.Need-same-length-2
+same-length-2 c = search needs
+
+returns-2 : tie.Need-returns-2
+returns-2 c = laying.wrote-two (now (c .before .before .before .before .before .before .before .before .before .before .args .out)) (c .before .before .before .before .before .before .before .put .last .0) (c .before .before .before .put2 .last .0) (c .before .before .before .before .before .before .before .before .before .before .args .at) (c .before .before .before .before .before .before .before .before .before .before .args .count) (c .before .before .before .before .before .before .before .before .before .before .args .x) (c .before .before .before .before .before .before .before .before .before .before .args .y) (c .before .before .before .before .before .before .before .before .before .before .args .z) (c .before .before .before .before .before .before .before .put .ensures) (c .before .before .before .put2 .ensures) (c .if1 .left)
+
+pub write-spec : {M : Type 1} → statement M
+write-spec =
+    tie.close
+    (tie.spec
+    put-requires
+    add-put
+    put-requires-2
+    add-put-2
+    put-requires-3
+    same-length
+    returns
+    same-length-2
+    returns-2)

@@ -1,0 +1,1433 @@
+-- Value and choice, which call each other: the remaining depth falls. Assumes nothing.
+use mathlib.Core.Path.{_≡_, refl, sym, ap, _∙_, subst}
+use Prim.Native.Nat.{ℕ, _+_, _-_, _*_, _%_, _≤_, _<_}
+use native.Mathlib.Omega.{arith}
+use lib.Dec.{ltb}
+use lib.ListN.{length}
+use denote.Ref.{now}
+use borrow.Author.Needs.{needs}
+use Rattle.arena.specs.Words.{actionsOf, laterOf}
+use Rattle.argmax.proofs.Past.{past-few}
+use Rattle.units_values.specs.Valued.{Chosen, ValuedAll}
+use Rattle.units_values.proofs.Valuing as valuing
+use Rattle.units_values.proofs.Choosing as choosing
+use borrow.Fn.Kinds.{In}
+use borrow.Fn.PlainCycle.{Measures, is, falls, and}
+use Rattle.units_values.proofs.values.below.Reads as below
+use Rattle.units_values.proofs.values.below.Kinds as below-kinds
+use Rattle.units_values.proofs.values.+below+choose+own+row+total+value.Lts-below as below-lts
+use Rattle.units_values.proofs.values.choose.Reads as choose
+use Rattle.units_values.proofs.values.choose.Kinds as choose-kinds
+use Rattle.units_values.proofs.values.+below+choose+own+row+total+value.Lts-choose as choose-lts
+use Rattle.units_values.proofs.values.own.Reads as own
+use Rattle.units_values.proofs.values.own.Kinds as own-kinds
+use Rattle.units_values.proofs.values.+below+choose+own+row+total+value.Lts-own as own-lts
+use Rattle.units_values.proofs.values.row.Reads as row
+use Rattle.units_values.proofs.values.row.Kinds as row-kinds
+use Rattle.units_values.proofs.values.+below+choose+own+row+total+value.Lts-row as row-lts
+use Rattle.units_values.proofs.values.total.Reads as total
+use Rattle.units_values.proofs.values.total.Kinds as total-kinds
+use Rattle.units_values.proofs.values.+below+choose+own+row+total+value.Lts-total as total-lts
+use Rattle.units_values.proofs.values.value.Reads as value
+use Rattle.units_values.proofs.values.value.Kinds as value-kinds
+use Rattle.units_values.proofs.values.+below+choose+own+row+total+value.Lts-value as value-lts
+use Rattle.arena.proofs.walk.behind.Reads as behind-reads
+use Rattle.arena.proofs.words.actions.Reads as actions-reads
+use Rattle.arena.proofs.words.actor.Reads as actor-reads
+use Rattle.arena.proofs.words.kind.Reads as kind-reads
+use Rattle.arena.proofs.words.later.Reads as later-reads
+use Rattle.arena.proofs.words.next.Reads as next-reads
+use Rattle.arena.proofs.words.put.Reads as put-reads
+use Rattle.arena.proofs.words.set.Reads as set-reads
+use Rattle.arena.proofs.words.word.Reads as word-reads
+use Rattle.argmax.proofs.topmost.past.Reads as past-reads
+use Rattle.argmax.proofs.topmost.start.Reads as start-reads
+use Rattle.units_values.proofs.values.ended.Reads as ended-reads
+use Rattle.std.proofs.num.wrapping_add_u64.Reads as wrapping-add-u64-reads
+use Rattle.arena_walks.proofs.child.Reads as child-reads
+use Rattle.units_values.proofs.values.+below+choose+own+row+total+value.{statement}
+use Rattle.units_values.proofs.values.+below+choose+own+row+total+value.Tie.{close}
+
+abbrev μ-below : Measures 1 below-kinds.ps ℕ
+μ-below κs a = 5 * a .1 .1 .1 .0 + 1
+
+abbrev μ-choose : Measures 1 choose-kinds.ps ℕ
+μ-choose κs a = 5 * a .1 .1 .1 .1 .0 + 3
+
+abbrev μ-own : Measures 1 own-kinds.ps ℕ
+μ-own κs a = 5 * a .1 .1 .1 .1 .0 + 4
+
+abbrev μ-row : Measures 1 row-kinds.ps ℕ
+μ-row κs a = 5 * a .1 .1 .1 .1 .0 + 2
+
+abbrev μ-total : Measures 1 total-kinds.ps ℕ
+μ-total κs a = 5 * a .1 .1 .1 .1 .0 + 2
+
+abbrev μ-value : Measures 1 value-kinds.ps ℕ
+μ-value κs a = 5 * a .1 .1 .1 .0
+
+abbrev below-at : ℕ → In 1 below-kinds.ps
+below-at t = and 1 below-kinds.ps (is 1 below-kinds.ps μ-below t) below.Pre
+
+abbrev below-below : ℕ → In 1 below-kinds.ps
+below-below t = and 1 below-kinds.ps (falls 1 below-kinds.ps _<_ μ-below t) below.Pre
+
+abbrev choose-at : ℕ → In 1 choose-kinds.ps
+choose-at t = and 1 choose-kinds.ps (is 1 choose-kinds.ps μ-choose t) choose.Pre
+
+abbrev choose-below : ℕ → In 1 choose-kinds.ps
+choose-below t = and 1 choose-kinds.ps (falls 1 choose-kinds.ps _<_ μ-choose t) choose.Pre
+
+abbrev own-at : ℕ → In 1 own-kinds.ps
+own-at t = and 1 own-kinds.ps (is 1 own-kinds.ps μ-own t) own.Pre
+
+abbrev own-below : ℕ → In 1 own-kinds.ps
+own-below t = and 1 own-kinds.ps (falls 1 own-kinds.ps _<_ μ-own t) own.Pre
+
+abbrev row-at : ℕ → In 1 row-kinds.ps
+row-at t = and 1 row-kinds.ps (is 1 row-kinds.ps μ-row t) row.Pre
+
+abbrev row-below : ℕ → In 1 row-kinds.ps
+row-below t = and 1 row-kinds.ps (falls 1 row-kinds.ps _<_ μ-row t) row.Pre
+
+abbrev total-at : ℕ → In 1 total-kinds.ps
+total-at t = and 1 total-kinds.ps (is 1 total-kinds.ps μ-total t) total.Pre
+
+abbrev total-below : ℕ → In 1 total-kinds.ps
+total-below t = and 1 total-kinds.ps (falls 1 total-kinds.ps _<_ μ-total t) total.Pre
+
+abbrev value-at : ℕ → In 1 value-kinds.ps
+value-at t = and 1 value-kinds.ps (is 1 value-kinds.ps μ-value t) value.Pre
+
+abbrev value-below : ℕ → In 1 value-kinds.ps
+value-below t = and 1 value-kinds.ps (falls 1 value-kinds.ps _<_ μ-value t) value.Pre
+
+below-word-requires : (t : ℕ) → below-lts.Need-word-requires (
+  word-reads.Asked,
+  word-reads.Learnt,
+  kind-reads.Asked,
+  kind-reads.Learnt,
+  ended-reads.Asked,
+  ended-reads.Learnt,
+  value-below t,
+  value.Post,
+) (below-at t) below.Post
+below-word-requires t c κs = search needs
+
+below-kind-requires : (t : ℕ) → below-lts.Need-kind-requires (
+  word-reads.Asked,
+  word-reads.Learnt,
+  kind-reads.Asked,
+  kind-reads.Learnt,
+  ended-reads.Asked,
+  ended-reads.Learnt,
+  value-below t,
+  value.Post,
+) (below-at t) below.Post
+below-kind-requires t c κs = search needs
+
+below-ended-requires : (t : ℕ) → below-lts.Need-ended-requires (
+  word-reads.Asked,
+  word-reads.Learnt,
+  kind-reads.Asked,
+  kind-reads.Learnt,
+  ended-reads.Asked,
+  ended-reads.Learnt,
+  value-below t,
+  value.Post,
+) (below-at t) below.Post
+below-ended-requires t c κs = (c .before .before .before .before .before .before .pre .1 .seat, omega (arith, c .before .before .before .before .before .before .pre .1 .place, c .before .before .before .before .before .before .pre .1 .units))
+
+below-same-length : (t : ℕ) → below-lts.Need-same-length (
+  word-reads.Asked,
+  word-reads.Learnt,
+  kind-reads.Asked,
+  kind-reads.Learnt,
+  ended-reads.Asked,
+  ended-reads.Learnt,
+  value-below t,
+  value.Post,
+) (below-at t) below.Post
+below-same-length t c = search needs
+
+below-returns : (t : ℕ) → below-lts.Need-returns (
+  word-reads.Asked,
+  word-reads.Learnt,
+  kind-reads.Asked,
+  kind-reads.Learnt,
+  ended-reads.Asked,
+  ended-reads.Learnt,
+  value-below t,
+  value.Post,
+) (below-at t) below.Post
+below-returns t c = valuing.value-ended (c .before .before .before .before .before .before .before .args .seat) (c .before .before .before .before .before .before .before .args .depth) (c .before .before .before .before .before .before .before .args .heads) (c .before .before .before .before .before .before .before .args .units) (c .before .before .before .before .before .before .before .args .kept) (c .before .before .before .before .before .before .before .args .a) (now (c .before .before .before .before .before .before .before .args .w)) (c .before .before .before .before .word .result) (c .before .before .before .before .word .ensures) _ (sym (c .before .before .before .kind .ensures) ∙ c .before .before .if1 .taken) (c .ended .ensures)
+
+below-value-requires : (t : ℕ) → below-lts.Need-value-requires (
+  word-reads.Asked,
+  word-reads.Learnt,
+  kind-reads.Asked,
+  kind-reads.Learnt,
+  ended-reads.Asked,
+  ended-reads.Learnt,
+  value-below t,
+  value.Post,
+) (below-at t) below.Post
+below-value-requires t c κs = (omega (arith, c .before .before .before .before .before .before .pre .0), c .before .before .before .before .before .before .pre .1)
+
+below-same-length-2 : (t : ℕ) → below-lts.Need-same-length-2 (
+  word-reads.Asked,
+  word-reads.Learnt,
+  kind-reads.Asked,
+  kind-reads.Learnt,
+  ended-reads.Asked,
+  ended-reads.Learnt,
+  value-below t,
+  value.Post,
+) (below-at t) below.Post
+below-same-length-2 t c = search needs
+
+below-returns-2 : (t : ℕ) → below-lts.Need-returns-2 (
+  word-reads.Asked,
+  word-reads.Learnt,
+  kind-reads.Asked,
+  kind-reads.Learnt,
+  ended-reads.Asked,
+  ended-reads.Learnt,
+  value-below t,
+  value.Post,
+) (below-at t) below.Post
+below-returns-2 t c = c .before .before .value .ensures
+
+abbrev choose-Inv-loop : choose-lts.InvT-loop
+choose-Inv-loop w₀ first count seat depth heads units kept known top₀ action₀ w top action = choosing.Led seat depth heads units kept first count w₀ w (top .action) (top .sum) action × (top .action ≤ action - 1) × (action ≤ count) × (length w ≡ length w₀)
+
+abbrev choose-μ-loop : choose-lts.MeasureT-loop
+choose-μ-loop w₀ first count seat depth heads units kept known top₀ action₀ w top action = count - action
+
+choose-add-word : (t : ℕ) → choose-lts.Need-add-word (
+  word-reads.Asked,
+  word-reads.Learnt,
+  start-reads.Asked,
+  start-reads.Learnt,
+  total-below t,
+  total.Post,
+  past-reads.Asked,
+  past-reads.Learnt,
+  put-reads.Asked,
+  put-reads.Learnt,
+) (choose-at t) choose.Post choose-Inv-loop choose-μ-loop
+choose-add-word t c = record { fits = omega (arith, c .before .before .pre .1 .kept, c .before .before .pre .1 .place) }
+
+choose-word-requires : (t : ℕ) → choose-lts.Need-word-requires (
+  word-reads.Asked,
+  word-reads.Learnt,
+  start-reads.Asked,
+  start-reads.Learnt,
+  total-below t,
+  total.Post,
+  past-reads.Asked,
+  past-reads.Learnt,
+  put-reads.Asked,
+  put-reads.Learnt,
+) (choose-at t) choose.Post choose-Inv-loop choose-μ-loop
+choose-word-requires t c κs = search needs
+
+choose-sub-result : (t : ℕ) → choose-lts.Need-sub-result (
+  word-reads.Asked,
+  word-reads.Learnt,
+  start-reads.Asked,
+  start-reads.Learnt,
+  total-below t,
+  total.Post,
+  past-reads.Asked,
+  past-reads.Learnt,
+  put-reads.Asked,
+  put-reads.Learnt,
+) (choose-at t) choose.Post choose-Inv-loop choose-μ-loop
+choose-sub-result t c = omega (arith, c .if1 .taken)
+
+choose-same-length : (t : ℕ) → choose-lts.Need-same-length (
+  word-reads.Asked,
+  word-reads.Learnt,
+  start-reads.Asked,
+  start-reads.Learnt,
+  total-below t,
+  total.Post,
+  past-reads.Asked,
+  past-reads.Learnt,
+  put-reads.Asked,
+  put-reads.Learnt,
+) (choose-at t) choose.Post choose-Inv-loop choose-μ-loop
+choose-same-length t c = search needs
+
+choose-returns : (t : ℕ) → choose-lts.Need-returns (
+  word-reads.Asked,
+  word-reads.Learnt,
+  start-reads.Asked,
+  start-reads.Learnt,
+  total-below t,
+  total.Post,
+  past-reads.Asked,
+  past-reads.Learnt,
+  put-reads.Asked,
+  put-reads.Learnt,
+) (choose-at t) choose.Post choose-Inv-loop choose-μ-loop
+choose-returns t c = choosing.chosen-known (c .before .before .before .before .args .seat) (c .before .before .before .before .args .depth) (c .before .before .before .before .args .heads) (c .before .before .before .before .args .units) (c .before .before .before .before .args .kept) (c .before .before .before .before .args .first) (c .before .before .before .before .args .count) (now (c .before .before .before .before .args .w)) (c .before .word .result) _ (c .before .word .ensures) (c .if1 .taken) refl
+
+choose-start-requires : (t : ℕ) → choose-lts.Need-start-requires (
+  word-reads.Asked,
+  word-reads.Learnt,
+  start-reads.Asked,
+  start-reads.Learnt,
+  total-below t,
+  total.Post,
+  past-reads.Asked,
+  past-reads.Learnt,
+  put-reads.Asked,
+  put-reads.Learnt,
+) (choose-at t) choose.Post choose-Inv-loop choose-μ-loop
+choose-start-requires t c κs = search needs
+
+choose-loop-holds : (t : ℕ) → choose-lts.Need-loop-holds (
+  word-reads.Asked,
+  word-reads.Learnt,
+  start-reads.Asked,
+  start-reads.Learnt,
+  total-below t,
+  total.Post,
+  past-reads.Asked,
+  past-reads.Learnt,
+  put-reads.Asked,
+  put-reads.Learnt,
+) (choose-at t) choose.Post choose-Inv-loop choose-μ-loop
+choose-loop-holds t c = (choosing.led-start (c .before .before .before .before .before .args .seat) (c .before .before .before .before .before .args .depth) (c .before .before .before .before .before .args .heads) (c .before .before .before .before .before .args .units) (c .before .before .before .before .before .args .kept) (c .before .before .before .before .before .args .first) (c .before .before .before .before .before .args .count) (now (c .before .before .before .before .before .args .w)) _ _ (c .start .ensures .0) (c .start .ensures .1), omega (arith, c .start .ensures .0), omega arith, refl)
+
+choose-total-requires : (t : ℕ) → choose-lts.Need-total-requires (
+  word-reads.Asked,
+  word-reads.Learnt,
+  start-reads.Asked,
+  start-reads.Learnt,
+  total-below t,
+  total.Post,
+  past-reads.Asked,
+  past-reads.Learnt,
+  put-reads.Asked,
+  put-reads.Learnt,
+) (choose-at t) choose.Post choose-Inv-loop choose-μ-loop
+choose-total-requires t c κs = (omega (arith, c .before .before .before .before .before .before .before .before .pre .0), c .before .before .before .before .before .before .before .before .pre .1)
+
+choose-past-requires : (t : ℕ) → choose-lts.Need-past-requires (
+  word-reads.Asked,
+  word-reads.Learnt,
+  start-reads.Asked,
+  start-reads.Learnt,
+  total-below t,
+  total.Post,
+  past-reads.Asked,
+  past-reads.Learnt,
+  put-reads.Asked,
+  put-reads.Learnt,
+) (choose-at t) choose.Post choose-Inv-loop choose-μ-loop
+choose-past-requires t c κs = search needs
+
+choose-add-action : (t : ℕ) → choose-lts.Need-add-action (
+  word-reads.Asked,
+  word-reads.Learnt,
+  start-reads.Asked,
+  start-reads.Learnt,
+  total-below t,
+  total.Post,
+  past-reads.Asked,
+  past-reads.Learnt,
+  put-reads.Asked,
+  put-reads.Learnt,
+) (choose-at t) choose.Post choose-Inv-loop choose-μ-loop
+choose-add-action t c = record { fits = omega (arith, c .before .before .before .before .before .loop-test .taken) }
+
+choose-loop-less : (t : ℕ) → choose-lts.Need-loop-less (
+  word-reads.Asked,
+  word-reads.Learnt,
+  start-reads.Asked,
+  start-reads.Learnt,
+  total-below t,
+  total.Post,
+  past-reads.Asked,
+  past-reads.Learnt,
+  put-reads.Asked,
+  put-reads.Learnt,
+) (choose-at t) choose.Post choose-Inv-loop choose-μ-loop
+choose-loop-less t c = omega (arith, c .before .before .before .before .before .loop-test .taken)
+
+choose-loop-again : (t : ℕ) → choose-lts.Need-loop-again (
+  word-reads.Asked,
+  word-reads.Learnt,
+  start-reads.Asked,
+  start-reads.Learnt,
+  total-below t,
+  total.Post,
+  past-reads.Asked,
+  past-reads.Learnt,
+  put-reads.Asked,
+  put-reads.Learnt,
+) (choose-at t) choose.Post choose-Inv-loop choose-μ-loop
+choose-loop-again t c = (choosing.led-more (c .before .before .before .before .before .before .before .before .before .before .before .before .args .seat) (c .before .before .before .before .before .before .before .before .before .before .before .before .args .depth) (c .before .before .before .before .before .before .before .before .before .before .before .before .args .heads) (c .before .before .before .before .before .before .before .before .before .before .before .before .args .units) (c .before .before .before .before .before .before .before .before .before .before .before .before .args .kept) (c .before .before .before .before .before .before .before .before .before .before .before .before .args .first) (c .before .before .before .before .before .before .before .before .before .before .before .before .args .count) (now (c .before .before .before .before .before .before .before .before .before .before .before .before .args .w)) (c .before .before .before .before .before .before .loop .w) (c .before .before .before .total .last .0) (c .before .before .before .before .before .before .loop .top .action) (c .before .before .before .before .before .before .loop .top .sum) (c .before .before .before .before .before .before .loop .action) (c .before .before .before .total .result) (c .past .result .action) (c .past .result .sum) (c .before .before .before .before .before .before .loop .inv .0) (c .before .before .before .before .before .loop-test .taken) (c .before .before .before .total .ensures) (c .past .ensures .0) (c .past .ensures .1), omega (arith, c .past .ensures .0, past-few (ltb (c .before .before .before .before .before .before .loop .top .sum) (c .before .before .before .total .result)) (c .before .before .before .before .before .before .loop .action) (c .before .before .before .before .before .before .loop .top .action) (c .before .before .before .before .before .before .loop .inv .1)), omega (arith, c .before .before .before .before .before .loop-test .taken), omega (arith, c .before .before .before .total .kept .0, c .before .before .before .before .before .before .loop .inv .3))
+
+choose-add-put : (t : ℕ) → choose-lts.Need-add-put (
+  word-reads.Asked,
+  word-reads.Learnt,
+  start-reads.Asked,
+  start-reads.Learnt,
+  total-below t,
+  total.Post,
+  past-reads.Asked,
+  past-reads.Learnt,
+  put-reads.Asked,
+  put-reads.Learnt,
+) (choose-at t) choose.Post choose-Inv-loop choose-μ-loop
+choose-add-put t c = record { fits = omega (arith, c .before .before .before .before .before .before .before .before .pre .1 .kept, c .before .before .before .before .before .before .before .before .pre .1 .place) }
+
+choose-add-put-2 : (t : ℕ) → choose-lts.Need-add-put-2 (
+  word-reads.Asked,
+  word-reads.Learnt,
+  start-reads.Asked,
+  start-reads.Learnt,
+  total-below t,
+  total.Post,
+  past-reads.Asked,
+  past-reads.Learnt,
+  put-reads.Asked,
+  put-reads.Learnt,
+) (choose-at t) choose.Post choose-Inv-loop choose-μ-loop
+choose-add-put-2 t c = record { fits = omega (arith, c .before .before .loop .inv .1, c .before .before .loop .inv .2, c .before .loop-test .left) }
+
+choose-put-requires : (t : ℕ) → choose-lts.Need-put-requires (
+  word-reads.Asked,
+  word-reads.Learnt,
+  start-reads.Asked,
+  start-reads.Learnt,
+  total-below t,
+  total.Post,
+  past-reads.Asked,
+  past-reads.Learnt,
+  put-reads.Asked,
+  put-reads.Learnt,
+) (choose-at t) choose.Post choose-Inv-loop choose-μ-loop
+choose-put-requires t c κs = search needs
+
+choose-same-length-2 : (t : ℕ) → choose-lts.Need-same-length-2 (
+  word-reads.Asked,
+  word-reads.Learnt,
+  start-reads.Asked,
+  start-reads.Learnt,
+  total-below t,
+  total.Post,
+  past-reads.Asked,
+  past-reads.Learnt,
+  put-reads.Asked,
+  put-reads.Learnt,
+) (choose-at t) choose.Post choose-Inv-loop choose-μ-loop
+choose-same-length-2 t c = search needs
+
+choose-returns-2 : (t : ℕ) → choose-lts.Need-returns-2 (
+  word-reads.Asked,
+  word-reads.Learnt,
+  start-reads.Asked,
+  start-reads.Learnt,
+  total-below t,
+  total.Post,
+  past-reads.Asked,
+  past-reads.Learnt,
+  put-reads.Asked,
+  put-reads.Learnt,
+) (choose-at t) choose.Post choose-Inv-loop choose-μ-loop
+choose-returns-2 t c = choosing.led-end (c .before .before .before .before .before .before .before .before .before .before .before .args .seat) (c .before .before .before .before .before .before .before .before .before .before .before .args .depth) (c .before .before .before .before .before .before .before .before .before .before .before .args .heads) (c .before .before .before .before .before .before .before .before .before .before .before .args .units) (c .before .before .before .before .before .before .before .before .before .before .before .args .kept) (c .before .before .before .before .before .before .before .before .before .before .before .args .first) (c .before .before .before .before .before .before .before .before .before .before .before .args .count) (now (c .before .before .before .before .before .before .before .before .before .before .before .args .w)) (c .before .before .before .before .before .loop .w) (c .before .before .put .last .0) (c .before .before .before .before .before .loop .top .action) (c .before .before .before .before .before .loop .top .sum) (c .before .before .before .before .before .loop .action) (c .before .before .before .before .before .loop .inv .0) (omega (arith, c .before .before .before .before .loop-test .left)) (c .before .before .put .ensures)
+
+own-set-requires : (t : ℕ) → own-lts.Need-set-requires (
+  set-reads.Asked,
+  set-reads.Learnt,
+  actions-reads.Asked,
+  actions-reads.Learnt,
+  choose-below t,
+  choose.Post,
+  child-reads.Asked,
+  child-reads.Learnt,
+  below-below t,
+  below.Post,
+) (own-at t) own.Post
+own-set-requires t c κs = search needs
+
+own-actions-requires : (t : ℕ) → own-lts.Need-actions-requires (
+  set-reads.Asked,
+  set-reads.Learnt,
+  actions-reads.Asked,
+  actions-reads.Learnt,
+  choose-below t,
+  choose.Post,
+  child-reads.Asked,
+  child-reads.Learnt,
+  below-below t,
+  below.Post,
+) (own-at t) own.Post
+own-actions-requires t c κs = search needs
+
+own-choose-requires : (t : ℕ) → own-lts.Need-choose-requires (
+  set-reads.Asked,
+  set-reads.Learnt,
+  actions-reads.Asked,
+  actions-reads.Learnt,
+  choose-below t,
+  choose.Post,
+  child-reads.Asked,
+  child-reads.Learnt,
+  below-below t,
+  below.Post,
+) (own-at t) own.Post
+own-choose-requires t c κs = (omega (arith, c .before .before .before .before .pre .0), valuing.walk-at (c .before .before .before .before .args .a + 1) (c .before .before .before .before .args .seat) (c .before .before .before .before .args .depth) (c .before .before .before .before .args .heads) (c .before .before .before .before .args .units) (c .before .before .before .before .args .kept) (c .before .before .before .before .pre .1) (c .before .set .result) (c .before .before .before .before .args .depth) (omega arith) (omega (arith, c .before .set .ensures, c .before .before .before .before .pre .1 .shallow)))
+
+own-child-requires : (t : ℕ) → own-lts.Need-child-requires (
+  set-reads.Asked,
+  set-reads.Learnt,
+  actions-reads.Asked,
+  actions-reads.Learnt,
+  choose-below t,
+  choose.Post,
+  child-reads.Asked,
+  child-reads.Learnt,
+  below-below t,
+  below.Post,
+) (own-at t) own.Post
+own-child-requires t c κs = omega (arith, c .before .before .before .before .before .before .before .before .pre .1 .place)
+
+own-below-requires : (t : ℕ) → own-lts.Need-below-requires (
+  set-reads.Asked,
+  set-reads.Learnt,
+  actions-reads.Asked,
+  actions-reads.Learnt,
+  choose-below t,
+  choose.Post,
+  child-reads.Asked,
+  child-reads.Learnt,
+  below-below t,
+  below.Post,
+) (own-at t) own.Post
+own-below-requires t c κs = (omega (arith, c .before .before .before .before .before .before .before .before .before .before .pre .0), valuing.walk-at (c .before .before .before .before .before .before .before .before .before .before .args .a + 1) (c .before .before .before .before .before .before .before .before .before .before .args .seat) (c .before .before .before .before .before .before .before .before .before .before .args .depth) (c .before .before .before .before .before .before .before .before .before .before .args .heads) (c .before .before .before .before .before .before .before .before .before .before .args .units) (c .before .before .before .before .before .before .before .before .before .before .args .kept) (c .before .before .before .before .before .before .before .before .before .before .pre .1) (c .before .child .result) (c .before .before .before .before .before .before .before .before .before .before .args .depth) (omega arith) (omega (arith, c .before .child .ensures .near, c .before .before .before .before .before .before .before .before .before .before .pre .1 .shallow)))
+
+own-same-length : (t : ℕ) → own-lts.Need-same-length (
+  set-reads.Asked,
+  set-reads.Learnt,
+  actions-reads.Asked,
+  actions-reads.Learnt,
+  choose-below t,
+  choose.Post,
+  child-reads.Asked,
+  child-reads.Learnt,
+  below-below t,
+  below.Post,
+) (own-at t) own.Post
+own-same-length t c = search needs
+
+own-returns : (t : ℕ) → own-lts.Need-returns (
+  set-reads.Asked,
+  set-reads.Learnt,
+  actions-reads.Asked,
+  actions-reads.Learnt,
+  choose-below t,
+  choose.Post,
+  child-reads.Asked,
+  child-reads.Learnt,
+  below-below t,
+  below.Post,
+) (own-at t) own.Post
+own-returns t c = valuing.own-is (c .before .before .before .before .before .before .before .before .before .before .before .before .before .args .seat) (c .before .before .before .before .before .before .before .before .before .before .before .before .before .args .depth) (c .before .before .before .before .before .before .before .before .before .before .before .before .before .args .heads) (c .before .before .before .before .before .before .before .before .before .before .before .before .before .args .units) (c .before .before .before .before .before .before .before .before .before .before .before .before .before .args .kept) (c .before .before .before .before .before .before .before .before .before .before .before .before .before .args .a) (c .before .before .before .before .before .before .before .before .before .before .before .before .before .args .x) (now (c .before .before .before .before .before .before .before .before .before .before .before .before .before .args .w)) (c .before .before .before .before .before .before .before .before .choose .last .0) (c .before .before .below .last .0) (c .before .before .before .before .before .before .before .before .choose .result) (c .before .before .before .before .child .result) (c .before .before .below .result) (subst (λ e. Chosen (c .before .before .before .before .before .before .before .before .before .before .before .before .before .args .seat) (c .before .before .before .before .before .before .before .before .before .before .before .before .before .args .depth) (c .before .before .before .before .before .before .before .before .before .before .before .before .before .args .heads) (c .before .before .before .before .before .before .before .before .before .before .before .before .before .args .units) (c .before .before .before .before .before .before .before .before .before .before .before .before .before .args .kept) e (actionsOf (c .before .before .before .before .before .before .before .before .before .before .before .before .before .args .x)) (now (c .before .before .before .before .before .before .before .before .before .before .before .before .before .args .w)) (c .before .before .before .before .before .before .before .before .choose .last .0) (c .before .before .before .before .before .before .before .before .choose .result)) (c .before .before .before .before .before .before .before .before .before .before .set .ensures) (subst (λ n. Chosen (c .before .before .before .before .before .before .before .before .before .before .before .before .before .args .seat) (c .before .before .before .before .before .before .before .before .before .before .before .before .before .args .depth) (c .before .before .before .before .before .before .before .before .before .before .before .before .before .args .heads) (c .before .before .before .before .before .before .before .before .before .before .before .before .before .args .units) (c .before .before .before .before .before .before .before .before .before .before .before .before .before .args .kept) (c .before .before .before .before .before .before .before .before .before .before .set .result) n (now (c .before .before .before .before .before .before .before .before .before .before .before .before .before .args .w)) (c .before .before .before .before .before .before .before .before .choose .last .0) (c .before .before .before .before .before .before .before .before .choose .result)) (c .before .before .before .before .before .before .before .before .before .actions .ensures) (c .before .before .before .before .before .before .before .before .choose .ensures))) (c .before .before .before .before .child .ensures) (c .before .before .below .ensures)
+
+abbrev row-Inv-loop : row-lts.InvT-loop
+row-Inv-loop w₀ a end seat depth heads units kept sum₀ at₀ w sum at = valuing.Along seat depth heads units kept a end w₀ w at sum × (at + depth < 8388608) × (length w ≡ length w₀)
+
+abbrev row-μ-loop : row-lts.MeasureT-loop
+row-μ-loop w₀ a end seat depth heads units kept sum₀ at₀ w sum at = end - at
+
+row-loop-holds : (t : ℕ) → row-lts.Need-loop-holds (
+  below-below t,
+  below.Post,
+  wrapping-add-u64-reads.Asked,
+  wrapping-add-u64-reads.Learnt,
+  behind-reads.Asked,
+  behind-reads.Learnt,
+) (row-at t) row.Post row-Inv-loop row-μ-loop
+row-loop-holds t c = (valuing.along-start (c .before .args .seat) (c .before .args .depth) (c .before .args .heads) (c .before .args .units) (c .before .args .kept) (c .before .args .a) (c .before .args .end) (now (c .before .args .w)), c .before .pre .1 .place, refl)
+
+row-below-requires : (t : ℕ) → row-lts.Need-below-requires (
+  below-below t,
+  below.Post,
+  wrapping-add-u64-reads.Asked,
+  wrapping-add-u64-reads.Learnt,
+  behind-reads.Asked,
+  behind-reads.Learnt,
+) (row-at t) row.Post row-Inv-loop row-μ-loop
+row-below-requires t c κs = (omega (arith, c .before .before .before .before .pre .0), valuing.walk-at (c .before .before .before .before .args .a) (c .before .before .before .before .args .seat) (c .before .before .before .before .args .depth) (c .before .before .before .before .args .heads) (c .before .before .before .before .args .units) (c .before .before .before .before .args .kept) (c .before .before .before .before .pre .1) (c .before .before .loop .at) (c .before .before .before .before .args .depth) (omega arith) (c .before .before .loop .inv .1))
+
+row-wrapping-add-u64-requires : (t : ℕ) → row-lts.Need-wrapping-add-u64-requires (
+  below-below t,
+  below.Post,
+  wrapping-add-u64-reads.Asked,
+  wrapping-add-u64-reads.Learnt,
+  behind-reads.Asked,
+  behind-reads.Learnt,
+) (row-at t) row.Post row-Inv-loop row-μ-loop
+row-wrapping-add-u64-requires t c κs = search needs
+
+row-behind-requires : (t : ℕ) → row-lts.Need-behind-requires (
+  below-below t,
+  below.Post,
+  wrapping-add-u64-reads.Asked,
+  wrapping-add-u64-reads.Learnt,
+  behind-reads.Asked,
+  behind-reads.Learnt,
+) (row-at t) row.Post row-Inv-loop row-μ-loop
+row-behind-requires t c κs = omega (arith, c .before .before .before .before .before .before .before .loop .inv .1)
+
+row-same-length : (t : ℕ) → row-lts.Need-same-length (
+  below-below t,
+  below.Post,
+  wrapping-add-u64-reads.Asked,
+  wrapping-add-u64-reads.Learnt,
+  behind-reads.Asked,
+  behind-reads.Learnt,
+) (row-at t) row.Post row-Inv-loop row-μ-loop
+row-same-length t c = search needs
+
+row-returns : (t : ℕ) → row-lts.Need-returns (
+  below-below t,
+  below.Post,
+  wrapping-add-u64-reads.Asked,
+  wrapping-add-u64-reads.Learnt,
+  behind-reads.Asked,
+  behind-reads.Learnt,
+) (row-at t) row.Post row-Inv-loop row-μ-loop
+row-returns t c = valuing.along-stuck (c .before .before .before .before .before .before .before .before .before .before .before .args .seat) (c .before .before .before .before .before .before .before .before .before .before .before .args .depth) (c .before .before .before .before .before .before .before .before .before .before .before .args .heads) (c .before .before .before .before .before .before .before .before .before .before .before .args .units) (c .before .before .before .before .before .before .before .before .before .before .before .args .kept) (c .before .before .before .before .before .before .before .before .before .before .before .args .a) (c .before .before .before .before .before .before .before .before .before .before .before .args .end) (now (c .before .before .before .before .before .before .before .before .before .before .before .args .w)) (c .before .before .before .before .before .before .before .before .before .loop .w) (c .before .before .before .before .before .before .below .last .0) (c .before .before .before .before .before .before .before .before .before .loop .at) (c .before .before .before .before .before .before .before .before .before .loop .sum) (c .before .before .before .before .before .before .below .result) (c .before .before .before .wrapping-add-u64 .result) (c .before .behind .result) (c .before .before .before .before .before .before .before .before .before .loop .inv .0) (c .before .before .before .before .before .before .before .before .loop-test .taken) (c .before .before .before .before .before .before .below .ensures) (c .before .behind .ensures) (c .if1 .taken)
+
+row-loop-less : (t : ℕ) → row-lts.Need-loop-less (
+  below-below t,
+  below.Post,
+  wrapping-add-u64-reads.Asked,
+  wrapping-add-u64-reads.Learnt,
+  behind-reads.Asked,
+  behind-reads.Learnt,
+) (row-at t) row.Post row-Inv-loop row-μ-loop
+row-loop-less t c = omega (arith, c .before .before .before .before .before .before .before .before .loop-test .taken, c .if1 .left)
+
+row-loop-again : (t : ℕ) → row-lts.Need-loop-again (
+  below-below t,
+  below.Post,
+  wrapping-add-u64-reads.Asked,
+  wrapping-add-u64-reads.Learnt,
+  behind-reads.Asked,
+  behind-reads.Learnt,
+) (row-at t) row.Post row-Inv-loop row-μ-loop
+row-loop-again t c = (valuing.along-more (c .before .before .before .before .before .before .before .before .before .before .before .args .seat) (c .before .before .before .before .before .before .before .before .before .before .before .args .depth) (c .before .before .before .before .before .before .before .before .before .before .before .args .heads) (c .before .before .before .before .before .before .before .before .before .before .before .args .units) (c .before .before .before .before .before .before .before .before .before .before .before .args .kept) (c .before .before .before .before .before .before .before .before .before .before .before .args .a) (c .before .before .before .before .before .before .before .before .before .before .before .args .end) (now (c .before .before .before .before .before .before .before .before .before .before .before .args .w)) (c .before .before .before .before .before .before .before .before .before .loop .w) (c .before .before .before .before .before .before .below .last .0) (c .before .before .before .before .before .before .before .before .before .loop .at) (c .before .before .before .before .before .before .before .before .before .loop .sum) (c .before .before .before .before .before .before .below .result) (c .before .before .before .wrapping-add-u64 .result) (c .before .behind .result) (c .before .before .before .before .before .before .before .before .before .loop .inv .0) (c .before .before .before .before .before .before .before .before .loop-test .taken) (c .before .before .before .before .before .before .below .ensures) (c .before .before .before .wrapping-add-u64 .ensures) (c .before .behind .ensures), omega (arith, c .before .behind .ensures .near, c .before .before .before .before .before .before .before .before .before .before .before .pre .1 .shallow), omega (arith, c .before .before .before .before .before .before .below .kept .0, c .before .before .before .before .before .before .before .before .before .loop .inv .2))
+
+row-same-length-2 : (t : ℕ) → row-lts.Need-same-length-2 (
+  below-below t,
+  below.Post,
+  wrapping-add-u64-reads.Asked,
+  wrapping-add-u64-reads.Learnt,
+  behind-reads.Asked,
+  behind-reads.Learnt,
+) (row-at t) row.Post row-Inv-loop row-μ-loop
+row-same-length-2 t c = search needs
+
+row-returns-2 : (t : ℕ) → row-lts.Need-returns-2 (
+  below-below t,
+  below.Post,
+  wrapping-add-u64-reads.Asked,
+  wrapping-add-u64-reads.Learnt,
+  behind-reads.Asked,
+  behind-reads.Learnt,
+) (row-at t) row.Post row-Inv-loop row-μ-loop
+row-returns-2 t c = valuing.along-end (c .before .before .before .args .seat) (c .before .before .before .args .depth) (c .before .before .before .args .heads) (c .before .before .before .args .units) (c .before .before .before .args .kept) (c .before .before .before .args .a) (c .before .before .before .args .end) (now (c .before .before .before .args .w)) (c .before .loop .w) (c .before .loop .at) (c .before .loop .sum) (c .before .loop .inv .0) (omega (arith, c .loop-test .left))
+
+abbrev total-Inv-loop : total-lts.InvT-loop
+total-Inv-loop w₀ first action seat depth heads units kept sum₀ at₀ w sum at = choosing.Summed seat depth heads units kept first action w₀ w at sum × (at < 2097152) × (length w ≡ length w₀)
+
+abbrev total-μ-loop : total-lts.MeasureT-loop
+total-μ-loop w₀ first action seat depth heads units kept sum₀ at₀ w sum at = 2097152 - at
+
+total-add-word : (t : ℕ) → total-lts.Need-add-word (
+  word-reads.Asked,
+  word-reads.Learnt,
+  child-reads.Asked,
+  child-reads.Learnt,
+  below-below t,
+  below.Post,
+  wrapping-add-u64-reads.Asked,
+  wrapping-add-u64-reads.Learnt,
+  later-reads.Asked,
+  later-reads.Learnt,
+) (total-at t) total.Post total-Inv-loop total-μ-loop
+total-add-word t c = record { fits = omega (arith, c .before .before .pre .1 .heads, c .before .before .pre .1 .place) }
+
+total-word-requires : (t : ℕ) → total-lts.Need-word-requires (
+  word-reads.Asked,
+  word-reads.Learnt,
+  child-reads.Asked,
+  child-reads.Learnt,
+  below-below t,
+  below.Post,
+  wrapping-add-u64-reads.Asked,
+  wrapping-add-u64-reads.Learnt,
+  later-reads.Asked,
+  later-reads.Learnt,
+) (total-at t) total.Post total-Inv-loop total-μ-loop
+total-word-requires t c κs = search needs
+
+total-loop-holds : (t : ℕ) → total-lts.Need-loop-holds (
+  word-reads.Asked,
+  word-reads.Learnt,
+  child-reads.Asked,
+  child-reads.Learnt,
+  below-below t,
+  below.Post,
+  wrapping-add-u64-reads.Asked,
+  wrapping-add-u64-reads.Learnt,
+  later-reads.Asked,
+  later-reads.Learnt,
+) (total-at t) total.Post total-Inv-loop total-μ-loop
+total-loop-holds t c = (choosing.summed-start (c .before .before .before .args .seat) (c .before .before .before .args .depth) (c .before .before .before .args .heads) (c .before .before .before .args .units) (c .before .before .before .args .kept) (c .before .before .before .args .first) (c .before .before .before .args .action) (now (c .before .before .before .args .w)) _ (ap (λ j. j % 2097152) (c .word .ensures)), omega arith, refl)
+
+total-child-requires : (t : ℕ) → total-lts.Need-child-requires (
+  word-reads.Asked,
+  word-reads.Learnt,
+  child-reads.Asked,
+  child-reads.Learnt,
+  below-below t,
+  below.Post,
+  wrapping-add-u64-reads.Asked,
+  wrapping-add-u64-reads.Learnt,
+  later-reads.Asked,
+  later-reads.Learnt,
+) (total-at t) total.Post total-Inv-loop total-μ-loop
+total-child-requires t c κs = omega (arith, c .before .before .loop .inv .1)
+
+total-below-requires : (t : ℕ) → total-lts.Need-below-requires (
+  word-reads.Asked,
+  word-reads.Learnt,
+  child-reads.Asked,
+  child-reads.Learnt,
+  below-below t,
+  below.Post,
+  wrapping-add-u64-reads.Asked,
+  wrapping-add-u64-reads.Learnt,
+  later-reads.Asked,
+  later-reads.Learnt,
+) (total-at t) total.Post total-Inv-loop total-μ-loop
+total-below-requires t c κs = (omega (arith, c .before .before .before .before .before .before .before .before .pre .0), valuing.walk-at (c .before .before .before .before .before .before .before .before .args .first) (c .before .before .before .before .before .before .before .before .args .seat) (c .before .before .before .before .before .before .before .before .args .depth) (c .before .before .before .before .before .before .before .before .args .heads) (c .before .before .before .before .before .before .before .before .args .units) (c .before .before .before .before .before .before .before .before .args .kept) (c .before .before .before .before .before .before .before .before .pre .1) (c .before .child .result) (c .before .before .before .before .before .before .before .before .args .depth) (omega arith) (omega (arith, c .before .child .ensures .near, c .before .before .before .before .before .before .before .before .pre .1 .shallow)))
+
+total-wrapping-add-u64-requires : (t : ℕ) → total-lts.Need-wrapping-add-u64-requires (
+  word-reads.Asked,
+  word-reads.Learnt,
+  child-reads.Asked,
+  child-reads.Learnt,
+  below-below t,
+  below.Post,
+  wrapping-add-u64-reads.Asked,
+  wrapping-add-u64-reads.Learnt,
+  later-reads.Asked,
+  later-reads.Learnt,
+) (total-at t) total.Post total-Inv-loop total-μ-loop
+total-wrapping-add-u64-requires t c κs = search needs
+
+total-word-requires-2 : (t : ℕ) → total-lts.Need-word-requires-2 (
+  word-reads.Asked,
+  word-reads.Learnt,
+  child-reads.Asked,
+  child-reads.Learnt,
+  below-below t,
+  below.Post,
+  wrapping-add-u64-reads.Asked,
+  wrapping-add-u64-reads.Learnt,
+  later-reads.Asked,
+  later-reads.Learnt,
+) (total-at t) total.Post total-Inv-loop total-μ-loop
+total-word-requires-2 t c κs = search needs
+
+total-later-requires : (t : ℕ) → total-lts.Need-later-requires (
+  word-reads.Asked,
+  word-reads.Learnt,
+  child-reads.Asked,
+  child-reads.Learnt,
+  below-below t,
+  below.Post,
+  wrapping-add-u64-reads.Asked,
+  wrapping-add-u64-reads.Learnt,
+  later-reads.Asked,
+  later-reads.Learnt,
+) (total-at t) total.Post total-Inv-loop total-μ-loop
+total-later-requires t c κs = search needs
+
+total-same-length : (t : ℕ) → total-lts.Need-same-length (
+  word-reads.Asked,
+  word-reads.Learnt,
+  child-reads.Asked,
+  child-reads.Learnt,
+  below-below t,
+  below.Post,
+  wrapping-add-u64-reads.Asked,
+  wrapping-add-u64-reads.Learnt,
+  later-reads.Asked,
+  later-reads.Learnt,
+) (total-at t) total.Post total-Inv-loop total-μ-loop
+total-same-length t c = search needs
+
+total-returns : (t : ℕ) → total-lts.Need-returns (
+  word-reads.Asked,
+  word-reads.Learnt,
+  child-reads.Asked,
+  child-reads.Learnt,
+  below-below t,
+  below.Post,
+  wrapping-add-u64-reads.Asked,
+  wrapping-add-u64-reads.Learnt,
+  later-reads.Asked,
+  later-reads.Learnt,
+) (total-at t) total.Post total-Inv-loop total-μ-loop
+total-returns t c = choosing.summed-stuck (c .before .before .before .before .before .before .before .before .before .before .before .before .before .before .before .before .args .seat) (c .before .before .before .before .before .before .before .before .before .before .before .before .before .before .before .before .args .depth) (c .before .before .before .before .before .before .before .before .before .before .before .before .before .before .before .before .args .heads) (c .before .before .before .before .before .before .before .before .before .before .before .before .before .before .before .before .args .units) (c .before .before .before .before .before .before .before .before .before .before .before .before .before .before .before .before .args .kept) (c .before .before .before .before .before .before .before .before .before .before .before .before .before .before .before .before .args .first) (c .before .before .before .before .before .before .before .before .before .before .before .before .before .before .before .before .args .action) (now (c .before .before .before .before .before .before .before .before .before .before .before .before .before .before .before .before .args .w)) (c .before .before .before .before .before .before .before .before .before .before .before .before .loop .w) (c .before .before .before .before .before .before .before .below .last .0) (c .before .before .before .before .before .before .before .before .before .before .before .before .loop .at) (c .before .before .before .before .before .before .before .before .before .before .before .before .loop .sum) (c .before .before .before .before .before .before .before .before .before .child .result) (c .before .before .before .before .before .before .before .below .result) (c .before .before .before .before .wrapping-add-u64 .result) (c .before .later .result) (c .before .before .before .before .before .before .before .before .before .before .before .before .loop .inv .0) (c .before .before .before .before .before .before .before .before .before .before .before .loop-test .taken) (c .before .before .before .before .before .before .before .before .before .child .ensures) (c .before .before .before .before .before .before .before .below .ensures) (c .before .before .before .before .wrapping-add-u64 .ensures) (c .before .later .ensures ∙ ap laterOf (c .before .before .word2 .ensures)) (c .if1 .taken)
+
+total-loop-less : (t : ℕ) → total-lts.Need-loop-less (
+  word-reads.Asked,
+  word-reads.Learnt,
+  child-reads.Asked,
+  child-reads.Learnt,
+  below-below t,
+  below.Post,
+  wrapping-add-u64-reads.Asked,
+  wrapping-add-u64-reads.Learnt,
+  later-reads.Asked,
+  later-reads.Learnt,
+) (total-at t) total.Post total-Inv-loop total-μ-loop
+total-loop-less t c = omega (arith, c .if1 .left, c .before .before .before .before .before .before .before .before .before .before .before .before .loop .inv .1)
+
+total-loop-again : (t : ℕ) → total-lts.Need-loop-again (
+  word-reads.Asked,
+  word-reads.Learnt,
+  child-reads.Asked,
+  child-reads.Learnt,
+  below-below t,
+  below.Post,
+  wrapping-add-u64-reads.Asked,
+  wrapping-add-u64-reads.Learnt,
+  later-reads.Asked,
+  later-reads.Learnt,
+) (total-at t) total.Post total-Inv-loop total-μ-loop
+total-loop-again t c = (choosing.summed-more (c .before .before .before .before .before .before .before .before .before .before .before .before .before .before .before .before .args .seat) (c .before .before .before .before .before .before .before .before .before .before .before .before .before .before .before .before .args .depth) (c .before .before .before .before .before .before .before .before .before .before .before .before .before .before .before .before .args .heads) (c .before .before .before .before .before .before .before .before .before .before .before .before .before .before .before .before .args .units) (c .before .before .before .before .before .before .before .before .before .before .before .before .before .before .before .before .args .kept) (c .before .before .before .before .before .before .before .before .before .before .before .before .before .before .before .before .args .first) (c .before .before .before .before .before .before .before .before .before .before .before .before .before .before .before .before .args .action) (now (c .before .before .before .before .before .before .before .before .before .before .before .before .before .before .before .before .args .w)) (c .before .before .before .before .before .before .before .before .before .before .before .before .loop .w) (c .before .before .before .before .before .before .before .below .last .0) (c .before .before .before .before .before .before .before .before .before .before .before .before .loop .at) (c .before .before .before .before .before .before .before .before .before .before .before .before .loop .sum) (c .before .before .before .before .before .before .before .before .before .child .result) (c .before .before .before .before .before .before .before .below .result) (c .before .before .before .before .wrapping-add-u64 .result) (c .before .later .result) (c .before .before .before .before .before .before .before .before .before .before .before .before .loop .inv .0) (c .before .before .before .before .before .before .before .before .before .before .before .loop-test .taken) (c .before .before .before .before .before .before .before .before .before .child .ensures) (c .before .before .before .before .before .before .before .below .ensures) (c .before .before .before .before .wrapping-add-u64 .ensures) (c .before .later .ensures ∙ ap laterOf (c .before .before .word2 .ensures)), omega (arith, c .before .later .ensures), omega (arith, c .before .before .before .before .before .before .before .below .kept .0, c .before .before .before .before .before .before .before .before .before .before .before .before .loop .inv .2))
+
+total-same-length-2 : (t : ℕ) → total-lts.Need-same-length-2 (
+  word-reads.Asked,
+  word-reads.Learnt,
+  child-reads.Asked,
+  child-reads.Learnt,
+  below-below t,
+  below.Post,
+  wrapping-add-u64-reads.Asked,
+  wrapping-add-u64-reads.Learnt,
+  later-reads.Asked,
+  later-reads.Learnt,
+) (total-at t) total.Post total-Inv-loop total-μ-loop
+total-same-length-2 t c = search needs
+
+total-returns-2 : (t : ℕ) → total-lts.Need-returns-2 (
+  word-reads.Asked,
+  word-reads.Learnt,
+  child-reads.Asked,
+  child-reads.Learnt,
+  below-below t,
+  below.Post,
+  wrapping-add-u64-reads.Asked,
+  wrapping-add-u64-reads.Learnt,
+  later-reads.Asked,
+  later-reads.Learnt,
+) (total-at t) total.Post total-Inv-loop total-μ-loop
+total-returns-2 t c = choosing.summed-end (c .before .before .before .before .before .args .seat) (c .before .before .before .before .before .args .depth) (c .before .before .before .before .before .args .heads) (c .before .before .before .before .before .args .units) (c .before .before .before .before .before .args .kept) (c .before .before .before .before .before .args .first) (c .before .before .before .before .before .args .action) (now (c .before .before .before .before .before .args .w)) (c .before .loop .w) (c .before .loop .at) (c .before .loop .sum) (c .before .loop .inv .0) (λ l. omega (arith, l, c .loop-test .left))
+
+value-returns : (t : ℕ) → value-lts.Need-returns (
+  word-reads.Asked,
+  word-reads.Learnt,
+  kind-reads.Asked,
+  kind-reads.Learnt,
+  ended-reads.Asked,
+  ended-reads.Learnt,
+  next-reads.Asked,
+  next-reads.Learnt,
+  row-below t,
+  row.Post,
+  actor-reads.Asked,
+  actor-reads.Learnt,
+  own-below t,
+  own.Post,
+) (value-at t) value.Post
+value-returns t c = valuing.value-none (c .before .before .args .seat) (c .before .before .args .depth) (c .before .before .args .heads) (c .before .before .args .units) (c .before .before .args .kept) (c .before .before .args .a) (now (c .before .before .args .w)) 0 (c .if1 .taken)
+
+value-word-requires : (t : ℕ) → value-lts.Need-word-requires (
+  word-reads.Asked,
+  word-reads.Learnt,
+  kind-reads.Asked,
+  kind-reads.Learnt,
+  ended-reads.Asked,
+  ended-reads.Learnt,
+  next-reads.Asked,
+  next-reads.Learnt,
+  row-below t,
+  row.Post,
+  actor-reads.Asked,
+  actor-reads.Learnt,
+  own-below t,
+  own.Post,
+) (value-at t) value.Post
+value-word-requires t c κs = search needs
+
+value-kind-requires : (t : ℕ) → value-lts.Need-kind-requires (
+  word-reads.Asked,
+  word-reads.Learnt,
+  kind-reads.Asked,
+  kind-reads.Learnt,
+  ended-reads.Asked,
+  ended-reads.Learnt,
+  next-reads.Asked,
+  next-reads.Learnt,
+  row-below t,
+  row.Post,
+  actor-reads.Asked,
+  actor-reads.Learnt,
+  own-below t,
+  own.Post,
+) (value-at t) value.Post
+value-kind-requires t c κs = search needs
+
+value-ended-requires : (t : ℕ) → value-lts.Need-ended-requires (
+  word-reads.Asked,
+  word-reads.Learnt,
+  kind-reads.Asked,
+  kind-reads.Learnt,
+  ended-reads.Asked,
+  ended-reads.Learnt,
+  next-reads.Asked,
+  next-reads.Learnt,
+  row-below t,
+  row.Post,
+  actor-reads.Asked,
+  actor-reads.Learnt,
+  own-below t,
+  own.Post,
+) (value-at t) value.Post
+value-ended-requires t c κs = (c .before .before .before .before .before .before .before .pre .1 .seat, omega (arith, c .before .before .before .before .before .before .before .pre .1 .place, c .before .before .before .before .before .before .before .pre .1 .units))
+
+value-same-length : (t : ℕ) → value-lts.Need-same-length (
+  word-reads.Asked,
+  word-reads.Learnt,
+  kind-reads.Asked,
+  kind-reads.Learnt,
+  ended-reads.Asked,
+  ended-reads.Learnt,
+  next-reads.Asked,
+  next-reads.Learnt,
+  row-below t,
+  row.Post,
+  actor-reads.Asked,
+  actor-reads.Learnt,
+  own-below t,
+  own.Post,
+) (value-at t) value.Post
+value-same-length t c = search needs
+
+value-returns-2 : (t : ℕ) → value-lts.Need-returns-2 (
+  word-reads.Asked,
+  word-reads.Learnt,
+  kind-reads.Asked,
+  kind-reads.Learnt,
+  ended-reads.Asked,
+  ended-reads.Learnt,
+  next-reads.Asked,
+  next-reads.Learnt,
+  row-below t,
+  row.Post,
+  actor-reads.Asked,
+  actor-reads.Learnt,
+  own-below t,
+  own.Post,
+) (value-at t) value.Post
+value-returns-2 t c = valuing.value-ended (c .before .before .before .before .before .before .before .before .args .seat) (c .before .before .before .before .before .before .before .before .args .depth) (c .before .before .before .before .before .before .before .before .args .heads) (c .before .before .before .before .before .before .before .before .args .units) (c .before .before .before .before .before .before .before .before .args .kept) (c .before .before .before .before .before .before .before .before .args .a) (now (c .before .before .before .before .before .before .before .before .args .w)) (c .before .before .before .before .word .result) (c .before .before .before .before .word .ensures) _ (sym (c .before .before .before .kind .ensures) ∙ c .before .before .if2 .taken) (c .ended .ensures)
+
+value-add-row : (t : ℕ) → value-lts.Need-add-row (
+  word-reads.Asked,
+  word-reads.Learnt,
+  kind-reads.Asked,
+  kind-reads.Learnt,
+  ended-reads.Asked,
+  ended-reads.Learnt,
+  next-reads.Asked,
+  next-reads.Learnt,
+  row-below t,
+  row.Post,
+  actor-reads.Asked,
+  actor-reads.Learnt,
+  own-below t,
+  own.Post,
+) (value-at t) value.Post
+value-add-row t c = record { fits = omega (arith, c .before .before .before .before .before .before .before .before .pre .1 .place) }
+
+value-next-requires : (t : ℕ) → value-lts.Need-next-requires (
+  word-reads.Asked,
+  word-reads.Learnt,
+  kind-reads.Asked,
+  kind-reads.Learnt,
+  ended-reads.Asked,
+  ended-reads.Learnt,
+  next-reads.Asked,
+  next-reads.Learnt,
+  row-below t,
+  row.Post,
+  actor-reads.Asked,
+  actor-reads.Learnt,
+  own-below t,
+  own.Post,
+) (value-at t) value.Post
+value-next-requires t c κs = search needs
+
+value-sub-row : (t : ℕ) → value-lts.Need-sub-row (
+  word-reads.Asked,
+  word-reads.Learnt,
+  kind-reads.Asked,
+  kind-reads.Learnt,
+  ended-reads.Asked,
+  ended-reads.Learnt,
+  next-reads.Asked,
+  next-reads.Learnt,
+  row-below t,
+  row.Post,
+  actor-reads.Asked,
+  actor-reads.Learnt,
+  own-below t,
+  own.Post,
+) (value-at t) value.Post
+value-sub-row t c = omega (arith, c .before .before .before .before .before .before .before .if1 .left)
+
+value-row-requires : (t : ℕ) → value-lts.Need-row-requires (
+  word-reads.Asked,
+  word-reads.Learnt,
+  kind-reads.Asked,
+  kind-reads.Learnt,
+  ended-reads.Asked,
+  ended-reads.Learnt,
+  next-reads.Asked,
+  next-reads.Learnt,
+  row-below t,
+  row.Post,
+  actor-reads.Asked,
+  actor-reads.Learnt,
+  own-below t,
+  own.Post,
+) (value-at t) value.Post
+value-row-requires t c κs = (omega (arith, c .before .before .before .before .before .before .before .before .before .pre .0, c .before .before .before .before .before .before .before .if1 .left), valuing.walk-at (c .before .before .before .before .before .before .before .before .before .args .a) (c .before .before .before .before .before .before .before .before .before .args .seat) (c .before .before .before .before .before .before .before .before .before .args .depth) (c .before .before .before .before .before .before .before .before .before .args .heads) (c .before .before .before .before .before .before .before .before .before .args .units) (c .before .before .before .before .before .before .before .before .before .args .kept) (c .before .before .before .before .before .before .before .before .before .pre .1) (c .before .before .before .before .before .before .before .before .before .args .a + 1) (c .before .before .before .before .before .before .before .before .before .args .depth - 1) (omega arith) (omega (arith, c .before .before .before .before .before .before .before .before .before .pre .1 .place, c .before .before .before .before .before .before .before .if1 .left)))
+
+value-same-length-2 : (t : ℕ) → value-lts.Need-same-length-2 (
+  word-reads.Asked,
+  word-reads.Learnt,
+  kind-reads.Asked,
+  kind-reads.Learnt,
+  ended-reads.Asked,
+  ended-reads.Learnt,
+  next-reads.Asked,
+  next-reads.Learnt,
+  row-below t,
+  row.Post,
+  actor-reads.Asked,
+  actor-reads.Learnt,
+  own-below t,
+  own.Post,
+) (value-at t) value.Post
+value-same-length-2 t c = search needs
+
+value-returns-3 : (t : ℕ) → value-lts.Need-returns-3 (
+  word-reads.Asked,
+  word-reads.Learnt,
+  kind-reads.Asked,
+  kind-reads.Learnt,
+  ended-reads.Asked,
+  ended-reads.Learnt,
+  next-reads.Asked,
+  next-reads.Learnt,
+  row-below t,
+  row.Post,
+  actor-reads.Asked,
+  actor-reads.Learnt,
+  own-below t,
+  own.Post,
+) (value-at t) value.Post
+value-returns-3 t c = valuing.value-chance (c .before .before .before .before .before .before .before .before .before .before .before .before .args .seat) (c .before .before .before .before .before .before .before .before .before .before .before .before .args .depth) (c .before .before .before .before .before .before .before .before .before .before .before .before .args .heads) (c .before .before .before .before .before .before .before .before .before .before .before .before .args .units) (c .before .before .before .before .before .before .before .before .before .before .before .before .args .kept) (c .before .before .before .before .before .before .before .before .before .before .before .before .args .a) (now (c .before .before .before .before .before .before .before .before .before .before .before .before .args .w)) (c .before .before .before .before .before .before .before .before .word .result) (c .before .before .before .before .before .before .before .before .word .ensures) (c .before .before .row .last .0) (c .before .before .row .result) (λ q. c .before .before .before .before .before .before .if2 .left (c .before .before .before .before .before .before .before .kind .ensures ∙ q)) (λ q. c .before .before .before .before .before .if3 .taken (c .before .before .before .before .before .before .before .kind .ensures ∙ q)) (subst (λ z. ValuedAll (c .before .before .before .before .before .before .before .before .before .before .before .before .args .seat) (c .before .before .before .before .before .before .before .before .before .before .before .before .args .depth - 1) (c .before .before .before .before .before .before .before .before .before .before .before .before .args .heads) (c .before .before .before .before .before .before .before .before .before .before .before .before .args .units) (c .before .before .before .before .before .before .before .before .before .before .before .before .args .kept) (c .before .before .before .before .before .before .before .before .before .before .before .before .args .a + 1) z (now (c .before .before .before .before .before .before .before .before .before .before .before .before .args .w)) (c .before .before .row .last .0) (c .before .before .row .result)) (c .before .before .before .next .ensures) (c .before .before .row .ensures))
+
+value-actor-requires : (t : ℕ) → value-lts.Need-actor-requires (
+  word-reads.Asked,
+  word-reads.Learnt,
+  kind-reads.Asked,
+  kind-reads.Learnt,
+  ended-reads.Asked,
+  ended-reads.Learnt,
+  next-reads.Asked,
+  next-reads.Learnt,
+  row-below t,
+  row.Post,
+  actor-reads.Asked,
+  actor-reads.Learnt,
+  own-below t,
+  own.Post,
+) (value-at t) value.Post
+value-actor-requires t c κs = search needs
+
+value-add-row-2 : (t : ℕ) → value-lts.Need-add-row-2 (
+  word-reads.Asked,
+  word-reads.Learnt,
+  kind-reads.Asked,
+  kind-reads.Learnt,
+  ended-reads.Asked,
+  ended-reads.Learnt,
+  next-reads.Asked,
+  next-reads.Learnt,
+  row-below t,
+  row.Post,
+  actor-reads.Asked,
+  actor-reads.Learnt,
+  own-below t,
+  own.Post,
+) (value-at t) value.Post
+value-add-row-2 t c = record { fits = omega (arith, c .before .before .before .before .before .before .before .before .before .before .pre .1 .place) }
+
+value-next-requires-2 : (t : ℕ) → value-lts.Need-next-requires-2 (
+  word-reads.Asked,
+  word-reads.Learnt,
+  kind-reads.Asked,
+  kind-reads.Learnt,
+  ended-reads.Asked,
+  ended-reads.Learnt,
+  next-reads.Asked,
+  next-reads.Learnt,
+  row-below t,
+  row.Post,
+  actor-reads.Asked,
+  actor-reads.Learnt,
+  own-below t,
+  own.Post,
+) (value-at t) value.Post
+value-next-requires-2 t c κs = search needs
+
+value-sub-row-2 : (t : ℕ) → value-lts.Need-sub-row-2 (
+  word-reads.Asked,
+  word-reads.Learnt,
+  kind-reads.Asked,
+  kind-reads.Learnt,
+  ended-reads.Asked,
+  ended-reads.Learnt,
+  next-reads.Asked,
+  next-reads.Learnt,
+  row-below t,
+  row.Post,
+  actor-reads.Asked,
+  actor-reads.Learnt,
+  own-below t,
+  own.Post,
+) (value-at t) value.Post
+value-sub-row-2 t c = omega (arith, c .before .before .before .before .before .before .before .before .before .if1 .left)
+
+value-row-requires-2 : (t : ℕ) → value-lts.Need-row-requires-2 (
+  word-reads.Asked,
+  word-reads.Learnt,
+  kind-reads.Asked,
+  kind-reads.Learnt,
+  ended-reads.Asked,
+  ended-reads.Learnt,
+  next-reads.Asked,
+  next-reads.Learnt,
+  row-below t,
+  row.Post,
+  actor-reads.Asked,
+  actor-reads.Learnt,
+  own-below t,
+  own.Post,
+) (value-at t) value.Post
+value-row-requires-2 t c κs = (omega (arith, c .before .before .before .before .before .before .before .before .before .before .before .pre .0, c .before .before .before .before .before .before .before .before .before .if1 .left), valuing.walk-at (c .before .before .before .before .before .before .before .before .before .before .before .args .a) (c .before .before .before .before .before .before .before .before .before .before .before .args .seat) (c .before .before .before .before .before .before .before .before .before .before .before .args .depth) (c .before .before .before .before .before .before .before .before .before .before .before .args .heads) (c .before .before .before .before .before .before .before .before .before .before .before .args .units) (c .before .before .before .before .before .before .before .before .before .before .before .args .kept) (c .before .before .before .before .before .before .before .before .before .before .before .pre .1) (c .before .before .before .before .before .before .before .before .before .before .before .args .a + 1) (c .before .before .before .before .before .before .before .before .before .before .before .args .depth - 1) (omega arith) (omega (arith, c .before .before .before .before .before .before .before .before .before .before .before .pre .1 .place, c .before .before .before .before .before .before .before .before .before .if1 .left)))
+
+value-same-length-3 : (t : ℕ) → value-lts.Need-same-length-3 (
+  word-reads.Asked,
+  word-reads.Learnt,
+  kind-reads.Asked,
+  kind-reads.Learnt,
+  ended-reads.Asked,
+  ended-reads.Learnt,
+  next-reads.Asked,
+  next-reads.Learnt,
+  row-below t,
+  row.Post,
+  actor-reads.Asked,
+  actor-reads.Learnt,
+  own-below t,
+  own.Post,
+) (value-at t) value.Post
+value-same-length-3 t c = search needs
+
+value-returns-4 : (t : ℕ) → value-lts.Need-returns-4 (
+  word-reads.Asked,
+  word-reads.Learnt,
+  kind-reads.Asked,
+  kind-reads.Learnt,
+  ended-reads.Asked,
+  ended-reads.Learnt,
+  next-reads.Asked,
+  next-reads.Learnt,
+  row-below t,
+  row.Post,
+  actor-reads.Asked,
+  actor-reads.Learnt,
+  own-below t,
+  own.Post,
+) (value-at t) value.Post
+value-returns-4 t c = valuing.value-other (c .before .before .before .before .before .before .before .before .before .before .before .before .before .before .args .seat) (c .before .before .before .before .before .before .before .before .before .before .before .before .before .before .args .depth) (c .before .before .before .before .before .before .before .before .before .before .before .before .before .before .args .heads) (c .before .before .before .before .before .before .before .before .before .before .before .before .before .before .args .units) (c .before .before .before .before .before .before .before .before .before .before .before .before .before .before .args .kept) (c .before .before .before .before .before .before .before .before .before .before .before .before .before .before .args .a) (now (c .before .before .before .before .before .before .before .before .before .before .before .before .before .before .args .w)) (c .before .before .before .before .before .before .before .before .before .before .word .result) (c .before .before .before .before .before .before .before .before .before .before .word .ensures) (c .before .before .row2 .last .0) (c .before .before .row2 .result) (sym (c .before .before .before .before .before .before .before .before .before .kind .ensures) ∙ c .before .before .before .before .before .before .before .if3 .left) (λ q. c .before .before .before .before .before .if4 .taken (c .before .before .before .before .before .before .actor .ensures ∙ q)) (subst (λ z. ValuedAll (c .before .before .before .before .before .before .before .before .before .before .before .before .before .before .args .seat) (c .before .before .before .before .before .before .before .before .before .before .before .before .before .before .args .depth - 1) (c .before .before .before .before .before .before .before .before .before .before .before .before .before .before .args .heads) (c .before .before .before .before .before .before .before .before .before .before .before .before .before .before .args .units) (c .before .before .before .before .before .before .before .before .before .before .before .before .before .before .args .kept) (c .before .before .before .before .before .before .before .before .before .before .before .before .before .before .args .a + 1) z (now (c .before .before .before .before .before .before .before .before .before .before .before .before .before .before .args .w)) (c .before .before .row2 .last .0) (c .before .before .row2 .result)) (c .before .before .before .next2 .ensures) (c .before .before .row2 .ensures))
+
+value-sub-own : (t : ℕ) → value-lts.Need-sub-own (
+  word-reads.Asked,
+  word-reads.Learnt,
+  kind-reads.Asked,
+  kind-reads.Learnt,
+  ended-reads.Asked,
+  ended-reads.Learnt,
+  next-reads.Asked,
+  next-reads.Learnt,
+  row-below t,
+  row.Post,
+  actor-reads.Asked,
+  actor-reads.Learnt,
+  own-below t,
+  own.Post,
+) (value-at t) value.Post
+value-sub-own t c = omega (arith, c .before .before .before .before .before .before .before .before .if1 .left)
+
+value-own-requires : (t : ℕ) → value-lts.Need-own-requires (
+  word-reads.Asked,
+  word-reads.Learnt,
+  kind-reads.Asked,
+  kind-reads.Learnt,
+  ended-reads.Asked,
+  ended-reads.Learnt,
+  next-reads.Asked,
+  next-reads.Learnt,
+  row-below t,
+  row.Post,
+  actor-reads.Asked,
+  actor-reads.Learnt,
+  own-below t,
+  own.Post,
+) (value-at t) value.Post
+value-own-requires t c κs = (omega (arith, c .before .before .before .before .before .before .before .before .before .before .pre .0, c .before .before .before .before .before .before .before .before .if1 .left), valuing.walk-at (c .before .before .before .before .before .before .before .before .before .before .args .a) (c .before .before .before .before .before .before .before .before .before .before .args .seat) (c .before .before .before .before .before .before .before .before .before .before .args .depth) (c .before .before .before .before .before .before .before .before .before .before .args .heads) (c .before .before .before .before .before .before .before .before .before .before .args .units) (c .before .before .before .before .before .before .before .before .before .before .args .kept) (c .before .before .before .before .before .before .before .before .before .before .pre .1) (c .before .before .before .before .before .before .before .before .before .before .args .a + 1) (c .before .before .before .before .before .before .before .before .before .before .args .depth - 1) (omega arith) (omega (arith, c .before .before .before .before .before .before .before .before .before .before .pre .1 .place, c .before .before .before .before .before .before .before .before .if1 .left)))
+
+value-same-length-4 : (t : ℕ) → value-lts.Need-same-length-4 (
+  word-reads.Asked,
+  word-reads.Learnt,
+  kind-reads.Asked,
+  kind-reads.Learnt,
+  ended-reads.Asked,
+  ended-reads.Learnt,
+  next-reads.Asked,
+  next-reads.Learnt,
+  row-below t,
+  row.Post,
+  actor-reads.Asked,
+  actor-reads.Learnt,
+  own-below t,
+  own.Post,
+) (value-at t) value.Post
+value-same-length-4 t c = search needs
+
+value-returns-5 : (t : ℕ) → value-lts.Need-returns-5 (
+  word-reads.Asked,
+  word-reads.Learnt,
+  kind-reads.Asked,
+  kind-reads.Learnt,
+  ended-reads.Asked,
+  ended-reads.Learnt,
+  next-reads.Asked,
+  next-reads.Learnt,
+  row-below t,
+  row.Post,
+  actor-reads.Asked,
+  actor-reads.Learnt,
+  own-below t,
+  own.Post,
+) (value-at t) value.Post
+value-returns-5 t c = valuing.value-own (c .before .before .before .before .before .before .before .before .before .before .before .before .before .args .seat) (c .before .before .before .before .before .before .before .before .before .before .before .before .before .args .depth) (c .before .before .before .before .before .before .before .before .before .before .before .before .before .args .heads) (c .before .before .before .before .before .before .before .before .before .before .before .before .before .args .units) (c .before .before .before .before .before .before .before .before .before .before .before .before .before .args .kept) (c .before .before .before .before .before .before .before .before .before .before .before .before .before .args .a) (now (c .before .before .before .before .before .before .before .before .before .before .before .before .before .args .w)) (c .before .before .before .before .before .before .before .before .before .word .result) (c .before .before .before .before .before .before .before .before .before .word .ensures) (c .before .before .own .last .0) (c .before .before .own .result) (sym (c .before .before .before .before .before .before .before .before .kind .ensures) ∙ c .before .before .before .before .before .before .if3 .left) (sym (c .before .before .before .before .before .actor .ensures) ∙ c .before .before .before .before .if4 .left) (c .before .before .own .ensures)
+
+pub +below+choose+own+row+total+value-spec : {M : Type 1} → statement M
++below+choose+own+row+total+value-spec =
+    close μ-below μ-choose μ-own μ-row μ-total μ-value (λ t. below-lts.spec (
+      word-reads.Asked,
+      word-reads.Learnt,
+      kind-reads.Asked,
+      kind-reads.Learnt,
+      ended-reads.Asked,
+      ended-reads.Learnt,
+      value-below t,
+      value.Post,
+    )
+    (below-at t)
+    below.Post
+    (below-word-requires t)
+    (below-kind-requires t)
+    (below-ended-requires t)
+    (below-same-length t)
+    (below-returns t)
+    (below-value-requires t)
+    (below-same-length-2 t)
+    (below-returns-2 t))
+    (λ t. choose-lts.spec (
+      word-reads.Asked,
+      word-reads.Learnt,
+      start-reads.Asked,
+      start-reads.Learnt,
+      total-below t,
+      total.Post,
+      past-reads.Asked,
+      past-reads.Learnt,
+      put-reads.Asked,
+      put-reads.Learnt,
+    )
+    (choose-at t)
+    choose.Post
+    choose-Inv-loop
+    choose-μ-loop
+    (choose-add-word t)
+    (choose-word-requires t)
+    (choose-sub-result t)
+    (choose-same-length t)
+    (choose-returns t)
+    (choose-start-requires t)
+    (choose-loop-holds t)
+    (choose-total-requires t)
+    (choose-past-requires t)
+    (choose-add-action t)
+    (choose-loop-less t)
+    (choose-loop-again t)
+    (choose-add-put t)
+    (choose-add-put-2 t)
+    (choose-put-requires t)
+    (choose-same-length-2 t)
+    (choose-returns-2 t))
+    (λ t. own-lts.spec (
+      set-reads.Asked,
+      set-reads.Learnt,
+      actions-reads.Asked,
+      actions-reads.Learnt,
+      choose-below t,
+      choose.Post,
+      child-reads.Asked,
+      child-reads.Learnt,
+      below-below t,
+      below.Post,
+    )
+    (own-at t)
+    own.Post
+    (own-set-requires t)
+    (own-actions-requires t)
+    (own-choose-requires t)
+    (own-child-requires t)
+    (own-below-requires t)
+    (own-same-length t)
+    (own-returns t))
+    (λ t. row-lts.spec (
+      below-below t,
+      below.Post,
+      wrapping-add-u64-reads.Asked,
+      wrapping-add-u64-reads.Learnt,
+      behind-reads.Asked,
+      behind-reads.Learnt,
+    )
+    (row-at t)
+    row.Post
+    row-Inv-loop
+    row-μ-loop
+    (row-loop-holds t)
+    (row-below-requires t)
+    (row-wrapping-add-u64-requires t)
+    (row-behind-requires t)
+    (row-same-length t)
+    (row-returns t)
+    (row-loop-less t)
+    (row-loop-again t)
+    (row-same-length-2 t)
+    (row-returns-2 t))
+    (λ t. total-lts.spec (
+      word-reads.Asked,
+      word-reads.Learnt,
+      child-reads.Asked,
+      child-reads.Learnt,
+      below-below t,
+      below.Post,
+      wrapping-add-u64-reads.Asked,
+      wrapping-add-u64-reads.Learnt,
+      later-reads.Asked,
+      later-reads.Learnt,
+    )
+    (total-at t)
+    total.Post
+    total-Inv-loop
+    total-μ-loop
+    (total-add-word t)
+    (total-word-requires t)
+    (total-loop-holds t)
+    (total-child-requires t)
+    (total-below-requires t)
+    (total-wrapping-add-u64-requires t)
+    (total-word-requires-2 t)
+    (total-later-requires t)
+    (total-same-length t)
+    (total-returns t)
+    (total-loop-less t)
+    (total-loop-again t)
+    (total-same-length-2 t)
+    (total-returns-2 t))
+    λ t. value-lts.spec (
+      word-reads.Asked,
+      word-reads.Learnt,
+      kind-reads.Asked,
+      kind-reads.Learnt,
+      ended-reads.Asked,
+      ended-reads.Learnt,
+      next-reads.Asked,
+      next-reads.Learnt,
+      row-below t,
+      row.Post,
+      actor-reads.Asked,
+      actor-reads.Learnt,
+      own-below t,
+      own.Post,
+    )
+    (value-at t)
+    value.Post
+    (value-returns t)
+    (value-word-requires t)
+    (value-kind-requires t)
+    (value-ended-requires t)
+    (value-same-length t)
+    (value-returns-2 t)
+    (value-add-row t)
+    (value-next-requires t)
+    (value-sub-row t)
+    (value-row-requires t)
+    (value-same-length-2 t)
+    (value-returns-3 t)
+    (value-actor-requires t)
+    (value-add-row-2 t)
+    (value-next-requires-2 t)
+    (value-sub-row-2 t)
+    (value-row-requires-2 t)
+    (value-same-length-3 t)
+    (value-returns-4 t)
+    (value-sub-own t)
+    (value-own-requires t)
+    (value-same-length-4 t)
+    (value-returns-5 t)
