@@ -33,7 +33,7 @@ same-length-2 : tie.Need-same-length-2
 same-length-2 c = search needs
 
 returns-2 : tie.Need-returns-2
-returns-2 c = sym (linked-unknown _ _ _ _ (sym ((c .before .word2 .ensures ∙ ap (λ i. getD (now (c .before .before .before .before .before .before .before .before .before .args .w)) (c .before .before .before .before .before .before .before .before .before .args .nodes + i) 0) (c .before .before .set .ensures)) ∙ ap (λ y. getD (now (c .before .before .before .before .before .before .before .before .before .args .w)) (c .before .before .before .before .before .before .before .before .before .args .nodes + setOf y) 0) (c .before .before .before .before .before .before .word .ensures)) ∙ c .if2 .taken))
+returns-2 c = let s0 = c .before .before .before .before .before .before .before .before .before in sym (linked-unknown _ _ _ _ (sym ((c .before .word2 .ensures ∙ ap (λ i. getD (now (s0 .args .w)) (s0 .args .nodes + i) 0) (c .before .before .set .ensures)) ∙ ap (λ y. getD (now (s0 .args .w)) (s0 .args .nodes + setOf y) 0) (c .before .before .before .before .before .before .word .ensures)) ∙ c .if2 .taken))
 
 sub-push : tie.Need-sub-push
 sub-push c = search needs

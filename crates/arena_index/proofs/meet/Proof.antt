@@ -26,7 +26,7 @@ same-length : tie.Need-same-length
 same-length c = search needs
 
 returns-2 : tie.Need-returns-2
-returns-2 c = met-known _ _ _ _ λ e. c .if2 .taken (c .before .word .ensures ∙ ap (λ i. getD (now (c .before .before .before .before .before .before .before .args .w)) (c .before .before .before .before .before .before .before .args .nodes + i) 0) (c .before .before .before .set .ensures) ∙ e)
+returns-2 c = let s0 = c .before .before .before .before .before .before .before in met-known _ _ _ _ λ e. c .if2 .taken (c .before .word .ensures ∙ ap (λ i. getD (now (s0 .args .w)) (s0 .args .nodes + i) 0) (c .before .before .before .set .ensures) ∙ e)
 
 add-put : tie.Need-add-put
 add-put c = search needs

@@ -13,16 +13,16 @@ same-length : tie.Need-same-length
 same-length c = search needs
 
 returns : tie.Need-returns
-returns c = kuhn-stored (c .before .before .before .before .before .before .before .args .g) _ (c .before .before .before .before .before .before .before .pre) (c .before .before .before .before .if1 .taken) _ (c .before .before .store .ensures)
+returns c = let s0 = c .before .before .before .before .before .before .before in kuhn-stored (s0 .args .g) _ (s0 .pre) (c .before .before .before .before .if1 .taken) _ (c .before .before .store .ensures)
 
 store-leduc-requires : tie.Need-store-leduc-requires
-store-leduc-requires c κs = leduc-words (c .before .before .before .before .args .g) _ (c .before .before .before .before .pre) (c .before .if1 .left)
+store-leduc-requires c κs = let s0 = c .before .before .before .before in leduc-words (s0 .args .g) _ (s0 .pre) (c .before .if1 .left)
 
 same-length-2 : tie.Need-same-length-2
 same-length-2 c = search needs
 
 returns-2 : tie.Need-returns-2
-returns-2 c = leduc-stored (c .before .before .before .before .before .before .before .args .g) _ (c .before .before .before .before .before .before .before .pre) (c .before .before .before .before .if1 .left) _ (c .before .before .store-leduc .ensures)
+returns-2 c = let s0 = c .before .before .before .before .before .before .before in leduc-stored (s0 .args .g) _ (s0 .pre) (c .before .before .before .before .if1 .left) _ (c .before .before .store-leduc .ensures)
 
 pub store-spec : {M : Type 1} → statement M
 store-spec =

@@ -21,22 +21,22 @@ reply-refusal-requires : tie.Need-reply-refusal-requires
 reply-refusal-requires c κs = search needs
 
 returns : tie.Need-returns
-returns c = (outcome.not-answered _ _ (gameOf (c .before .before .before .before .before .args .number) (c .before .before .before .before .before .args .seats)) (c .before .before .before .before .before .args .seat) (c .before .before .before .before .before .args .d) (now (c .before .before .before .before .before .args .table)) (c .before .reply-refusal .ensures) (c .if1 .taken), (outcome.not-written _ (gameOf (c .before .before .before .before .before .args .number) (c .before .before .before .before .before .args .seats)) (c .before .before .before .before .before .args .seat) (c .before .before .before .before .before .args .d) (now (c .before .before .before .before .before .args .table)) (now (c .before .before .before .before .before .args .out)) (c .if1 .taken), (outcome.not-demanded _ (gameOf (c .before .before .before .before .before .args .number) (c .before .before .before .before .before .args .seats)) (c .before .before .before .before .before .args .seat) (c .before .before .before .before .before .args .d) (now (c .before .before .before .before .before .args .table)) _ (now (c .before .before .before .before .before .args .out)) (c .if1 .taken), all-left _ (gameOf (c .before .before .before .before .before .args .number) (c .before .before .before .before .before .args .seats)) (now (c .before .before .before .before .before .args .work)) (c .if1 .taken))))
+returns c = let s0 = c .before .before .before .before .before in (outcome.not-answered _ _ (gameOf (s0 .args .number) (s0 .args .seats)) (s0 .args .seat) (s0 .args .d) (now (s0 .args .table)) (c .before .reply-refusal .ensures) (c .if1 .taken), (outcome.not-written _ (gameOf (s0 .args .number) (s0 .args .seats)) (s0 .args .seat) (s0 .args .d) (now (s0 .args .table)) (now (s0 .args .out)) (c .if1 .taken), (outcome.not-demanded _ (gameOf (s0 .args .number) (s0 .args .seats)) (s0 .args .seat) (s0 .args .d) (now (s0 .args .table)) _ (now (s0 .args .out)) (c .if1 .taken), all-left _ (gameOf (s0 .args .number) (s0 .args .seats)) (now (s0 .args .work)) (c .if1 .taken))))
 
 nodes-requires : tie.Need-nodes-requires
-nodes-requires c κs = outcome.accepted-game (gameOf (c .before .before .before .before .before .args .number) (c .before .before .before .before .before .args .seats)) (length (now (c .before .before .before .before .before .args .work))) (c .before .before .before .before .before .args .seat) (c .before .before .before .before .before .args .d) (now (c .before .before .before .before .before .args .table)) (length (now (c .before .before .before .before .before .args .out))) (sym (c .before .reply-refusal .ensures) ∙ c .if1 .left) .seats
+nodes-requires c κs = let s0 = c .before .before .before .before .before in outcome.accepted-game (gameOf (s0 .args .number) (s0 .args .seats)) (length (now (s0 .args .work))) (s0 .args .seat) (s0 .args .d) (now (s0 .args .table)) (length (now (s0 .args .out))) (sym (c .before .reply-refusal .ensures) ∙ c .if1 .left) .seats
 
 mul-words : tie.Need-mul-words
-mul-words c = omega (arith, outcome.nodes-room (gameOf (c .before .before .before .before .before .before .args .number) (c .before .before .before .before .before .before .args .seats)) (length (now (c .before .before .before .before .before .before .args .work))) (c .before .before .before .before .before .before .args .seat) (c .before .before .before .before .before .before .args .d) (now (c .before .before .before .before .before .before .args .table)) (length (now (c .before .before .before .before .before .before .args .out))) (sym (c .before .before .reply-refusal .ensures) ∙ c .before .if1 .left) _ (c .nodes .ensures))
+mul-words c = let s0 = c .before .before .before .before .before .before in omega (arith, outcome.nodes-room (gameOf (s0 .args .number) (s0 .args .seats)) (length (now (s0 .args .work))) (s0 .args .seat) (s0 .args .d) (now (s0 .args .table)) (length (now (s0 .args .out))) (sym (c .before .before .reply-refusal .ensures) ∙ c .before .if1 .left) _ (c .nodes .ensures))
 
 slice-relend-prefix-evaluate : tie.Need-slice-relend-prefix-evaluate
-slice-relend-prefix-evaluate c = outcome.nodes-room (gameOf (c .before .before .before .before .before .before .args .number) (c .before .before .before .before .before .before .args .seats)) (length (now (c .before .before .before .before .before .before .args .work))) (c .before .before .before .before .before .before .args .seat) (c .before .before .before .before .before .before .args .d) (now (c .before .before .before .before .before .before .args .table)) (length (now (c .before .before .before .before .before .before .args .out))) (sym (c .before .before .reply-refusal .ensures) ∙ c .before .if1 .left) _ (c .nodes .ensures)
+slice-relend-prefix-evaluate c = let s0 = c .before .before .before .before .before .before in outcome.nodes-room (gameOf (s0 .args .number) (s0 .args .seats)) (length (now (s0 .args .work))) (s0 .args .seat) (s0 .args .d) (now (s0 .args .table)) (length (now (s0 .args .out))) (sym (c .before .before .reply-refusal .ensures) ∙ c .before .if1 .left) _ (c .nodes .ensures)
 
 slice-aggregate-evaluate : tie.Need-slice-aggregate-evaluate
-slice-aggregate-evaluate c = sym (length-take-le (12 * c .before .nodes .result) (now (c .before .before .before .before .before .before .before .args .work)) (outcome.nodes-room (gameOf (c .before .before .before .before .before .before .before .args .number) (c .before .before .before .before .before .before .before .args .seats)) (length (now (c .before .before .before .before .before .before .before .args .work))) (c .before .before .before .before .before .before .before .args .seat) (c .before .before .before .before .before .before .before .args .d) (now (c .before .before .before .before .before .before .before .args .table)) (length (now (c .before .before .before .before .before .before .before .args .out))) (sym (c .before .before .before .reply-refusal .ensures) ∙ c .before .before .if1 .left) _ (c .before .nodes .ensures)))
+slice-aggregate-evaluate c = let s0 = c .before .before .before .before .before .before .before in sym (length-take-le (12 * c .before .nodes .result) (now (s0 .args .work)) (outcome.nodes-room (gameOf (s0 .args .number) (s0 .args .seats)) (length (now (s0 .args .work))) (s0 .args .seat) (s0 .args .d) (now (s0 .args .table)) (length (now (s0 .args .out))) (sym (c .before .before .before .reply-refusal .ensures) ∙ c .before .before .if1 .left) _ (c .before .nodes .ensures)))
 
 evaluate-requires : tie.Need-evaluate-requires
-evaluate-requires c κs = (outcome.accepted-table (gameOf (c .before .before .before .before .before .before .before .before .args .number) (c .before .before .before .before .before .before .before .before .args .seats)) (length (now (c .before .before .before .before .before .before .before .before .args .work))) (c .before .before .before .before .before .before .before .before .args .seat) (c .before .before .before .before .before .before .before .before .args .d) (now (c .before .before .before .before .before .before .before .before .args .table)) (length (now (c .before .before .before .before .before .before .before .before .args .out))) (sym (c .before .before .before .before .reply-refusal .ensures) ∙ c .before .before .before .if1 .left), outcome.accepted-seat (gameOf (c .before .before .before .before .before .before .before .before .args .number) (c .before .before .before .before .before .before .before .before .args .seats)) (length (now (c .before .before .before .before .before .before .before .before .args .work))) (c .before .before .before .before .before .before .before .before .args .seat) (c .before .before .before .before .before .before .before .before .args .d) (now (c .before .before .before .before .before .before .before .before .args .table)) (length (now (c .before .before .before .before .before .before .before .before .args .out))) (sym (c .before .before .before .before .reply-refusal .ensures) ∙ c .before .before .before .if1 .left), outcome.part-room (gameOf (c .before .before .before .before .before .before .before .before .args .number) (c .before .before .before .before .before .before .before .before .args .seats)) (length (now (c .before .before .before .before .before .before .before .before .args .work))) (c .before .before .before .before .before .before .before .before .args .seat) (c .before .before .before .before .before .before .before .before .args .d) (now (c .before .before .before .before .before .before .before .before .args .table)) (length (now (c .before .before .before .before .before .before .before .before .args .out))) (sym (c .before .before .before .before .reply-refusal .ensures) ∙ c .before .before .before .if1 .left) _ (now (c .before .before .before .before .before .before .before .before .args .work)) (c .before .before .nodes .ensures) refl)
+evaluate-requires c κs = let s0 = c .before .before .before .before .before .before .before .before in let s1 = c .before .before .before .before in let s2 = c .before .before .before in (outcome.accepted-table (gameOf (s0 .args .number) (s0 .args .seats)) (length (now (s0 .args .work))) (s0 .args .seat) (s0 .args .d) (now (s0 .args .table)) (length (now (s0 .args .out))) (sym (s1 .reply-refusal .ensures) ∙ s2 .if1 .left), outcome.accepted-seat (gameOf (s0 .args .number) (s0 .args .seats)) (length (now (s0 .args .work))) (s0 .args .seat) (s0 .args .d) (now (s0 .args .table)) (length (now (s0 .args .out))) (sym (s1 .reply-refusal .ensures) ∙ s2 .if1 .left), outcome.part-room (gameOf (s0 .args .number) (s0 .args .seats)) (length (now (s0 .args .work))) (s0 .args .seat) (s0 .args .d) (now (s0 .args .table)) (length (now (s0 .args .out))) (sym (s1 .reply-refusal .ensures) ∙ s2 .if1 .left) _ (now (s0 .args .work)) (c .before .before .nodes .ensures) refl)
 
 same-length : tie.Need-same-length
 same-length c = search needs

@@ -13,13 +13,13 @@ use Rattle.best_reply.proofs.evaluate.Statement.{statement}
 use Rattle.best_reply.proofs.evaluate.Tie as tie
 
 store-requires : tie.Need-store-requires
-store-requires c κs = record { known = c .before .before .before .before .pre .0 .game .known; seats = c .before .before .before .before .pre .0 .game .seats; small = c .before .before .before .before .pre .0 .game .small; words = c .before .before .before .before .pre .2 }
+store-requires c κs = let s0 = c .before .before .before .before in record { known = s0 .pre .0 .game .known; seats = s0 .pre .0 .game .seats; small = s0 .pre .0 .game .small; words = s0 .pre .2 }
 
 best-value-requires : tie.Need-best-value-requires
-best-value-requires c κs = (c .before .before .before .store .ensures, c .before .before .before .before .before .before .before .before .pre .0, c .before .before .before .before .before .before .before .before .pre .1, omega (arith, c .before .before .before .before .before .before .before .before .pre .2, c .before .before .before .store .kept .1 .0))
+best-value-requires c κs = let s0 = c .before .before .before .before .before .before .before .before in let s1 = c .before .before .before in (s1 .store .ensures, s0 .pre .0, s0 .pre .1, omega (arith, s0 .pre .2, s1 .store .kept .1 .0))
 
 best-table-requires : tie.Need-best-table-requires
-best-table-requires c κs = (c .before .before .before .before .best-value .ensures .2, c .before .before .before .before .before .before .before .before .before .before .before .before .before .pre .0, c .before .before .before .before .before .before .before .before .before .before .before .before .before .pre .1)
+best-table-requires c κs = let s0 = c .before .before .before .before .before .before .before .before .before .before .before .before .before in (c .before .before .before .before .best-value .ensures .2, s0 .pre .0, s0 .pre .1)
 
 same-length : tie.Need-same-length
 same-length c = search needs

@@ -18,22 +18,22 @@ refusal-of-requires : tie.Need-refusal-of-requires
 refusal-of-requires c κs = search needs
 
 returns : tie.Need-returns
-returns c = (not-valued _ _ (countOf (c .before .before .before .before .args .asked) (gameOf (c .before .before .before .before .args .number) (c .before .before .before .before .args .seats))) (valuesOf (c .before .before .before .before .args .asked) (gameOf (c .before .before .before .before .args .number) (c .before .before .before .before .args .seats)) (c .before .before .before .before .args .profile .now)) (c .before .refusal-of .ensures) (c .if1 .taken), all-left _ (gameOf (c .before .before .before .before .args .number) (c .before .before .before .before .args .seats)) (c .before .before .before .before .args .work .now) (c .if1 .taken))
+returns c = let s0 = c .before .before .before .before in (not-valued _ _ (countOf (s0 .args .asked) (gameOf (s0 .args .number) (s0 .args .seats))) (valuesOf (s0 .args .asked) (gameOf (s0 .args .number) (s0 .args .seats)) (s0 .args .profile .now)) (c .before .refusal-of .ensures) (c .if1 .taken), all-left _ (gameOf (s0 .args .number) (s0 .args .seats)) (s0 .args .work .now) (c .if1 .taken))
 
 nodes-requires : tie.Need-nodes-requires
-nodes-requires c κs = known (c .before .before .before .before .args .asked) (gameOf (c .before .before .before .before .args .number) (c .before .before .before .before .args .seats)) (length (c .before .before .before .before .args .work .now)) (c .before .before .before .before .args .profile .now) (sym (c .before .refusal-of .ensures) ∙ c .if1 .left) .seats
+nodes-requires c κs = let s0 = c .before .before .before .before in known (s0 .args .asked) (gameOf (s0 .args .number) (s0 .args .seats)) (length (s0 .args .work .now)) (s0 .args .profile .now) (sym (c .before .refusal-of .ensures) ∙ c .if1 .left) .seats
 
 mul-words : tie.Need-mul-words
-mul-words c = omega (arith, room-for (gameOf (c .before .before .before .before .before .args .number) (c .before .before .before .before .before .args .seats)) (length (c .before .before .before .before .before .args .work .now)) (tree-accepted (c .before .before .before .before .before .args .asked) (gameOf (c .before .before .before .before .before .args .number) (c .before .before .before .before .before .args .seats)) (length (c .before .before .before .before .before .args .work .now)) (c .before .before .before .before .before .args .profile .now) (sym (c .before .before .refusal-of .ensures) ∙ c .before .if1 .left)) _ (c .nodes .ensures))
+mul-words c = let s0 = c .before .before .before .before .before in omega (arith, room-for (gameOf (s0 .args .number) (s0 .args .seats)) (length (s0 .args .work .now)) (tree-accepted (s0 .args .asked) (gameOf (s0 .args .number) (s0 .args .seats)) (length (s0 .args .work .now)) (s0 .args .profile .now) (sym (c .before .before .refusal-of .ensures) ∙ c .before .if1 .left)) _ (c .nodes .ensures))
 
 slice-relend-prefix-evaluate : tie.Need-slice-relend-prefix-evaluate
-slice-relend-prefix-evaluate c = room-for (gameOf (c .before .before .before .before .before .args .number) (c .before .before .before .before .before .args .seats)) (length (c .before .before .before .before .before .args .work .now)) (tree-accepted (c .before .before .before .before .before .args .asked) (gameOf (c .before .before .before .before .before .args .number) (c .before .before .before .before .before .args .seats)) (length (c .before .before .before .before .before .args .work .now)) (c .before .before .before .before .before .args .profile .now) (sym (c .before .before .refusal-of .ensures) ∙ c .before .if1 .left)) _ (c .nodes .ensures)
+slice-relend-prefix-evaluate c = let s0 = c .before .before .before .before .before in room-for (gameOf (s0 .args .number) (s0 .args .seats)) (length (s0 .args .work .now)) (tree-accepted (s0 .args .asked) (gameOf (s0 .args .number) (s0 .args .seats)) (length (s0 .args .work .now)) (s0 .args .profile .now) (sym (c .before .before .refusal-of .ensures) ∙ c .before .if1 .left)) _ (c .nodes .ensures)
 
 slice-aggregate-evaluate : tie.Need-slice-aggregate-evaluate
-slice-aggregate-evaluate c = sym (length-take-le (12 * c .before .nodes .result) (c .before .before .before .before .before .before .args .work .now) (room-for (gameOf (c .before .before .before .before .before .before .args .number) (c .before .before .before .before .before .before .args .seats)) (length (c .before .before .before .before .before .before .args .work .now)) (tree-accepted (c .before .before .before .before .before .before .args .asked) (gameOf (c .before .before .before .before .before .before .args .number) (c .before .before .before .before .before .before .args .seats)) (length (c .before .before .before .before .before .before .args .work .now)) (c .before .before .before .before .before .before .args .profile .now) (sym (c .before .before .before .refusal-of .ensures) ∙ c .before .before .if1 .left)) _ (c .before .nodes .ensures)))
+slice-aggregate-evaluate c = let s0 = c .before .before .before .before .before .before in sym (length-take-le (12 * c .before .nodes .result) (s0 .args .work .now) (room-for (gameOf (s0 .args .number) (s0 .args .seats)) (length (s0 .args .work .now)) (tree-accepted (s0 .args .asked) (gameOf (s0 .args .number) (s0 .args .seats)) (length (s0 .args .work .now)) (s0 .args .profile .now) (sym (c .before .before .before .refusal-of .ensures) ∙ c .before .before .if1 .left)) _ (c .before .nodes .ensures)))
 
 evaluate-requires : tie.Need-evaluate-requires
-evaluate-requires c κs = (profile-accepted (c .before .before .before .before .before .before .args .asked) (gameOf (c .before .before .before .before .before .before .args .number) (c .before .before .before .before .before .before .args .seats)) (length (c .before .before .before .before .before .before .args .work .now)) (c .before .before .before .before .before .before .args .profile .now) (sym (c .before .before .before .refusal-of .ensures) ∙ c .before .before .if1 .left), part-for (gameOf (c .before .before .before .before .before .before .args .number) (c .before .before .before .before .before .before .args .seats)) (length (c .before .before .before .before .before .before .args .work .now)) (tree-accepted (c .before .before .before .before .before .before .args .asked) (gameOf (c .before .before .before .before .before .before .args .number) (c .before .before .before .before .before .before .args .seats)) (length (c .before .before .before .before .before .before .args .work .now)) (c .before .before .before .before .before .before .args .profile .now) (sym (c .before .before .before .refusal-of .ensures) ∙ c .before .before .if1 .left)) _ (c .before .before .before .before .before .before .args .work .now) (c .before .nodes .ensures) refl, seat-accepted (c .before .before .before .before .before .before .args .asked) (gameOf (c .before .before .before .before .before .before .args .number) (c .before .before .before .before .before .before .args .seats)) (length (c .before .before .before .before .before .before .args .work .now)) (c .before .before .before .before .before .before .args .profile .now) (sym (c .before .before .before .refusal-of .ensures) ∙ c .before .before .if1 .left))
+evaluate-requires c κs = let s0 = c .before .before .before .before .before .before in let s1 = c .before .before .before in (profile-accepted (s0 .args .asked) (gameOf (s0 .args .number) (s0 .args .seats)) (length (s0 .args .work .now)) (s0 .args .profile .now) (sym (s1 .refusal-of .ensures) ∙ c .before .before .if1 .left), part-for (gameOf (s0 .args .number) (s0 .args .seats)) (length (s0 .args .work .now)) (tree-accepted (s0 .args .asked) (gameOf (s0 .args .number) (s0 .args .seats)) (length (s0 .args .work .now)) (s0 .args .profile .now) (sym (s1 .refusal-of .ensures) ∙ c .before .before .if1 .left)) _ (s0 .args .work .now) (c .before .nodes .ensures) refl, seat-accepted (s0 .args .asked) (gameOf (s0 .args .number) (s0 .args .seats)) (length (s0 .args .work .now)) (s0 .args .profile .now) (sym (s1 .refusal-of .ensures) ∙ c .before .before .if1 .left))
 
 count-of-requires : tie.Need-count-of-requires
 count-of-requires c κs = search needs
@@ -42,7 +42,7 @@ same-length : tie.Need-same-length
 same-length c = search needs
 
 returns-2 : tie.Need-returns-2
-returns-2 c = (valued _ _ (countOf (c .before .before .before .before .before .before .before .before .before .before .args .asked) (gameOf (c .before .before .before .before .before .before .before .before .before .before .args .number) (c .before .before .before .before .before .before .before .before .before .before .args .seats))) (valuesOf (c .before .before .before .before .before .before .before .before .before .before .args .asked) (gameOf (c .before .before .before .before .before .before .before .before .before .before .args .number) (c .before .before .before .before .before .before .before .before .before .before .args .seats)) (c .before .before .before .before .before .before .before .before .before .before .args .profile .now)) (c .before .before .before .before .before .before .before .refusal-of .ensures) _ _ (c .before .before .before .before .before .before .if1 .left) (c .count-of .ensures) (c .before .before .before .evaluate .ensures), rest-left _ _ (gameOf (c .before .before .before .before .before .before .before .before .before .before .args .number) (c .before .before .before .before .before .before .before .before .before .before .args .seats)) (c .before .before .before .before .before .before .before .before .before .before .args .work .now) (c .before .before .before .evaluate .last .1 .0) (c .before .before .before .before .before .before .if1 .left) (known (c .before .before .before .before .before .before .before .before .before .before .args .asked) (gameOf (c .before .before .before .before .before .before .before .before .before .before .args .number) (c .before .before .before .before .before .before .before .before .before .before .args .seats)) (length (c .before .before .before .before .before .before .before .before .before .before .args .work .now)) (c .before .before .before .before .before .before .before .before .before .before .args .profile .now) (sym (c .before .before .before .before .before .before .before .refusal-of .ensures) ∙ c .before .before .before .before .before .before .if1 .left) .seats) (c .before .before .before .before .before .nodes .ensures) (room-for (gameOf (c .before .before .before .before .before .before .before .before .before .before .args .number) (c .before .before .before .before .before .before .before .before .before .before .args .seats)) (length (c .before .before .before .before .before .before .before .before .before .before .args .work .now)) (tree-accepted (c .before .before .before .before .before .before .before .before .before .before .args .asked) (gameOf (c .before .before .before .before .before .before .before .before .before .before .args .number) (c .before .before .before .before .before .before .before .before .before .before .args .seats)) (length (c .before .before .before .before .before .before .before .before .before .before .args .work .now)) (c .before .before .before .before .before .before .before .before .before .before .args .profile .now) (sym (c .before .before .before .before .before .before .before .refusal-of .ensures) ∙ c .before .before .before .before .before .before .if1 .left)) _ (c .before .before .before .before .before .nodes .ensures)) (c .before .before .before .evaluate .kept .1 .0))
+returns-2 c = let s0 = c .before .before .before .before .before .before .before .before .before .before in let s1 = c .before .before .before .before .before .before .before in let s2 = c .before .before .before .before .before .before in let s3 = c .before .before .before .before .before in let s4 = c .before .before .before in (valued _ _ (countOf (s0 .args .asked) (gameOf (s0 .args .number) (s0 .args .seats))) (valuesOf (s0 .args .asked) (gameOf (s0 .args .number) (s0 .args .seats)) (s0 .args .profile .now)) (s1 .refusal-of .ensures) _ _ (s2 .if1 .left) (c .count-of .ensures) (s4 .evaluate .ensures), rest-left _ _ (gameOf (s0 .args .number) (s0 .args .seats)) (s0 .args .work .now) (s4 .evaluate .last .1 .0) (s2 .if1 .left) (known (s0 .args .asked) (gameOf (s0 .args .number) (s0 .args .seats)) (length (s0 .args .work .now)) (s0 .args .profile .now) (sym (s1 .refusal-of .ensures) ∙ s2 .if1 .left) .seats) (s3 .nodes .ensures) (room-for (gameOf (s0 .args .number) (s0 .args .seats)) (length (s0 .args .work .now)) (tree-accepted (s0 .args .asked) (gameOf (s0 .args .number) (s0 .args .seats)) (length (s0 .args .work .now)) (s0 .args .profile .now) (sym (s1 .refusal-of .ensures) ∙ s2 .if1 .left)) _ (s3 .nodes .ensures)) (s4 .evaluate .kept .1 .0))
 
 pub call-spec : {M : Type 1} → statement M
 call-spec =

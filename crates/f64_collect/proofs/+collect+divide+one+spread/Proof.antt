@@ -72,733 +72,101 @@ spread-at t = and 2 spread-kinds.ps (is 2 spread-kinds.ps μ-spread t) spread.Pr
 abbrev spread-below : ℕ → In 2 spread-kinds.ps
 spread-below t = and 2 spread-kinds.ps (falls 2 spread-kinds.ps _<_ μ-spread t) spread.Pre
 
-collect-returns : (t : ℕ) → collect-lts.Need-returns (
-  word-reads.Asked,
-  word-reads.Learnt,
-  kind-reads.Asked,
-  kind-reads.Learnt,
-  next-reads.Asked,
-  next-reads.Learnt,
-  fan-reads.Asked,
-  fan-reads.Learnt,
-  weight-reads.Asked,
-  weight-reads.Learnt,
-  spread-below t,
-  spread.Post,
-  actor-reads.Asked,
-  actor-reads.Learnt,
-  put-float-reads.Asked,
-  put-float-reads.Learnt,
-  set-reads.Asked,
-  set-reads.Learnt,
-  actions-reads.Asked,
-  actions-reads.Learnt,
-  divide-below t,
-  divide.Post,
-) (collect-at t) collect.Post
+abbrev collect-callees : ℕ → collect-lts.Claims
+collect-callees t = (word-reads.Asked, word-reads.Learnt, kind-reads.Asked, kind-reads.Learnt, next-reads.Asked, next-reads.Learnt, fan-reads.Asked, fan-reads.Learnt, weight-reads.Asked, weight-reads.Learnt, spread-below t, spread.Post, actor-reads.Asked, actor-reads.Learnt, put-float-reads.Asked, put-float-reads.Learnt, set-reads.Asked, set-reads.Learnt, actions-reads.Asked, actions-reads.Learnt, divide-below t, divide.Post)
+
+abbrev divide-callees : ℕ → divide-lts.Claims
+divide-callees t = (entry-reads.Asked, entry-reads.Learnt, one-below t, one.Post, behind-reads.Asked, behind-reads.Learnt)
+
+abbrev one-callees : ℕ → one-lts.Claims
+one-callees t = (word-reads.Asked, word-reads.Learnt, kind-reads.Asked, kind-reads.Learnt, collect-below t, collect.Post)
+
+abbrev spread-callees : ℕ → spread-lts.Claims
+spread-callees t = (one-below t, one.Post, behind-reads.Asked, behind-reads.Learnt)
+
+collect-returns : (t : ℕ) → collect-lts.Need-returns (collect-callees t) (collect-at t) collect.Post
 collect-returns t c = storing.node-none _ _ _ _ _ _ _ (c .if1 .taken)
 
-collect-word-requires : (t : ℕ) → collect-lts.Need-word-requires (
-  word-reads.Asked,
-  word-reads.Learnt,
-  kind-reads.Asked,
-  kind-reads.Learnt,
-  next-reads.Asked,
-  next-reads.Learnt,
-  fan-reads.Asked,
-  fan-reads.Learnt,
-  weight-reads.Asked,
-  weight-reads.Learnt,
-  spread-below t,
-  spread.Post,
-  actor-reads.Asked,
-  actor-reads.Learnt,
-  put-float-reads.Asked,
-  put-float-reads.Learnt,
-  set-reads.Asked,
-  set-reads.Learnt,
-  actions-reads.Asked,
-  actions-reads.Learnt,
-  divide-below t,
-  divide.Post,
-) (collect-at t) collect.Post
+collect-word-requires : (t : ℕ) → collect-lts.Need-word-requires (collect-callees t) (collect-at t) collect.Post
 collect-word-requires t c κs = search needs
 
-collect-kind-requires : (t : ℕ) → collect-lts.Need-kind-requires (
-  word-reads.Asked,
-  word-reads.Learnt,
-  kind-reads.Asked,
-  kind-reads.Learnt,
-  next-reads.Asked,
-  next-reads.Learnt,
-  fan-reads.Asked,
-  fan-reads.Learnt,
-  weight-reads.Asked,
-  weight-reads.Learnt,
-  spread-below t,
-  spread.Post,
-  actor-reads.Asked,
-  actor-reads.Learnt,
-  put-float-reads.Asked,
-  put-float-reads.Learnt,
-  set-reads.Asked,
-  set-reads.Learnt,
-  actions-reads.Asked,
-  actions-reads.Learnt,
-  divide-below t,
-  divide.Post,
-) (collect-at t) collect.Post
+collect-kind-requires : (t : ℕ) → collect-lts.Need-kind-requires (collect-callees t) (collect-at t) collect.Post
 collect-kind-requires t c κs = search needs
 
-collect-same-length : (t : ℕ) → collect-lts.Need-same-length (
-  word-reads.Asked,
-  word-reads.Learnt,
-  kind-reads.Asked,
-  kind-reads.Learnt,
-  next-reads.Asked,
-  next-reads.Learnt,
-  fan-reads.Asked,
-  fan-reads.Learnt,
-  weight-reads.Asked,
-  weight-reads.Learnt,
-  spread-below t,
-  spread.Post,
-  actor-reads.Asked,
-  actor-reads.Learnt,
-  put-float-reads.Asked,
-  put-float-reads.Learnt,
-  set-reads.Asked,
-  set-reads.Learnt,
-  actions-reads.Asked,
-  actions-reads.Learnt,
-  divide-below t,
-  divide.Post,
-) (collect-at t) collect.Post
+collect-same-length : (t : ℕ) → collect-lts.Need-same-length (collect-callees t) (collect-at t) collect.Post
 collect-same-length t c = search needs
 
-collect-returns-2 : (t : ℕ) → collect-lts.Need-returns-2 (
-  word-reads.Asked,
-  word-reads.Learnt,
-  kind-reads.Asked,
-  kind-reads.Learnt,
-  next-reads.Asked,
-  next-reads.Learnt,
-  fan-reads.Asked,
-  fan-reads.Learnt,
-  weight-reads.Asked,
-  weight-reads.Learnt,
-  spread-below t,
-  spread.Post,
-  actor-reads.Asked,
-  actor-reads.Learnt,
-  put-float-reads.Asked,
-  put-float-reads.Learnt,
-  set-reads.Asked,
-  set-reads.Learnt,
-  actions-reads.Asked,
-  actions-reads.Learnt,
-  divide-below t,
-  divide.Post,
-) (collect-at t) collect.Post
+collect-returns-2 : (t : ℕ) → collect-lts.Need-returns-2 (collect-callees t) (collect-at t) collect.Post
 collect-returns-2 t c = storing.node-end _ _ _ _ _ _ _ _ (c .before .before .word .ensures) (sym (c .before .kind .ensures) ∙ c .if2 .taken)
 
-collect-add-child : (t : ℕ) → collect-lts.Need-add-child (
-  word-reads.Asked,
-  word-reads.Learnt,
-  kind-reads.Asked,
-  kind-reads.Learnt,
-  next-reads.Asked,
-  next-reads.Learnt,
-  fan-reads.Asked,
-  fan-reads.Learnt,
-  weight-reads.Asked,
-  weight-reads.Learnt,
-  spread-below t,
-  spread.Post,
-  actor-reads.Asked,
-  actor-reads.Learnt,
-  put-float-reads.Asked,
-  put-float-reads.Learnt,
-  set-reads.Asked,
-  set-reads.Learnt,
-  actions-reads.Asked,
-  actions-reads.Learnt,
-  divide-below t,
-  divide.Post,
-) (collect-at t) collect.Post
+collect-add-child : (t : ℕ) → collect-lts.Need-add-child (collect-callees t) (collect-at t) collect.Post
 collect-add-child t c = record { fits = omega (arith, c .before .before .before .before .before .before .before .pre .1 .place) }
 
-collect-sub-below : (t : ℕ) → collect-lts.Need-sub-below (
-  word-reads.Asked,
-  word-reads.Learnt,
-  kind-reads.Asked,
-  kind-reads.Learnt,
-  next-reads.Asked,
-  next-reads.Learnt,
-  fan-reads.Asked,
-  fan-reads.Learnt,
-  weight-reads.Asked,
-  weight-reads.Learnt,
-  spread-below t,
-  spread.Post,
-  actor-reads.Asked,
-  actor-reads.Learnt,
-  put-float-reads.Asked,
-  put-float-reads.Learnt,
-  set-reads.Asked,
-  set-reads.Learnt,
-  actions-reads.Asked,
-  actions-reads.Learnt,
-  divide-below t,
-  divide.Post,
-) (collect-at t) collect.Post
+collect-sub-below : (t : ℕ) → collect-lts.Need-sub-below (collect-callees t) (collect-at t) collect.Post
 collect-sub-below t c = omega (arith, c .before .before .before .before .if1 .left)
 
-collect-next-requires : (t : ℕ) → collect-lts.Need-next-requires (
-  word-reads.Asked,
-  word-reads.Learnt,
-  kind-reads.Asked,
-  kind-reads.Learnt,
-  next-reads.Asked,
-  next-reads.Learnt,
-  fan-reads.Asked,
-  fan-reads.Learnt,
-  weight-reads.Asked,
-  weight-reads.Learnt,
-  spread-below t,
-  spread.Post,
-  actor-reads.Asked,
-  actor-reads.Learnt,
-  put-float-reads.Asked,
-  put-float-reads.Learnt,
-  set-reads.Asked,
-  set-reads.Learnt,
-  actions-reads.Asked,
-  actions-reads.Learnt,
-  divide-below t,
-  divide.Post,
-) (collect-at t) collect.Post
+collect-next-requires : (t : ℕ) → collect-lts.Need-next-requires (collect-callees t) (collect-at t) collect.Post
 collect-next-requires t c κs = search needs
 
-collect-fan-requires : (t : ℕ) → collect-lts.Need-fan-requires (
-  word-reads.Asked,
-  word-reads.Learnt,
-  kind-reads.Asked,
-  kind-reads.Learnt,
-  next-reads.Asked,
-  next-reads.Learnt,
-  fan-reads.Asked,
-  fan-reads.Learnt,
-  weight-reads.Asked,
-  weight-reads.Learnt,
-  spread-below t,
-  spread.Post,
-  actor-reads.Asked,
-  actor-reads.Learnt,
-  put-float-reads.Asked,
-  put-float-reads.Learnt,
-  set-reads.Asked,
-  set-reads.Learnt,
-  actions-reads.Asked,
-  actions-reads.Learnt,
-  divide-below t,
-  divide.Post,
-) (collect-at t) collect.Post
+collect-fan-requires : (t : ℕ) → collect-lts.Need-fan-requires (collect-callees t) (collect-at t) collect.Post
 collect-fan-requires t c κs = omega (arith, c .before .before .before .before .before .before .before .before .before .before .pre .1 .place, c .before .before .before .before .before .before .before .if1 .left)
 
-collect-weight-requires : (t : ℕ) → collect-lts.Need-weight-requires (
-  word-reads.Asked,
-  word-reads.Learnt,
-  kind-reads.Asked,
-  kind-reads.Learnt,
-  next-reads.Asked,
-  next-reads.Learnt,
-  fan-reads.Asked,
-  fan-reads.Learnt,
-  weight-reads.Asked,
-  weight-reads.Learnt,
-  spread-below t,
-  spread.Post,
-  actor-reads.Asked,
-  actor-reads.Learnt,
-  put-float-reads.Asked,
-  put-float-reads.Learnt,
-  set-reads.Asked,
-  set-reads.Learnt,
-  actions-reads.Asked,
-  actions-reads.Learnt,
-  divide-below t,
-  divide.Post,
-) (collect-at t) collect.Post
+collect-weight-requires : (t : ℕ) → collect-lts.Need-weight-requires (collect-callees t) (collect-at t) collect.Post
 collect-weight-requires t c κs = search needs
 
-collect-spread-requires : (t : ℕ) → collect-lts.Need-spread-requires (
-  word-reads.Asked,
-  word-reads.Learnt,
-  kind-reads.Asked,
-  kind-reads.Learnt,
-  next-reads.Asked,
-  next-reads.Learnt,
-  fan-reads.Asked,
-  fan-reads.Learnt,
-  weight-reads.Asked,
-  weight-reads.Learnt,
-  spread-below t,
-  spread.Post,
-  actor-reads.Asked,
-  actor-reads.Learnt,
-  put-float-reads.Asked,
-  put-float-reads.Learnt,
-  set-reads.Asked,
-  set-reads.Learnt,
-  actions-reads.Asked,
-  actions-reads.Learnt,
-  divide-below t,
-  divide.Post,
-) (collect-at t) collect.Post
-collect-spread-requires t c κs = (omega (arith, c .before .before .before .before .before .before .before .before .before .before .before .before .before .pre .0, c .before .before .before .before .before .before .before .before .before .before .if1 .left), storing.store-down _ _ _ (c .before .before .before .before .before .before .before .before .before .before .before .before .before .pre .1) (c .before .before .before .before .before .before .before .before .before .before .if1 .left))
+collect-spread-requires : (t : ℕ) → collect-lts.Need-spread-requires (collect-callees t) (collect-at t) collect.Post
+collect-spread-requires t c κs = let s0 = c .before .before .before .before .before .before .before .before .before .before .before .before .before in let s1 = c .before .before .before .before .before .before .before .before .before .before in (omega (arith, s0 .pre .0, s1 .if1 .left), storing.store-down _ _ _ (s0 .pre .1) (s1 .if1 .left))
 
-collect-same-length-2 : (t : ℕ) → collect-lts.Need-same-length-2 (
-  word-reads.Asked,
-  word-reads.Learnt,
-  kind-reads.Asked,
-  kind-reads.Learnt,
-  next-reads.Asked,
-  next-reads.Learnt,
-  fan-reads.Asked,
-  fan-reads.Learnt,
-  weight-reads.Asked,
-  weight-reads.Learnt,
-  spread-below t,
-  spread.Post,
-  actor-reads.Asked,
-  actor-reads.Learnt,
-  put-float-reads.Asked,
-  put-float-reads.Learnt,
-  set-reads.Asked,
-  set-reads.Learnt,
-  actions-reads.Asked,
-  actions-reads.Learnt,
-  divide-below t,
-  divide.Post,
-) (collect-at t) collect.Post
+collect-same-length-2 : (t : ℕ) → collect-lts.Need-same-length-2 (collect-callees t) (collect-at t) collect.Post
 collect-same-length-2 t c = search needs
 
-collect-returns-3 : (t : ℕ) → collect-lts.Need-returns-3 (
-  word-reads.Asked,
-  word-reads.Learnt,
-  kind-reads.Asked,
-  kind-reads.Learnt,
-  next-reads.Asked,
-  next-reads.Learnt,
-  fan-reads.Asked,
-  fan-reads.Learnt,
-  weight-reads.Asked,
-  weight-reads.Learnt,
-  spread-below t,
-  spread.Post,
-  actor-reads.Asked,
-  actor-reads.Learnt,
-  put-float-reads.Asked,
-  put-float-reads.Learnt,
-  set-reads.Asked,
-  set-reads.Learnt,
-  actions-reads.Asked,
-  actions-reads.Learnt,
-  divide-below t,
-  divide.Post,
-) (collect-at t) collect.Post
+collect-returns-3 : (t : ℕ) → collect-lts.Need-returns-3 (collect-callees t) (collect-at t) collect.Post
 collect-returns-3 t c = storing.node-chance _ _ _ _ _ _ _ _ (c .before .before .before .before .before .before .before .before .before .before .before .word .ensures) _ _ _ _ (sym (c .before .before .before .before .before .before .before .before .before .before .kind .ensures) ∙ c .before .before .before .before .before .before .before .before .if3 .taken) (c .before .before .before .before .before .before .before .next .ensures) (c .before .before .before .before .before .fan .ensures) (c .before .before .before .before .weight .ensures) (c .before .before .spread .ensures)
 
-collect-actor-requires : (t : ℕ) → collect-lts.Need-actor-requires (
-  word-reads.Asked,
-  word-reads.Learnt,
-  kind-reads.Asked,
-  kind-reads.Learnt,
-  next-reads.Asked,
-  next-reads.Learnt,
-  fan-reads.Asked,
-  fan-reads.Learnt,
-  weight-reads.Asked,
-  weight-reads.Learnt,
-  spread-below t,
-  spread.Post,
-  actor-reads.Asked,
-  actor-reads.Learnt,
-  put-float-reads.Asked,
-  put-float-reads.Learnt,
-  set-reads.Asked,
-  set-reads.Learnt,
-  actions-reads.Asked,
-  actions-reads.Learnt,
-  divide-below t,
-  divide.Post,
-) (collect-at t) collect.Post
+collect-actor-requires : (t : ℕ) → collect-lts.Need-actor-requires (collect-callees t) (collect-at t) collect.Post
 collect-actor-requires t c κs = search needs
 
-collect-add-put-float : (t : ℕ) → collect-lts.Need-add-put-float (
-  word-reads.Asked,
-  word-reads.Learnt,
-  kind-reads.Asked,
-  kind-reads.Learnt,
-  next-reads.Asked,
-  next-reads.Learnt,
-  fan-reads.Asked,
-  fan-reads.Learnt,
-  weight-reads.Asked,
-  weight-reads.Learnt,
-  spread-below t,
-  spread.Post,
-  actor-reads.Asked,
-  actor-reads.Learnt,
-  put-float-reads.Asked,
-  put-float-reads.Learnt,
-  set-reads.Asked,
-  set-reads.Learnt,
-  actions-reads.Asked,
-  actions-reads.Learnt,
-  divide-below t,
-  divide.Post,
-) (collect-at t) collect.Post
-collect-add-put-float t c = record { fits = omega (arith, c .before .before .before .before .before .before .before .before .before .before .before .pre .1 .base, c .before .before .before .before .before .before .before .before .before .before .before .pre .1 .place) }
+collect-add-put-float : (t : ℕ) → collect-lts.Need-add-put-float (collect-callees t) (collect-at t) collect.Post
+collect-add-put-float t c = let s0 = c .before .before .before .before .before .before .before .before .before .before .before in record { fits = omega (arith, s0 .pre .1 .base, s0 .pre .1 .place) }
 
-collect-put-float-requires : (t : ℕ) → collect-lts.Need-put-float-requires (
-  word-reads.Asked,
-  word-reads.Learnt,
-  kind-reads.Asked,
-  kind-reads.Learnt,
-  next-reads.Asked,
-  next-reads.Learnt,
-  fan-reads.Asked,
-  fan-reads.Learnt,
-  weight-reads.Asked,
-  weight-reads.Learnt,
-  spread-below t,
-  spread.Post,
-  actor-reads.Asked,
-  actor-reads.Learnt,
-  put-float-reads.Asked,
-  put-float-reads.Learnt,
-  set-reads.Asked,
-  set-reads.Learnt,
-  actions-reads.Asked,
-  actions-reads.Learnt,
-  divide-below t,
-  divide.Post,
-) (collect-at t) collect.Post
+collect-put-float-requires : (t : ℕ) → collect-lts.Need-put-float-requires (collect-callees t) (collect-at t) collect.Post
 collect-put-float-requires t c κs = search needs
 
-collect-next-requires-2 : (t : ℕ) → collect-lts.Need-next-requires-2 (
-  word-reads.Asked,
-  word-reads.Learnt,
-  kind-reads.Asked,
-  kind-reads.Learnt,
-  next-reads.Asked,
-  next-reads.Learnt,
-  fan-reads.Asked,
-  fan-reads.Learnt,
-  weight-reads.Asked,
-  weight-reads.Learnt,
-  spread-below t,
-  spread.Post,
-  actor-reads.Asked,
-  actor-reads.Learnt,
-  put-float-reads.Asked,
-  put-float-reads.Learnt,
-  set-reads.Asked,
-  set-reads.Learnt,
-  actions-reads.Asked,
-  actions-reads.Learnt,
-  divide-below t,
-  divide.Post,
-) (collect-at t) collect.Post
+collect-next-requires-2 : (t : ℕ) → collect-lts.Need-next-requires-2 (collect-callees t) (collect-at t) collect.Post
 collect-next-requires-2 t c κs = search needs
 
-collect-spread-requires-2 : (t : ℕ) → collect-lts.Need-spread-requires-2 (
-  word-reads.Asked,
-  word-reads.Learnt,
-  kind-reads.Asked,
-  kind-reads.Learnt,
-  next-reads.Asked,
-  next-reads.Learnt,
-  fan-reads.Asked,
-  fan-reads.Learnt,
-  weight-reads.Asked,
-  weight-reads.Learnt,
-  spread-below t,
-  spread.Post,
-  actor-reads.Asked,
-  actor-reads.Learnt,
-  put-float-reads.Asked,
-  put-float-reads.Learnt,
-  set-reads.Asked,
-  set-reads.Learnt,
-  actions-reads.Asked,
-  actions-reads.Learnt,
-  divide-below t,
-  divide.Post,
-) (collect-at t) collect.Post
-collect-spread-requires-2 t c κs = (omega (arith, c .before .before .before .before .before .before .before .before .before .before .before .before .before .before .before .before .pre .0, c .before .before .before .before .before .before .before .before .before .before .before .before .before .if1 .left), storing.store-down _ _ _ (c .before .before .before .before .before .before .before .before .before .before .before .before .before .before .before .before .pre .1) (c .before .before .before .before .before .before .before .before .before .before .before .before .before .if1 .left))
+collect-spread-requires-2 : (t : ℕ) → collect-lts.Need-spread-requires-2 (collect-callees t) (collect-at t) collect.Post
+collect-spread-requires-2 t c κs = let s0 = c .before .before .before .before .before .before .before .before .before .before .before .before .before .before .before .before in let s1 = c .before .before .before .before .before .before .before .before .before .before .before .before .before in (omega (arith, s0 .pre .0, s1 .if1 .left), storing.store-down _ _ _ (s0 .pre .1) (s1 .if1 .left))
 
-collect-same-length-3 : (t : ℕ) → collect-lts.Need-same-length-3 (
-  word-reads.Asked,
-  word-reads.Learnt,
-  kind-reads.Asked,
-  kind-reads.Learnt,
-  next-reads.Asked,
-  next-reads.Learnt,
-  fan-reads.Asked,
-  fan-reads.Learnt,
-  weight-reads.Asked,
-  weight-reads.Learnt,
-  spread-below t,
-  spread.Post,
-  actor-reads.Asked,
-  actor-reads.Learnt,
-  put-float-reads.Asked,
-  put-float-reads.Learnt,
-  set-reads.Asked,
-  set-reads.Learnt,
-  actions-reads.Asked,
-  actions-reads.Learnt,
-  divide-below t,
-  divide.Post,
-) (collect-at t) collect.Post
+collect-same-length-3 : (t : ℕ) → collect-lts.Need-same-length-3 (collect-callees t) (collect-at t) collect.Post
 collect-same-length-3 t c = search needs
 
-collect-returns-4 : (t : ℕ) → collect-lts.Need-returns-4 (
-  word-reads.Asked,
-  word-reads.Learnt,
-  kind-reads.Asked,
-  kind-reads.Learnt,
-  next-reads.Asked,
-  next-reads.Learnt,
-  fan-reads.Asked,
-  fan-reads.Learnt,
-  weight-reads.Asked,
-  weight-reads.Learnt,
-  spread-below t,
-  spread.Post,
-  actor-reads.Asked,
-  actor-reads.Learnt,
-  put-float-reads.Asked,
-  put-float-reads.Learnt,
-  set-reads.Asked,
-  set-reads.Learnt,
-  actions-reads.Asked,
-  actions-reads.Learnt,
-  divide-below t,
-  divide.Post,
-) (collect-at t) collect.Post
-collect-returns-4 t c = storing.node-own _ _ _ _ _ _ _ _ (c .before .before .before .before .before .before .before .before .before .before .before .before .before .before .word .ensures) _ _ _ (λ q. c .before .before .before .before .before .before .before .before .before .before .before .before .if2 .left (c .before .before .before .before .before .before .before .before .before .before .before .before .before .kind .ensures ∙ q)) (λ q. c .before .before .before .before .before .before .before .before .before .before .before .if3 .left (c .before .before .before .before .before .before .before .before .before .before .before .before .before .kind .ensures ∙ q)) (sym (c .before .before .before .before .before .before .before .before .before .before .actor .ensures) ∙ c .before .before .before .before .before .before .before .before .before .if4 .taken) (c .before .before .before .before .before .before .before .put-float .ensures) (c .before .before .before .next2 .ensures) (c .before .before .spread2 .ensures)
+collect-returns-4 : (t : ℕ) → collect-lts.Need-returns-4 (collect-callees t) (collect-at t) collect.Post
+collect-returns-4 t c = let s0 = c .before .before .before .before .before .before .before .before .before .before .before .before .before in storing.node-own _ _ _ _ _ _ _ _ (c .before .before .before .before .before .before .before .before .before .before .before .before .before .before .word .ensures) _ _ _ (λ q. c .before .before .before .before .before .before .before .before .before .before .before .before .if2 .left (s0 .kind .ensures ∙ q)) (λ q. c .before .before .before .before .before .before .before .before .before .before .before .if3 .left (s0 .kind .ensures ∙ q)) (sym (c .before .before .before .before .before .before .before .before .before .before .actor .ensures) ∙ c .before .before .before .before .before .before .before .before .before .if4 .taken) (c .before .before .before .before .before .before .before .put-float .ensures) (c .before .before .before .next2 .ensures) (c .before .before .spread2 .ensures)
 
-collect-set-requires : (t : ℕ) → collect-lts.Need-set-requires (
-  word-reads.Asked,
-  word-reads.Learnt,
-  kind-reads.Asked,
-  kind-reads.Learnt,
-  next-reads.Asked,
-  next-reads.Learnt,
-  fan-reads.Asked,
-  fan-reads.Learnt,
-  weight-reads.Asked,
-  weight-reads.Learnt,
-  spread-below t,
-  spread.Post,
-  actor-reads.Asked,
-  actor-reads.Learnt,
-  put-float-reads.Asked,
-  put-float-reads.Learnt,
-  set-reads.Asked,
-  set-reads.Learnt,
-  actions-reads.Asked,
-  actions-reads.Learnt,
-  divide-below t,
-  divide.Post,
-) (collect-at t) collect.Post
+collect-set-requires : (t : ℕ) → collect-lts.Need-set-requires (collect-callees t) (collect-at t) collect.Post
 collect-set-requires t c κs = search needs
 
-collect-actions-requires : (t : ℕ) → collect-lts.Need-actions-requires (
-  word-reads.Asked,
-  word-reads.Learnt,
-  kind-reads.Asked,
-  kind-reads.Learnt,
-  next-reads.Asked,
-  next-reads.Learnt,
-  fan-reads.Asked,
-  fan-reads.Learnt,
-  weight-reads.Asked,
-  weight-reads.Learnt,
-  spread-below t,
-  spread.Post,
-  actor-reads.Asked,
-  actor-reads.Learnt,
-  put-float-reads.Asked,
-  put-float-reads.Learnt,
-  set-reads.Asked,
-  set-reads.Learnt,
-  actions-reads.Asked,
-  actions-reads.Learnt,
-  divide-below t,
-  divide.Post,
-) (collect-at t) collect.Post
+collect-actions-requires : (t : ℕ) → collect-lts.Need-actions-requires (collect-callees t) (collect-at t) collect.Post
 collect-actions-requires t c κs = search needs
 
-collect-add-end : (t : ℕ) → collect-lts.Need-add-end (
-  word-reads.Asked,
-  word-reads.Learnt,
-  kind-reads.Asked,
-  kind-reads.Learnt,
-  next-reads.Asked,
-  next-reads.Learnt,
-  fan-reads.Asked,
-  fan-reads.Learnt,
-  weight-reads.Asked,
-  weight-reads.Learnt,
-  spread-below t,
-  spread.Post,
-  actor-reads.Asked,
-  actor-reads.Learnt,
-  put-float-reads.Asked,
-  put-float-reads.Learnt,
-  set-reads.Asked,
-  set-reads.Learnt,
-  actions-reads.Asked,
-  actions-reads.Learnt,
-  divide-below t,
-  divide.Post,
-) (collect-at t) collect.Post
+collect-add-end : (t : ℕ) → collect-lts.Need-add-end (collect-callees t) (collect-at t) collect.Post
 collect-add-end t c = record { fits = omega (arith, c .before .set .ensures, c .actions .ensures) }
 
-collect-same-length-4 : (t : ℕ) → collect-lts.Need-same-length-4 (
-  word-reads.Asked,
-  word-reads.Learnt,
-  kind-reads.Asked,
-  kind-reads.Learnt,
-  next-reads.Asked,
-  next-reads.Learnt,
-  fan-reads.Asked,
-  fan-reads.Learnt,
-  weight-reads.Asked,
-  weight-reads.Learnt,
-  spread-below t,
-  spread.Post,
-  actor-reads.Asked,
-  actor-reads.Learnt,
-  put-float-reads.Asked,
-  put-float-reads.Learnt,
-  set-reads.Asked,
-  set-reads.Learnt,
-  actions-reads.Asked,
-  actions-reads.Learnt,
-  divide-below t,
-  divide.Post,
-) (collect-at t) collect.Post
+collect-same-length-4 : (t : ℕ) → collect-lts.Need-same-length-4 (collect-callees t) (collect-at t) collect.Post
 collect-same-length-4 t c = search needs
 
-collect-returns-5 : (t : ℕ) → collect-lts.Need-returns-5 (
-  word-reads.Asked,
-  word-reads.Learnt,
-  kind-reads.Asked,
-  kind-reads.Learnt,
-  next-reads.Asked,
-  next-reads.Learnt,
-  fan-reads.Asked,
-  fan-reads.Learnt,
-  weight-reads.Asked,
-  weight-reads.Learnt,
-  spread-below t,
-  spread.Post,
-  actor-reads.Asked,
-  actor-reads.Learnt,
-  put-float-reads.Asked,
-  put-float-reads.Learnt,
-  set-reads.Asked,
-  set-reads.Learnt,
-  actions-reads.Asked,
-  actions-reads.Learnt,
-  divide-below t,
-  divide.Post,
-) (collect-at t) collect.Post
-collect-returns-5 t c = storing.node-short _ _ _ _ _ _ _ _ (c .before .before .before .before .before .before .before .before .word .ensures) (λ q. c .before .before .before .before .before .before .if2 .left (c .before .before .before .before .before .before .before .kind .ensures ∙ q)) (λ q. c .before .before .before .before .before .if3 .left (c .before .before .before .before .before .before .before .kind .ensures ∙ q)) (omega (arith, c .before .before .set .ensures, c .before .actions .ensures, c .if5 .taken))
+collect-returns-5 : (t : ℕ) → collect-lts.Need-returns-5 (collect-callees t) (collect-at t) collect.Post
+collect-returns-5 t c = let s0 = c .before .before .before .before .before .before .before in storing.node-short _ _ _ _ _ _ _ _ (c .before .before .before .before .before .before .before .before .word .ensures) (λ q. c .before .before .before .before .before .before .if2 .left (s0 .kind .ensures ∙ q)) (λ q. c .before .before .before .before .before .if3 .left (s0 .kind .ensures ∙ q)) (omega (arith, c .before .before .set .ensures, c .before .actions .ensures, c .if5 .taken))
 
-collect-divide-requires : (t : ℕ) → collect-lts.Need-divide-requires (
-  word-reads.Asked,
-  word-reads.Learnt,
-  kind-reads.Asked,
-  kind-reads.Learnt,
-  next-reads.Asked,
-  next-reads.Learnt,
-  fan-reads.Asked,
-  fan-reads.Learnt,
-  weight-reads.Asked,
-  weight-reads.Learnt,
-  spread-below t,
-  spread.Post,
-  actor-reads.Asked,
-  actor-reads.Learnt,
-  put-float-reads.Asked,
-  put-float-reads.Learnt,
-  set-reads.Asked,
-  set-reads.Learnt,
-  actions-reads.Asked,
-  actions-reads.Learnt,
-  divide-below t,
-  divide.Post,
-) (collect-at t) collect.Post
-collect-divide-requires t c κs = (omega (arith, c .before .before .before .before .before .before .before .before .before .before .before .before .before .before .pre .0, c .before .before .before .before .before .before .before .before .before .before .before .if1 .left), (storing.store-down _ _ _ (c .before .before .before .before .before .before .before .before .before .before .before .before .before .before .pre .1) (c .before .before .before .before .before .before .before .before .before .before .before .if1 .left), omega arith, omega (arith, c .before .if5 .left)))
+collect-divide-requires : (t : ℕ) → collect-lts.Need-divide-requires (collect-callees t) (collect-at t) collect.Post
+collect-divide-requires t c κs = let s0 = c .before .before .before .before .before .before .before .before .before .before .before .before .before .before in let s1 = c .before .before .before .before .before .before .before .before .before .before .before in (omega (arith, s0 .pre .0, s1 .if1 .left), (storing.store-down _ _ _ (s0 .pre .1) (s1 .if1 .left), omega arith, omega (arith, c .before .if5 .left)))
 
-collect-same-length-5 : (t : ℕ) → collect-lts.Need-same-length-5 (
-  word-reads.Asked,
-  word-reads.Learnt,
-  kind-reads.Asked,
-  kind-reads.Learnt,
-  next-reads.Asked,
-  next-reads.Learnt,
-  fan-reads.Asked,
-  fan-reads.Learnt,
-  weight-reads.Asked,
-  weight-reads.Learnt,
-  spread-below t,
-  spread.Post,
-  actor-reads.Asked,
-  actor-reads.Learnt,
-  put-float-reads.Asked,
-  put-float-reads.Learnt,
-  set-reads.Asked,
-  set-reads.Learnt,
-  actions-reads.Asked,
-  actions-reads.Learnt,
-  divide-below t,
-  divide.Post,
-) (collect-at t) collect.Post
+collect-same-length-5 : (t : ℕ) → collect-lts.Need-same-length-5 (collect-callees t) (collect-at t) collect.Post
 collect-same-length-5 t c = search needs
 
-collect-returns-6 : (t : ℕ) → collect-lts.Need-returns-6 (
-  word-reads.Asked,
-  word-reads.Learnt,
-  kind-reads.Asked,
-  kind-reads.Learnt,
-  next-reads.Asked,
-  next-reads.Learnt,
-  fan-reads.Asked,
-  fan-reads.Learnt,
-  weight-reads.Asked,
-  weight-reads.Learnt,
-  spread-below t,
-  spread.Post,
-  actor-reads.Asked,
-  actor-reads.Learnt,
-  put-float-reads.Asked,
-  put-float-reads.Learnt,
-  set-reads.Asked,
-  set-reads.Learnt,
-  actions-reads.Asked,
-  actions-reads.Learnt,
-  divide-below t,
-  divide.Post,
-) (collect-at t) collect.Post
-collect-returns-6 t c = storing.node-other _ _ _ _ _ _ _ _ (c .before .before .before .before .before .before .before .before .before .before .before .before .word .ensures) _ _ _ (λ q. c .before .before .before .before .before .before .before .before .before .before .if2 .left (c .before .before .before .before .before .before .before .before .before .before .before .kind .ensures ∙ q)) (λ q. c .before .before .before .before .before .before .before .before .before .if3 .left (c .before .before .before .before .before .before .before .before .before .before .before .kind .ensures ∙ q)) (λ q. c .before .before .before .before .before .before .before .if4 .left (c .before .before .before .before .before .before .before .before .actor .ensures ∙ q)) (c .before .before .before .before .before .before .set .ensures) (c .before .before .before .before .before .actions .ensures) (c .before .before .divide .ensures)
+collect-returns-6 : (t : ℕ) → collect-lts.Need-returns-6 (collect-callees t) (collect-at t) collect.Post
+collect-returns-6 t c = let s0 = c .before .before .before .before .before .before .before .before .before .before .before in storing.node-other _ _ _ _ _ _ _ _ (c .before .before .before .before .before .before .before .before .before .before .before .before .word .ensures) _ _ _ (λ q. c .before .before .before .before .before .before .before .before .before .before .if2 .left (s0 .kind .ensures ∙ q)) (λ q. c .before .before .before .before .before .before .before .before .before .if3 .left (s0 .kind .ensures ∙ q)) (λ q. c .before .before .before .before .before .before .before .if4 .left (c .before .before .before .before .before .before .before .before .actor .ensures ∙ q)) (c .before .before .before .before .before .before .set .ensures) (c .before .before .before .before .before .actions .ensures) (c .before .before .divide .ensures)
 
 abbrev divide-Inv-loop : divide-lts.InvT-loop
 divide-Inv-loop w₀ profile a first end r seat reach depth at₀ action₀ w at action = storing.SoFar profile seat reach a depth w₀ (Divided profile first end r) (λ y. y ≡ action) at w × Storable at reach depth × (action ≤ end - first)
@@ -806,214 +174,67 @@ divide-Inv-loop w₀ profile a first end r seat reach depth at₀ action₀ w at
 abbrev divide-μ-loop : divide-lts.MeasureT-loop
 divide-μ-loop w₀ profile a first end r seat reach depth at₀ action₀ w at action = end - first - action
 
-divide-loop-holds : (t : ℕ) → divide-lts.Need-loop-holds (
-  entry-reads.Asked,
-  entry-reads.Learnt,
-  one-below t,
-  one.Post,
-  behind-reads.Asked,
-  behind-reads.Learnt,
-) (divide-at t) divide.Post divide-Inv-loop divide-μ-loop
+divide-loop-holds : (t : ℕ) → divide-lts.Need-loop-holds (divide-callees t) (divide-at t) divide.Post divide-Inv-loop divide-μ-loop
 divide-loop-holds t c = (storing.divided-start _ _ _ _ _ _ _ _ _, c .before .before .pre .1 .0, omega arith)
 
-divide-sub-loop : (t : ℕ) → divide-lts.Need-sub-loop (
-  entry-reads.Asked,
-  entry-reads.Learnt,
-  one-below t,
-  one.Post,
-  behind-reads.Asked,
-  behind-reads.Learnt,
-) (divide-at t) divide.Post divide-Inv-loop divide-μ-loop
+divide-sub-loop : (t : ℕ) → divide-lts.Need-sub-loop (divide-callees t) (divide-at t) divide.Post divide-Inv-loop divide-μ-loop
 divide-sub-loop t c = c .before .before .before .pre .1 .1
 
-divide-mul-entry : (t : ℕ) → divide-lts.Need-mul-entry (
-  entry-reads.Asked,
-  entry-reads.Learnt,
-  one-below t,
-  one.Post,
-  behind-reads.Asked,
-  behind-reads.Learnt,
-) (divide-at t) divide.Post divide-Inv-loop divide-μ-loop
+divide-mul-entry : (t : ℕ) → divide-lts.Need-mul-entry (divide-callees t) (divide-at t) divide.Post divide-Inv-loop divide-μ-loop
 divide-mul-entry t c = search needs
 
-divide-sub-entry : (t : ℕ) → divide-lts.Need-sub-entry (
-  entry-reads.Asked,
-  entry-reads.Learnt,
-  one-below t,
-  one.Post,
-  behind-reads.Asked,
-  behind-reads.Learnt,
-) (divide-at t) divide.Post divide-Inv-loop divide-μ-loop
+divide-sub-entry : (t : ℕ) → divide-lts.Need-sub-entry (divide-callees t) (divide-at t) divide.Post divide-Inv-loop divide-μ-loop
 divide-sub-entry t c = c .before .before .before .before .pre .1 .1
 
-divide-part-entry-start : (t : ℕ) → divide-lts.Need-part-entry-start (
-  entry-reads.Asked,
-  entry-reads.Learnt,
-  one-below t,
-  one.Post,
-  behind-reads.Asked,
-  behind-reads.Learnt,
-) (divide-at t) divide.Post divide-Inv-loop divide-μ-loop
+divide-part-entry-start : (t : ℕ) → divide-lts.Need-part-entry-start (divide-callees t) (divide-at t) divide.Post divide-Inv-loop divide-μ-loop
 divide-part-entry-start t c = search needs
 
-divide-part-entry-end : (t : ℕ) → divide-lts.Need-part-entry-end (
-  entry-reads.Asked,
-  entry-reads.Learnt,
-  one-below t,
-  one.Post,
-  behind-reads.Asked,
-  behind-reads.Learnt,
-) (divide-at t) divide.Post divide-Inv-loop divide-μ-loop
+divide-part-entry-end : (t : ℕ) → divide-lts.Need-part-entry-end (divide-callees t) (divide-at t) divide.Post divide-Inv-loop divide-μ-loop
 divide-part-entry-end t c = search needs
 
-divide-entry-requires : (t : ℕ) → divide-lts.Need-entry-requires (
-  entry-reads.Asked,
-  entry-reads.Learnt,
-  one-below t,
-  one.Post,
-  behind-reads.Asked,
-  behind-reads.Learnt,
-) (divide-at t) divide.Post divide-Inv-loop divide-μ-loop
-divide-entry-requires t c κs = rw (part-length (now (c .before .before .before .before .before .args .profile)) (c .before .before .before .before .before .args .first) (c .before .before .before .before .before .args .end) (c .before .before .before .before .before .pre .1 .2)) (c .before .loop-test .taken)
+divide-entry-requires : (t : ℕ) → divide-lts.Need-entry-requires (divide-callees t) (divide-at t) divide.Post divide-Inv-loop divide-μ-loop
+divide-entry-requires t c κs = let s0 = c .before .before .before .before .before in rw (part-length (now (s0 .args .profile)) (s0 .args .first) (s0 .args .end) (s0 .pre .1 .2)) (c .before .loop-test .taken)
 
-divide-one-requires : (t : ℕ) → divide-lts.Need-one-requires (
-  entry-reads.Asked,
-  entry-reads.Learnt,
-  one-below t,
-  one.Post,
-  behind-reads.Asked,
-  behind-reads.Learnt,
-) (divide-at t) divide.Post divide-Inv-loop divide-μ-loop
+divide-one-requires : (t : ℕ) → divide-lts.Need-one-requires (divide-callees t) (divide-at t) divide.Post divide-Inv-loop divide-μ-loop
 divide-one-requires t c κs = (omega (arith, c .before .before .before .before .before .before .before .pre .0), c .before .before .before .before .loop .inv .1)
 
-divide-behind-requires : (t : ℕ) → divide-lts.Need-behind-requires (
-  entry-reads.Asked,
-  entry-reads.Learnt,
-  one-below t,
-  one.Post,
-  behind-reads.Asked,
-  behind-reads.Learnt,
-) (divide-at t) divide.Post divide-Inv-loop divide-μ-loop
+divide-behind-requires : (t : ℕ) → divide-lts.Need-behind-requires (divide-callees t) (divide-at t) divide.Post divide-Inv-loop divide-μ-loop
 divide-behind-requires t c κs = omega (arith, c .before .before .before .before .before .before .before .before .loop .inv .1 .place)
 
-divide-add-action : (t : ℕ) → divide-lts.Need-add-action (
-  entry-reads.Asked,
-  entry-reads.Learnt,
-  one-below t,
-  one.Post,
-  behind-reads.Asked,
-  behind-reads.Learnt,
-) (divide-at t) divide.Post divide-Inv-loop divide-μ-loop
+divide-add-action : (t : ℕ) → divide-lts.Need-add-action (divide-callees t) (divide-at t) divide.Post divide-Inv-loop divide-μ-loop
 divide-add-action t c = record { fits = omega (arith, c .before .before .before .before .before .before .before .before .loop-test .taken) }
 
-divide-loop-less : (t : ℕ) → divide-lts.Need-loop-less (
-  entry-reads.Asked,
-  entry-reads.Learnt,
-  one-below t,
-  one.Post,
-  behind-reads.Asked,
-  behind-reads.Learnt,
-) (divide-at t) divide.Post divide-Inv-loop divide-μ-loop
+divide-loop-less : (t : ℕ) → divide-lts.Need-loop-less (divide-callees t) (divide-at t) divide.Post divide-Inv-loop divide-μ-loop
 divide-loop-less t c = omega (arith, c .before .before .before .before .before .before .before .before .loop-test .taken)
 
-divide-loop-again : (t : ℕ) → divide-lts.Need-loop-again (
-  entry-reads.Asked,
-  entry-reads.Learnt,
-  one-below t,
-  one.Post,
-  behind-reads.Asked,
-  behind-reads.Learnt,
-) (divide-at t) divide.Post divide-Inv-loop divide-μ-loop
-divide-loop-again t c = (storing.divided-more _ _ _ _ _ _ _ _ _ _ _ _ _ _ _ (c .before .before .before .before .before .before .before .before .before .loop .inv .0) (c .before .before .before .before .before .before .before .before .loop-test .taken) (c .before .before .before .before .before .before .entry .ensures ∙ part-at (now (c .before .before .before .before .before .before .before .before .before .before .before .before .args .profile)) (c .before .before .before .before .before .before .before .before .before .before .before .before .args .first) (c .before .before .before .before .before .before .before .before .before .before .before .before .args .end) (c .before .before .before .before .before .before .before .before .before .loop .action) nan (c .before .before .before .before .before .before .before .before .loop-test .taken)) (c .before .before .before .before .one .ensures) (c .behind .ensures), storing.store-along _ _ _ _ (c .before .before .before .before .before .before .before .before .before .before .before .before .pre .1 .0) (c .behind .ensures .near), omega (arith, c .before .before .before .before .before .before .before .before .loop-test .taken))
+divide-loop-again : (t : ℕ) → divide-lts.Need-loop-again (divide-callees t) (divide-at t) divide.Post divide-Inv-loop divide-μ-loop
+divide-loop-again t c = let s0 = c .before .before .before .before .before .before .before .before .before .before .before .before in let s1 = c .before .before .before .before .before .before .before .before .before in let s2 = c .before .before .before .before .before .before .before .before in (storing.divided-more _ _ _ _ _ _ _ _ _ _ _ _ _ _ _ (s1 .loop .inv .0) (s2 .loop-test .taken) (c .before .before .before .before .before .before .entry .ensures ∙ part-at (now (s0 .args .profile)) (s0 .args .first) (s0 .args .end) (s1 .loop .action) nan (s2 .loop-test .taken)) (c .before .before .before .before .one .ensures) (c .behind .ensures), storing.store-along _ _ _ _ (s0 .pre .1 .0) (c .behind .ensures .near), omega (arith, s2 .loop-test .taken))
 
-divide-same-length : (t : ℕ) → divide-lts.Need-same-length (
-  entry-reads.Asked,
-  entry-reads.Learnt,
-  one-below t,
-  one.Post,
-  behind-reads.Asked,
-  behind-reads.Learnt,
-) (divide-at t) divide.Post divide-Inv-loop divide-μ-loop
+divide-same-length : (t : ℕ) → divide-lts.Need-same-length (divide-callees t) (divide-at t) divide.Post divide-Inv-loop divide-μ-loop
 divide-same-length t c = c .before .loop .inv .0 .long
 
-divide-returns : (t : ℕ) → divide-lts.Need-returns (
-  entry-reads.Asked,
-  entry-reads.Learnt,
-  one-below t,
-  one.Post,
-  behind-reads.Asked,
-  behind-reads.Learnt,
-) (divide-at t) divide.Post divide-Inv-loop divide-μ-loop
+divide-returns : (t : ℕ) → divide-lts.Need-returns (divide-callees t) (divide-at t) divide.Post divide-Inv-loop divide-μ-loop
 divide-returns t c = storing.divided-end _ _ _ _ _ _ _ _ _ _ _ _ (c .before .loop .inv .0) (c .loop-test .left)
 
-one-word-requires : (t : ℕ) → one-lts.Need-word-requires (
-  word-reads.Asked,
-  word-reads.Learnt,
-  kind-reads.Asked,
-  kind-reads.Learnt,
-  collect-below t,
-  collect.Post,
-) (one-at t) one.Post
+one-word-requires : (t : ℕ) → one-lts.Need-word-requires (one-callees t) (one-at t) one.Post
 one-word-requires t c κs = search needs
 
-one-kind-requires : (t : ℕ) → one-lts.Need-kind-requires (
-  word-reads.Asked,
-  word-reads.Learnt,
-  kind-reads.Asked,
-  kind-reads.Learnt,
-  collect-below t,
-  collect.Post,
-) (one-at t) one.Post
+one-kind-requires : (t : ℕ) → one-lts.Need-kind-requires (one-callees t) (one-at t) one.Post
 one-kind-requires t c κs = search needs
 
-one-same-length : (t : ℕ) → one-lts.Need-same-length (
-  word-reads.Asked,
-  word-reads.Learnt,
-  kind-reads.Asked,
-  kind-reads.Learnt,
-  collect-below t,
-  collect.Post,
-) (one-at t) one.Post
+one-same-length : (t : ℕ) → one-lts.Need-same-length (one-callees t) (one-at t) one.Post
 one-same-length t c = search needs
 
-one-returns : (t : ℕ) → one-lts.Need-returns (
-  word-reads.Asked,
-  word-reads.Learnt,
-  kind-reads.Asked,
-  kind-reads.Learnt,
-  collect-below t,
-  collect.Post,
-) (one-at t) one.Post
+one-returns : (t : ℕ) → one-lts.Need-returns (one-callees t) (one-at t) one.Post
 one-returns t c = storing.node-end _ _ _ _ _ _ _ _ (c .before .before .word .ensures) (sym (c .before .kind .ensures) ∙ c .if1 .taken)
 
-one-collect-requires : (t : ℕ) → one-lts.Need-collect-requires (
-  word-reads.Asked,
-  word-reads.Learnt,
-  kind-reads.Asked,
-  kind-reads.Learnt,
-  collect-below t,
-  collect.Post,
-) (one-at t) one.Post
-one-collect-requires t c κs = (omega (arith, c .before .before .before .before .before .before .before .pre .0), c .before .before .before .before .before .before .before .pre .1)
+one-collect-requires : (t : ℕ) → one-lts.Need-collect-requires (one-callees t) (one-at t) one.Post
+one-collect-requires t c κs = let s0 = c .before .before .before .before .before .before .before in (omega (arith, s0 .pre .0), s0 .pre .1)
 
-one-same-length-2 : (t : ℕ) → one-lts.Need-same-length-2 (
-  word-reads.Asked,
-  word-reads.Learnt,
-  kind-reads.Asked,
-  kind-reads.Learnt,
-  collect-below t,
-  collect.Post,
-) (one-at t) one.Post
+one-same-length-2 : (t : ℕ) → one-lts.Need-same-length-2 (one-callees t) (one-at t) one.Post
 one-same-length-2 t c = search needs
 
-one-returns-2 : (t : ℕ) → one-lts.Need-returns-2 (
-  word-reads.Asked,
-  word-reads.Learnt,
-  kind-reads.Asked,
-  kind-reads.Learnt,
-  collect-below t,
-  collect.Post,
-) (one-at t) one.Post
+one-returns-2 : (t : ℕ) → one-lts.Need-returns-2 (one-callees t) (one-at t) one.Post
 one-returns-2 t c = c .before .before .collect .ensures
 
 abbrev spread-Inv-loop : spread-lts.InvT-loop
@@ -1022,104 +243,35 @@ spread-Inv-loop w₀ profile a end r seat reach depth at₀ w at = storing.SoFar
 abbrev spread-μ-loop : spread-lts.MeasureT-loop
 spread-μ-loop w₀ profile a end r seat reach depth at₀ w at = end - at
 
-spread-loop-holds : (t : ℕ) → spread-lts.Need-loop-holds (
-  one-below t,
-  one.Post,
-  behind-reads.Asked,
-  behind-reads.Learnt,
-) (spread-at t) spread.Post spread-Inv-loop spread-μ-loop
+spread-loop-holds : (t : ℕ) → spread-lts.Need-loop-holds (spread-callees t) (spread-at t) spread.Post spread-Inv-loop spread-μ-loop
 spread-loop-holds t c = (storing.each-start _ _ _ _ _ _ _ _, c .before .before .pre .1)
 
-spread-one-requires : (t : ℕ) → spread-lts.Need-one-requires (
-  one-below t,
-  one.Post,
-  behind-reads.Asked,
-  behind-reads.Learnt,
-) (spread-at t) spread.Post spread-Inv-loop spread-μ-loop
+spread-one-requires : (t : ℕ) → spread-lts.Need-one-requires (spread-callees t) (spread-at t) spread.Post spread-Inv-loop spread-μ-loop
 spread-one-requires t c κs = (omega (arith, c .before .before .before .before .before .pre .0), c .before .before .loop .inv .1)
 
-spread-behind-requires : (t : ℕ) → spread-lts.Need-behind-requires (
-  one-below t,
-  one.Post,
-  behind-reads.Asked,
-  behind-reads.Learnt,
-) (spread-at t) spread.Post spread-Inv-loop spread-μ-loop
+spread-behind-requires : (t : ℕ) → spread-lts.Need-behind-requires (spread-callees t) (spread-at t) spread.Post spread-Inv-loop spread-μ-loop
 spread-behind-requires t c κs = omega (arith, c .before .before .before .before .before .before .loop .inv .1 .place)
 
-spread-same-length : (t : ℕ) → spread-lts.Need-same-length (
-  one-below t,
-  one.Post,
-  behind-reads.Asked,
-  behind-reads.Learnt,
-) (spread-at t) spread.Post spread-Inv-loop spread-μ-loop
+spread-same-length : (t : ℕ) → spread-lts.Need-same-length (spread-callees t) (spread-at t) spread.Post spread-Inv-loop spread-μ-loop
 spread-same-length t c = c .before .before .before .before .before .one .ensures .long ∙ c .before .before .before .before .before .before .before .before .loop .inv .0 .long
 
-spread-returns : (t : ℕ) → spread-lts.Need-returns (
-  one-below t,
-  one.Post,
-  behind-reads.Asked,
-  behind-reads.Learnt,
-) (spread-at t) spread.Post spread-Inv-loop spread-μ-loop
+spread-returns : (t : ℕ) → spread-lts.Need-returns (spread-callees t) (spread-at t) spread.Post spread-Inv-loop spread-μ-loop
 spread-returns t c = storing.each-stuck _ _ _ _ _ _ _ _ _ _ _ _ (c .before .before .before .before .before .before .before .before .loop .inv .0) (c .before .before .before .before .before .before .before .loop-test .taken) (c .before .before .before .before .before .one .ensures) (c .before .behind .ensures) (c .if1 .taken)
 
-spread-loop-less : (t : ℕ) → spread-lts.Need-loop-less (
-  one-below t,
-  one.Post,
-  behind-reads.Asked,
-  behind-reads.Learnt,
-) (spread-at t) spread.Post spread-Inv-loop spread-μ-loop
+spread-loop-less : (t : ℕ) → spread-lts.Need-loop-less (spread-callees t) (spread-at t) spread.Post spread-Inv-loop spread-μ-loop
 spread-loop-less t c = omega (arith, c .if1 .left, c .before .before .before .before .before .before .before .loop-test .taken)
 
-spread-loop-again : (t : ℕ) → spread-lts.Need-loop-again (
-  one-below t,
-  one.Post,
-  behind-reads.Asked,
-  behind-reads.Learnt,
-) (spread-at t) spread.Post spread-Inv-loop spread-μ-loop
+spread-loop-again : (t : ℕ) → spread-lts.Need-loop-again (spread-callees t) (spread-at t) spread.Post spread-Inv-loop spread-μ-loop
 spread-loop-again t c = (storing.each-more _ _ _ _ _ _ _ _ _ _ _ _ (c .before .before .before .before .before .before .before .before .loop .inv .0) (c .before .before .before .before .before .before .before .loop-test .taken) (c .before .before .before .before .before .one .ensures) (c .before .behind .ensures), storing.store-along _ _ _ _ (c .before .before .before .before .before .before .before .before .before .before .before .pre .1) (c .before .behind .ensures .near))
 
-spread-same-length-2 : (t : ℕ) → spread-lts.Need-same-length-2 (
-  one-below t,
-  one.Post,
-  behind-reads.Asked,
-  behind-reads.Learnt,
-) (spread-at t) spread.Post spread-Inv-loop spread-μ-loop
+spread-same-length-2 : (t : ℕ) → spread-lts.Need-same-length-2 (spread-callees t) (spread-at t) spread.Post spread-Inv-loop spread-μ-loop
 spread-same-length-2 t c = c .before .loop .inv .0 .long
 
-spread-returns-2 : (t : ℕ) → spread-lts.Need-returns-2 (
-  one-below t,
-  one.Post,
-  behind-reads.Asked,
-  behind-reads.Learnt,
-) (spread-at t) spread.Post spread-Inv-loop spread-μ-loop
+spread-returns-2 : (t : ℕ) → spread-lts.Need-returns-2 (spread-callees t) (spread-at t) spread.Post spread-Inv-loop spread-μ-loop
 spread-returns-2 t c = storing.each-end _ _ _ _ _ _ _ _ _ _ (c .before .loop .inv .0) (c .loop-test .left)
 
 pub +collect+divide+one+spread-spec : {M : Type 1} → statement M
-+collect+divide+one+spread-spec = close μ-collect μ-divide μ-one μ-spread (λ t. collect-lts.spec (
-  word-reads.Asked,
-  word-reads.Learnt,
-  kind-reads.Asked,
-  kind-reads.Learnt,
-  next-reads.Asked,
-  next-reads.Learnt,
-  fan-reads.Asked,
-  fan-reads.Learnt,
-  weight-reads.Asked,
-  weight-reads.Learnt,
-  spread-below t,
-  spread.Post,
-  actor-reads.Asked,
-  actor-reads.Learnt,
-  put-float-reads.Asked,
-  put-float-reads.Learnt,
-  set-reads.Asked,
-  set-reads.Learnt,
-  actions-reads.Asked,
-  actions-reads.Learnt,
-  divide-below t,
-  divide.Post,
-)
-    (collect-at t)
++collect+divide+one+spread-spec = close μ-collect μ-divide μ-one μ-spread (λ t. collect-lts.spec (collect-callees t) (collect-at t)
     collect.Post
     (collect-returns t)
     (collect-word-requires t)
@@ -1149,15 +301,7 @@ pub +collect+divide+one+spread-spec : {M : Type 1} → statement M
     (collect-divide-requires t)
     (collect-same-length-5 t)
     (collect-returns-6 t))
-    (λ t. divide-lts.spec (
-      entry-reads.Asked,
-      entry-reads.Learnt,
-      one-below t,
-      one.Post,
-      behind-reads.Asked,
-      behind-reads.Learnt,
-    )
-    (divide-at t)
+    (λ t. divide-lts.spec (divide-callees t) (divide-at t)
     divide.Post
     divide-Inv-loop
     divide-μ-loop
@@ -1175,15 +319,7 @@ pub +collect+divide+one+spread-spec : {M : Type 1} → statement M
     (divide-loop-again t)
     (divide-same-length t)
     (divide-returns t))
-    (λ t. one-lts.spec (
-      word-reads.Asked,
-      word-reads.Learnt,
-      kind-reads.Asked,
-      kind-reads.Learnt,
-      collect-below t,
-      collect.Post,
-    )
-    (one-at t)
+    (λ t. one-lts.spec (one-callees t) (one-at t)
     one.Post
     (one-word-requires t)
     (one-kind-requires t)

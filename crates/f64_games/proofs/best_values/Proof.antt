@@ -21,28 +21,28 @@ loop-holds : tie.Need-loop-holds Inv-loop μ-loop
 loop-holds c = (omega arith, front-none (bestOf (c .before .before .args .g) (now (c .before .before .args .profile))), c .before .before .pre .0, refl)
 
 best-value-requires : tie.Need-best-value-requires Inv-loop μ-loop
-best-value-requires c κs = (c .before .before .loop .inv .2, c .before .before .before .before .before .pre .1, c .before .loop-test .taken, omega (arith, c .before .before .before .before .before .pre .2, c .before .before .loop .inv .3))
+best-value-requires c κs = let s0 = c .before .before .before .before .before in (c .before .before .loop .inv .2, s0 .pre .1, c .before .loop-test .taken, omega (arith, s0 .pre .2, c .before .before .loop .inv .3))
 
 mul-out : tie.Need-mul-out Inv-loop μ-loop
-mul-out c = record { fits = omega (arith, few-seats (c .before .before .before .before .before .before .before .before .args .g) (c .before .before .before .before .before .before .before .before .pre .1 .game), c .before .before .before .before .loop-test .taken) }
+mul-out c = let s0 = c .before .before .before .before .before .before .before .before in record { fits = omega (arith, few-seats (s0 .args .g) (s0 .pre .1 .game), c .before .before .before .before .loop-test .taken) }
 
 array-write-out : tie.Need-array-write-out Inv-loop μ-loop
-array-write-out c = omega (arith, few-seats (c .before .before .before .before .before .before .before .before .args .g) (c .before .before .before .before .before .before .before .before .pre .1 .game), c .before .before .before .before .loop-test .taken)
+array-write-out c = let s0 = c .before .before .before .before .before .before .before .before in omega (arith, few-seats (s0 .args .g) (s0 .pre .1 .game), c .before .before .before .before .loop-test .taken)
 
 add-seat : tie.Need-add-seat Inv-loop μ-loop
-add-seat c = record { fits = omega (arith, few-seats (c .before .before .before .before .before .before .before .before .args .g) (c .before .before .before .before .before .before .before .before .pre .1 .game), c .before .before .before .before .loop-test .taken) }
+add-seat c = let s0 = c .before .before .before .before .before .before .before .before in record { fits = omega (arith, few-seats (s0 .args .g) (s0 .pre .1 .game), c .before .before .before .before .loop-test .taken) }
 
 loop-less : tie.Need-loop-less Inv-loop μ-loop
 loop-less c = omega (arith, c .before .before .before .before .loop-test .taken)
 
 loop-again : tie.Need-loop-again Inv-loop μ-loop
-loop-again c = (omega (arith, c .before .before .before .before .loop-test .taken), front-more (bestOf (c .before .before .before .before .before .before .before .before .args .g) (now (c .before .before .before .before .before .before .before .before .args .profile))) (c .before .before .before .before .before .loop .seat) (c .before .before .before .before .before .loop .out) (c .before .before .best-value .result) (omega (arith, few-seats (c .before .before .before .before .before .before .before .before .args .g) (c .before .before .before .before .before .before .before .before .pre .1 .game), c .before .before .before .before .loop-test .taken)) (c .before .before .before .before .before .loop .inv .1) (c .before .before .best-value .ensures .0), c .before .before .best-value .ensures .1, omega (arith, c .before .before .best-value .kept .1 .0, c .before .before .before .before .before .loop .inv .3))
+loop-again c = let s0 = c .before .before .before .before .before .before .before .before in let s1 = c .before .before .before .before .before in let s2 = c .before .before .before .before in (omega (arith, s2 .loop-test .taken), front-more (bestOf (s0 .args .g) (now (s0 .args .profile))) (s1 .loop .seat) (s1 .loop .out) (c .before .before .best-value .result) (omega (arith, few-seats (s0 .args .g) (s0 .pre .1 .game), s2 .loop-test .taken)) (s1 .loop .inv .1) (c .before .before .best-value .ensures .0), c .before .before .best-value .ensures .1, omega (arith, c .before .before .best-value .kept .1 .0, s1 .loop .inv .3))
 
 same-length : tie.Need-same-length Inv-loop μ-loop
 same-length c = search needs
 
 returns : tie.Need-returns Inv-loop μ-loop
-returns c = all-bests (c .before .before .before .before .args .g) (now (c .before .before .before .before .args .profile)) (c .before .loop .seat) (c .before .loop .out) (c .before .loop .inv .0) (omega (arith, c .loop-test .left)) (c .before .loop .inv .1)
+returns c = let s0 = c .before .before .before .before in all-bests (s0 .args .g) (now (s0 .args .profile)) (c .before .loop .seat) (c .before .loop .out) (c .before .loop .inv .0) (omega (arith, c .loop-test .left)) (c .before .loop .inv .1)
 
 pub best-values-spec : {M : Type 1} → statement M
 best-values-spec =

@@ -55,75 +55,32 @@ deal-at t = and 1 deal-kinds.ps (is 1 deal-kinds.ps μ-deal t) deal.Pre
 abbrev deal-below : ℕ → In 1 deal-kinds.ps
 deal-below t = and 1 deal-kinds.ps (falls 1 deal-kinds.ps _<_ μ-deal t) deal.Pre
 
-child-is-dealt-requires : (t : ℕ) → child-lts.Need-is-dealt-requires (
-  is-dealt-reads.Asked,
-  is-dealt-reads.Learnt,
-  with-card-reads.Asked,
-  with-card-reads.Learnt,
-  deal-below t,
-  deal.Post,
-) (child-at t) child.Post
+abbrev child-callees : ℕ → child-lts.Claims
+child-callees t = (is-dealt-reads.Asked, is-dealt-reads.Learnt, with-card-reads.Asked, with-card-reads.Learnt, deal-below t, deal.Post)
+
+abbrev deal-callees : ℕ → deal-lts.Claims
+deal-callees t = (before-bet-reads.Asked, before-bet-reads.Learnt, children-below t, children.Post, chance-reads.Asked, chance-reads.Learnt, put-reads.Asked, put-reads.Learnt)
+
+child-is-dealt-requires : (t : ℕ) → child-lts.Need-is-dealt-requires (child-callees t) (child-at t) child.Post
 child-is-dealt-requires t c κs = omega (arith, deals.dealt-few (c .before .args .n) (c .before .args .cards) (c .before .args .dealt) (c .before .args .left) (c .before .pre .1 .0 .0))
 
-child-returns : (t : ℕ) → child-lts.Need-returns (
-  is-dealt-reads.Asked,
-  is-dealt-reads.Learnt,
-  with-card-reads.Asked,
-  with-card-reads.Learnt,
-  deal-below t,
-  deal.Post,
-) (child-at t) child.Post
-child-returns t c = rw (deals.child-none (c .before .before .before .args .n) (c .before .before .before .args .cards) (c .before .before .before .args .dealt) (c .before .before .before .args .left) (c .before .before .before .pre .1 .0 .0) (c .before .before .before .args .card) (sym (c .before .is-dealt .ensures) ∙ c .if1 .taken)) (building.row-none _ _ _ _)
+child-returns : (t : ℕ) → child-lts.Need-returns (child-callees t) (child-at t) child.Post
+child-returns t c = let s0 = c .before .before .before in rw (deals.child-none (s0 .args .n) (s0 .args .cards) (s0 .args .dealt) (s0 .args .left) (s0 .pre .1 .0 .0) (s0 .args .card) (sym (c .before .is-dealt .ensures) ∙ c .if1 .taken)) (building.row-none _ _ _ _)
 
-child-with-card-requires : (t : ℕ) → child-lts.Need-with-card-requires (
-  is-dealt-reads.Asked,
-  is-dealt-reads.Learnt,
-  with-card-reads.Asked,
-  with-card-reads.Learnt,
-  deal-below t,
-  deal.Post,
-) (child-at t) child.Post
-child-with-card-requires t c κs = (deals.dealt-few (c .before .before .before .before .args .n) (c .before .before .before .before .args .cards) (c .before .before .before .before .args .dealt) (c .before .before .before .before .args .left) (c .before .before .before .before .pre .1 .0 .0), c .before .before .before .before .pre .1 .0 .0 .small, omega (arith, c .before .before .before .before .pre .1 .0 .0 .most, c .before .before .before .before .pre .1 .0 .1))
+child-with-card-requires : (t : ℕ) → child-lts.Need-with-card-requires (child-callees t) (child-at t) child.Post
+child-with-card-requires t c κs = let s0 = c .before .before .before .before in (deals.dealt-few (s0 .args .n) (s0 .args .cards) (s0 .args .dealt) (s0 .args .left) (s0 .pre .1 .0 .0), s0 .pre .1 .0 .0 .small, omega (arith, s0 .pre .1 .0 .0 .most, s0 .pre .1 .0 .1))
 
-child-add-deal : (t : ℕ) → child-lts.Need-add-deal (
-  is-dealt-reads.Asked,
-  is-dealt-reads.Learnt,
-  with-card-reads.Asked,
-  with-card-reads.Learnt,
-  deal-below t,
-  deal.Post,
-) (child-at t) child.Post
-child-add-deal t c = record { fits = omega (arith, deals.dealt-few (c .before .before .before .before .before .args .n) (c .before .before .before .before .before .args .cards) (c .before .before .before .before .before .args .dealt) (c .before .before .before .before .before .args .left) (c .before .before .before .before .before .pre .1 .0 .0)) }
+child-add-deal : (t : ℕ) → child-lts.Need-add-deal (child-callees t) (child-at t) child.Post
+child-add-deal t c = let s0 = c .before .before .before .before .before in record { fits = omega (arith, deals.dealt-few (s0 .args .n) (s0 .args .cards) (s0 .args .dealt) (s0 .args .left) (s0 .pre .1 .0 .0)) }
 
-child-deal-requires : (t : ℕ) → child-lts.Need-deal-requires (
-  is-dealt-reads.Asked,
-  is-dealt-reads.Learnt,
-  with-card-reads.Asked,
-  with-card-reads.Learnt,
-  deal-below t,
-  deal.Post,
-) (child-at t) child.Post
-child-deal-requires t c κs = (omega (arith, c .before .before .before .before .before .pre .0), (deals.deals-on (c .before .before .before .before .before .args .n) (c .before .before .before .before .before .args .cards) (c .before .before .before .before .before .args .dealt) (c .before .before .before .before .before .args .left) (c .before .before .before .before .before .pre .1 .0 .0) (c .before .before .before .before .before .args .card) _ (c .before .before .before .before .before .pre .1 .0 .1) (sym (c .before .before .before .is-dealt .ensures) ∙ c .before .before .if1 .left) (c .with-card .ensures), deals.room-one _ _ _ _ (deals.child-some (c .before .before .before .before .before .args .n) (c .before .before .before .before .before .args .cards) (c .before .before .before .before .before .args .dealt) (c .before .before .before .before .before .args .left) (c .before .before .before .before .before .pre .1 .0 .0) (c .before .before .before .before .before .args .card) _ (c .before .before .before .before .before .pre .1 .0 .1) (sym (c .before .before .before .is-dealt .ensures) ∙ c .before .before .if1 .left) (c .with-card .ensures)) (c .before .before .before .before .before .pre .1 .1)))
+child-deal-requires : (t : ℕ) → child-lts.Need-deal-requires (child-callees t) (child-at t) child.Post
+child-deal-requires t c κs = let s0 = c .before .before .before .before .before in let s1 = c .before .before .before in (omega (arith, s0 .pre .0), (deals.deals-on (s0 .args .n) (s0 .args .cards) (s0 .args .dealt) (s0 .args .left) (s0 .pre .1 .0 .0) (s0 .args .card) _ (s0 .pre .1 .0 .1) (sym (s1 .is-dealt .ensures) ∙ c .before .before .if1 .left) (c .with-card .ensures), deals.room-one _ _ _ _ (deals.child-some (s0 .args .n) (s0 .args .cards) (s0 .args .dealt) (s0 .args .left) (s0 .pre .1 .0 .0) (s0 .args .card) _ (s0 .pre .1 .0 .1) (sym (s1 .is-dealt .ensures) ∙ c .before .before .if1 .left) (c .with-card .ensures)) (s0 .pre .1 .1)))
 
-child-same-length : (t : ℕ) → child-lts.Need-same-length (
-  is-dealt-reads.Asked,
-  is-dealt-reads.Learnt,
-  with-card-reads.Asked,
-  with-card-reads.Learnt,
-  deal-below t,
-  deal.Post,
-) (child-at t) child.Post
+child-same-length : (t : ℕ) → child-lts.Need-same-length (child-callees t) (child-at t) child.Post
 child-same-length t c = search needs
 
-child-returns-2 : (t : ℕ) → child-lts.Need-returns-2 (
-  is-dealt-reads.Asked,
-  is-dealt-reads.Learnt,
-  with-card-reads.Asked,
-  with-card-reads.Learnt,
-  deal-below t,
-  deal.Post,
-) (child-at t) child.Post
-child-returns-2 t c = rw (deals.child-some (c .before .before .before .before .before .before .before .before .args .n) (c .before .before .before .before .before .before .before .before .args .cards) (c .before .before .before .before .before .before .before .before .args .dealt) (c .before .before .before .before .before .before .before .before .args .left) (c .before .before .before .before .before .before .before .before .pre .1 .0 .0) (c .before .before .before .before .before .before .before .before .args .card) _ (c .before .before .before .before .before .before .before .before .pre .1 .0 .1) (sym (c .before .before .before .before .before .before .is-dealt .ensures) ∙ c .before .before .before .before .before .if1 .left) (c .before .before .before .with-card .ensures)) (building.row-one _ _ _ _ _ _ _ (c .before .before .deal .ensures))
+child-returns-2 : (t : ℕ) → child-lts.Need-returns-2 (child-callees t) (child-at t) child.Post
+child-returns-2 t c = let s0 = c .before .before .before .before .before .before .before .before in rw (deals.child-some (s0 .args .n) (s0 .args .cards) (s0 .args .dealt) (s0 .args .left) (s0 .pre .1 .0 .0) (s0 .args .card) _ (s0 .pre .1 .0 .1) (sym (c .before .before .before .before .before .before .is-dealt .ensures) ∙ c .before .before .before .before .before .if1 .left) (c .before .before .before .with-card .ensures)) (building.row-one _ _ _ _ _ _ _ (c .before .before .deal .ensures))
 
 abbrev children-Inv-loop : children-lts.InvT-loop
 children-Inv-loop w₀ at n cards dealt left next₀ card₀ w next card = Row n (codeOf n) at w₀ w (childrenTo n cards dealt left card) next × (card ≤ n + 1)
@@ -147,7 +104,7 @@ children-child-requires : (t : ℕ) →
     children.Post
     children-Inv-loop
     children-μ-loop
-children-child-requires t c κs = (omega (arith, c .before .before .before .before .pre .0), ((c .before .before .before .before .pre .1 .0, c .before .loop-test .taken), deals.child-room (c .before .before .before .before .args .n) (c .before .before .before .before .args .cards) (c .before .before .before .before .args .dealt) (c .before .before .before .before .args .left) (c .before .before .before .before .args .at) (now (c .before .before .before .before .args .w)) (c .before .before .before .before .pre .1 .1) _ _ _ (c .before .loop-test .taken) (c .before .before .loop .inv .0)))
+children-child-requires t c κs = let s0 = c .before .before .before .before in (omega (arith, s0 .pre .0), ((s0 .pre .1 .0, c .before .loop-test .taken), deals.child-room (s0 .args .n) (s0 .args .cards) (s0 .args .dealt) (s0 .args .left) (s0 .args .at) (now (s0 .args .w)) (s0 .pre .1 .1) _ _ _ (c .before .loop-test .taken) (c .before .before .loop .inv .0)))
 
 children-add-card : (t : ℕ) →
     children-lts.Need-add-card
@@ -174,7 +131,7 @@ children-loop-again : (t : ℕ) →
     children.Post
     children-Inv-loop
     children-μ-loop
-children-loop-again t c = (deals.children-on (c .before .before .before .before .before .before .before .args .n) (c .before .before .before .before .before .before .before .args .cards) (c .before .before .before .before .before .before .before .args .dealt) (c .before .before .before .before .before .before .before .args .left) (c .before .before .before .before .before .before .before .args .at) (now (c .before .before .before .before .before .before .before .args .w)) (c .before .before .before .before .before .before .before .pre .1 .1) _ _ _ (c .before .before .before .before .loop-test .taken) (c .before .before .before .before .before .loop .inv .0) _ _ (c .before .before .child .ensures), omega (arith, c .before .before .before .before .loop-test .taken))
+children-loop-again t c = let s0 = c .before .before .before .before .before .before .before in let s1 = c .before .before .before .before in (deals.children-on (s0 .args .n) (s0 .args .cards) (s0 .args .dealt) (s0 .args .left) (s0 .args .at) (now (s0 .args .w)) (s0 .pre .1 .1) _ _ _ (s1 .loop-test .taken) (c .before .before .before .before .before .loop .inv .0) _ _ (c .before .before .child .ensures), omega (arith, s1 .loop-test .taken))
 
 children-same-length : (t : ℕ) →
     children-lts.Need-same-length
@@ -196,136 +153,38 @@ children-returns t c =
     let e : c .before .loop .card ≡ c .before .before .before .args .n + 1 = omega (arith, c .before .loop .inv .1, c .loop-test .left) in
     subst (λ d. Row (c .before .before .before .args .n) (codeOf (c .before .before .before .args .n)) (c .before .before .before .args .at) (now (c .before .before .before .args .w)) (c .before .loop .w) (childrenTo (c .before .before .before .args .n) (c .before .before .before .args .cards) (c .before .before .before .args .dealt) (c .before .before .before .args .left) d) (c .before .loop .next)) e (c .before .loop .inv .0)
 
-deal-before-bet-requires : (t : ℕ) → deal-lts.Need-before-bet-requires (
-  before-bet-reads.Asked,
-  before-bet-reads.Learnt,
-  children-below t,
-  children.Post,
-  chance-reads.Asked,
-  chance-reads.Learnt,
-  put-reads.Asked,
-  put-reads.Learnt,
-) (deal-at t) deal.Post
-deal-before-bet-requires t c κs = (deals.hand-starts (c .before .before .before .args .n) (c .before .before .before .args .cards) (c .before .before .before .args .dealt) (c .before .before .before .args .left) (c .before .before .before .args .at) (now (c .before .before .before .args .w)) (c .before .before .before .pre .1 .0) (c .before .before .before .pre .1 .1) (c .before .if1 .taken), deals.hand-room (c .before .before .before .args .n) (c .before .before .before .args .cards) (c .before .before .before .args .dealt) (c .before .before .before .args .left) (c .before .before .before .args .at) (now (c .before .before .before .args .w)) (c .before .before .before .pre .1 .0) (c .before .before .before .pre .1 .1) (c .before .if1 .taken))
+deal-before-bet-requires : (t : ℕ) → deal-lts.Need-before-bet-requires (deal-callees t) (deal-at t) deal.Post
+deal-before-bet-requires t c κs = let s0 = c .before .before .before in (deals.hand-starts (s0 .args .n) (s0 .args .cards) (s0 .args .dealt) (s0 .args .left) (s0 .args .at) (now (s0 .args .w)) (s0 .pre .1 .0) (s0 .pre .1 .1) (c .before .if1 .taken), deals.hand-room (s0 .args .n) (s0 .args .cards) (s0 .args .dealt) (s0 .args .left) (s0 .args .at) (now (s0 .args .w)) (s0 .pre .1 .0) (s0 .pre .1 .1) (c .before .if1 .taken))
 
-deal-same-length : (t : ℕ) → deal-lts.Need-same-length (
-  before-bet-reads.Asked,
-  before-bet-reads.Learnt,
-  children-below t,
-  children.Post,
-  chance-reads.Asked,
-  chance-reads.Learnt,
-  put-reads.Asked,
-  put-reads.Learnt,
-) (deal-at t) deal.Post
+deal-same-length : (t : ℕ) → deal-lts.Need-same-length (deal-callees t) (deal-at t) deal.Post
 deal-same-length t c = search needs
 
-deal-returns : (t : ℕ) → deal-lts.Need-returns (
-  before-bet-reads.Asked,
-  before-bet-reads.Learnt,
-  children-below t,
-  children.Post,
-  chance-reads.Asked,
-  chance-reads.Learnt,
-  put-reads.Asked,
-  put-reads.Learnt,
-) (deal-at t) deal.Post
-deal-returns t c = deals.deal-ends (c .before .before .before .before .before .before .args .n) (c .before .before .before .before .before .before .args .cards) (c .before .before .before .before .before .before .args .dealt) (c .before .before .before .before .before .before .args .left) (c .before .before .before .before .before .before .args .at) (now (c .before .before .before .before .before .before .args .w)) (c .before .before .before .before .before .before .pre .1 .0) (c .before .before .before .before .before .before .pre .1 .1) (c .before .before .before .before .if1 .taken) _ _ (c .before .before .before-bet .ensures)
+deal-returns : (t : ℕ) → deal-lts.Need-returns (deal-callees t) (deal-at t) deal.Post
+deal-returns t c = let s0 = c .before .before .before .before .before .before in deals.deal-ends (s0 .args .n) (s0 .args .cards) (s0 .args .dealt) (s0 .args .left) (s0 .args .at) (now (s0 .args .w)) (s0 .pre .1 .0) (s0 .pre .1 .1) (c .before .before .before .before .if1 .taken) _ _ (c .before .before .before-bet .ensures)
 
-deal-add-children : (t : ℕ) → deal-lts.Need-add-children (
-  before-bet-reads.Asked,
-  before-bet-reads.Learnt,
-  children-below t,
-  children.Post,
-  chance-reads.Asked,
-  chance-reads.Learnt,
-  put-reads.Asked,
-  put-reads.Learnt,
-) (deal-at t) deal.Post
+deal-add-children : (t : ℕ) → deal-lts.Need-add-children (deal-callees t) (deal-at t) deal.Post
 deal-add-children t c = record { fits = omega (arith, c .before .before .before .pre .1 .1 .places) }
 
-deal-sub-children : (t : ℕ) → deal-lts.Need-sub-children (
-  before-bet-reads.Asked,
-  before-bet-reads.Learnt,
-  children-below t,
-  children.Post,
-  chance-reads.Asked,
-  chance-reads.Learnt,
-  put-reads.Asked,
-  put-reads.Learnt,
-) (deal-at t) deal.Post
+deal-sub-children : (t : ℕ) → deal-lts.Need-sub-children (deal-callees t) (deal-at t) deal.Post
 deal-sub-children t c = omega (arith, c .before .if1 .left)
 
-deal-children-requires : (t : ℕ) → deal-lts.Need-children-requires (
-  before-bet-reads.Asked,
-  before-bet-reads.Learnt,
-  children-below t,
-  children.Post,
-  chance-reads.Asked,
-  chance-reads.Learnt,
-  put-reads.Asked,
-  put-reads.Learnt,
-) (deal-at t) deal.Post
-deal-children-requires t c κs = (omega (arith, c .before .before .before .pre .0, c .before .if1 .left), (deals.deals-row (c .before .before .before .args .n) (c .before .before .before .args .cards) (c .before .before .before .args .dealt) (c .before .before .before .args .left) (c .before .before .before .args .at) (now (c .before .before .before .args .w)) (c .before .before .before .pre .1 .0) (c .before .before .before .pre .1 .1) (c .before .if1 .left), deals.row-room (c .before .before .before .args .n) (c .before .before .before .args .cards) (c .before .before .before .args .dealt) (c .before .before .before .args .left) (c .before .before .before .args .at) (now (c .before .before .before .args .w)) (c .before .before .before .pre .1 .0) (c .before .before .before .pre .1 .1) (c .before .if1 .left)))
+deal-children-requires : (t : ℕ) → deal-lts.Need-children-requires (deal-callees t) (deal-at t) deal.Post
+deal-children-requires t c κs = let s0 = c .before .before .before in (omega (arith, s0 .pre .0, c .before .if1 .left), (deals.deals-row (s0 .args .n) (s0 .args .cards) (s0 .args .dealt) (s0 .args .left) (s0 .args .at) (now (s0 .args .w)) (s0 .pre .1 .0) (s0 .pre .1 .1) (c .before .if1 .left), deals.row-room (s0 .args .n) (s0 .args .cards) (s0 .args .dealt) (s0 .args .left) (s0 .args .at) (now (s0 .args .w)) (s0 .pre .1 .0) (s0 .pre .1 .1) (c .before .if1 .left)))
 
-deal-chance-requires : (t : ℕ) → deal-lts.Need-chance-requires (
-  before-bet-reads.Asked,
-  before-bet-reads.Learnt,
-  children-below t,
-  children.Post,
-  chance-reads.Asked,
-  chance-reads.Learnt,
-  put-reads.Asked,
-  put-reads.Learnt,
-) (deal-at t) deal.Post
-deal-chance-requires t c κs = deals.behind-few (c .before .before .before .before .before .before .before .args .n) (c .before .before .before .before .before .before .before .args .cards) (c .before .before .before .before .before .before .before .args .dealt) (c .before .before .before .before .before .before .before .args .left) (c .before .before .before .before .before .before .before .args .at) (now (c .before .before .before .before .before .before .before .args .w)) (c .before .before .before .before .before .before .before .pre .1 .0) (c .before .before .before .before .before .before .before .pre .1 .1) (c .before .before .before .before .before .if1 .left) _ _ (c .before .before .before .children .ensures)
+deal-chance-requires : (t : ℕ) → deal-lts.Need-chance-requires (deal-callees t) (deal-at t) deal.Post
+deal-chance-requires t c κs = let s0 = c .before .before .before .before .before .before .before in deals.behind-few (s0 .args .n) (s0 .args .cards) (s0 .args .dealt) (s0 .args .left) (s0 .args .at) (now (s0 .args .w)) (s0 .pre .1 .0) (s0 .pre .1 .1) (c .before .before .before .before .before .if1 .left) _ _ (c .before .before .before .children .ensures)
 
-deal-put-requires : (t : ℕ) → deal-lts.Need-put-requires (
-  before-bet-reads.Asked,
-  before-bet-reads.Learnt,
-  children-below t,
-  children.Post,
-  chance-reads.Asked,
-  chance-reads.Learnt,
-  put-reads.Asked,
-  put-reads.Learnt,
-) (deal-at t) deal.Post
+deal-put-requires : (t : ℕ) → deal-lts.Need-put-requires (deal-callees t) (deal-at t) deal.Post
 deal-put-requires t c κs = search needs
 
-deal-same-length-2 : (t : ℕ) → deal-lts.Need-same-length-2 (
-  before-bet-reads.Asked,
-  before-bet-reads.Learnt,
-  children-below t,
-  children.Post,
-  chance-reads.Asked,
-  chance-reads.Learnt,
-  put-reads.Asked,
-  put-reads.Learnt,
-) (deal-at t) deal.Post
+deal-same-length-2 : (t : ℕ) → deal-lts.Need-same-length-2 (deal-callees t) (deal-at t) deal.Post
 deal-same-length-2 t c = search needs
 
-deal-returns-2 : (t : ℕ) → deal-lts.Need-returns-2 (
-  before-bet-reads.Asked,
-  before-bet-reads.Learnt,
-  children-below t,
-  children.Post,
-  chance-reads.Asked,
-  chance-reads.Learnt,
-  put-reads.Asked,
-  put-reads.Learnt,
-) (deal-at t) deal.Post
-deal-returns-2 t c = deals.deal-goes-on (c .before .before .before .before .before .before .before .before .before .before .before .args .n) (c .before .before .before .before .before .before .before .before .before .before .before .args .cards) (c .before .before .before .before .before .before .before .before .before .before .before .args .dealt) (c .before .before .before .before .before .before .before .before .before .before .before .args .left) (c .before .before .before .before .before .before .before .before .before .before .before .args .at) (now (c .before .before .before .before .before .before .before .before .before .before .before .args .w)) (c .before .before .before .before .before .before .before .before .before .before .before .pre .1 .0) (c .before .before .before .before .before .before .before .before .before .before .before .pre .1 .1) (c .before .before .before .before .before .before .before .before .before .if1 .left) _ _ (c .before .before .before .before .before .before .before .children .ensures) _ _ (c .before .before .before .chance .ensures) (c .before .before .put .ensures)
+deal-returns-2 : (t : ℕ) → deal-lts.Need-returns-2 (deal-callees t) (deal-at t) deal.Post
+deal-returns-2 t c = let s0 = c .before .before .before .before .before .before .before .before .before .before .before in deals.deal-goes-on (s0 .args .n) (s0 .args .cards) (s0 .args .dealt) (s0 .args .left) (s0 .args .at) (now (s0 .args .w)) (s0 .pre .1 .0) (s0 .pre .1 .1) (c .before .before .before .before .before .before .before .before .before .if1 .left) _ _ (c .before .before .before .before .before .before .before .children .ensures) _ _ (c .before .before .before .chance .ensures) (c .before .before .put .ensures)
 
 pub +child+children+deal-spec : {M : Type 1} → statement M
-+child+children+deal-spec = close μ-child μ-children μ-deal (λ t. child-lts.spec (
-  is-dealt-reads.Asked,
-  is-dealt-reads.Learnt,
-  with-card-reads.Asked,
-  with-card-reads.Learnt,
-  deal-below t,
-  deal.Post,
-)
-    (child-at t)
++child+children+deal-spec = close μ-child μ-children μ-deal (λ t. child-lts.spec (child-callees t) (child-at t)
     child.Post
     (child-is-dealt-requires t)
     (child-returns t)
@@ -347,17 +206,7 @@ pub +child+children+deal-spec : {M : Type 1} → statement M
     (children-loop-again t)
     (children-same-length t)
     (children-returns t))
-    λ t. deal-lts.spec (
-      before-bet-reads.Asked,
-      before-bet-reads.Learnt,
-      children-below t,
-      children.Post,
-      chance-reads.Asked,
-      chance-reads.Learnt,
-      put-reads.Asked,
-      put-reads.Learnt,
-    )
-    (deal-at t)
+    λ t. deal-lts.spec (deal-callees t) (deal-at t)
     deal.Post
     (deal-before-bet-requires t)
     (deal-same-length t)

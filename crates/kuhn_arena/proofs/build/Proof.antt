@@ -11,7 +11,7 @@ same-length : tie.Need-same-length
 same-length c = search needs
 
 returns : tie.Need-returns
-returns c = built-tree (c .before .before .before .before .before .args .n) (c .before .before .before .before .before .pre .0) (c .before .before .before .before .before .pre .1) _ _ _ (c .before .before .deal .ensures)
+returns c = let s0 = c .before .before .before .before .before in built-tree (s0 .args .n) (s0 .pre .0) (s0 .pre .1) _ _ _ (c .before .before .deal .ensures)
 
 pub build-spec : {M : Type 1} → statement M
 build-spec = tie.close (tie.spec deal-requires same-length returns)

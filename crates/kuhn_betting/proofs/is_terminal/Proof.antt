@@ -13,7 +13,7 @@ add-result : tie.Need-add-result
 add-result c = search needs
 
 returns : tie.Need-returns
-returns c = sym (ended-bet _ _ _ _ (c .before .before .before .pre .1) (c .before .before .before .pre .0) (c .before .first-bet .ensures .1 .0) (c .if1 .taken) (c .before .first-bet .ensures .1 .1 (c .if1 .taken)))
+returns c = let s0 = c .before .before .before in sym (ended-bet _ _ _ _ (s0 .pre .1) (s0 .pre .0) (c .before .first-bet .ensures .1 .0) (c .if1 .taken) (c .before .first-bet .ensures .1 .1 (c .if1 .taken)))
 
 returns-2 : tie.Need-returns-2
 returns-2 c = sym (ended-quiet _ _ _ (c .before .before .before .pre .0) (λ k w. c .before .first-bet .ensures .1 .0 k (omega arith)))

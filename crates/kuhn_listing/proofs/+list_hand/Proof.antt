@@ -27,198 +27,56 @@ abbrev list-hand-below : ℕ → In 1 list-hand-kinds.ps
 list-hand-below t =
     and 1 list-hand-kinds.ps (falls 1 list-hand-kinds.ps _<_ μ-list-hand t) list-hand.Pre
 
-list-hand-returns : (t : ℕ) → list-hand-lts.Need-returns (
-  is-terminal-reads.Asked,
-  is-terminal-reads.Learnt,
-  write-first-reads.Asked,
-  write-first-reads.Learnt,
-  with-action-reads.Asked,
-  with-action-reads.Learnt,
-  list-hand-below t,
-  list-hand.Post,
-) (list-hand-at t) list-hand.Post
+abbrev list-hand-callees : ℕ → list-hand-lts.Claims
+list-hand-callees t = (is-terminal-reads.Asked, is-terminal-reads.Learnt, write-first-reads.Asked, write-first-reads.Learnt, with-action-reads.Asked, with-action-reads.Learnt, list-hand-below t, list-hand.Post)
+
+list-hand-returns : (t : ℕ) → list-hand-lts.Need-returns (list-hand-callees t) (list-hand-at t) list-hand.Post
 list-hand-returns t c = wrote-nothing (hand-none (c .before .before .args .n) (take (c .before .before .args .n) (c .before .before .args .cards)) _ (take (c .before .before .args .acted) (c .before .before .args .t5)) (c .if1 .taken))
 
-list-hand-slice-aggregate-is-terminal : (t : ℕ) → list-hand-lts.Need-slice-aggregate-is-terminal (
-  is-terminal-reads.Asked,
-  is-terminal-reads.Learnt,
-  write-first-reads.Asked,
-  write-first-reads.Learnt,
-  with-action-reads.Asked,
-  with-action-reads.Learnt,
-  list-hand-below t,
-  list-hand.Post,
-) (list-hand-at t) list-hand.Post
+list-hand-slice-aggregate-is-terminal : (t : ℕ) → list-hand-lts.Need-slice-aggregate-is-terminal (list-hand-callees t) (list-hand-at t) list-hand.Post
 list-hand-slice-aggregate-is-terminal t c = search needs
 
-list-hand-is-terminal-requires : (t : ℕ) → list-hand-lts.Need-is-terminal-requires (
-  is-terminal-reads.Asked,
-  is-terminal-reads.Learnt,
-  write-first-reads.Asked,
-  write-first-reads.Learnt,
-  with-action-reads.Asked,
-  with-action-reads.Learnt,
-  list-hand-below t,
-  list-hand.Post,
-) (list-hand-at t) list-hand.Post
+list-hand-is-terminal-requires : (t : ℕ) → list-hand-lts.Need-is-terminal-requires (list-hand-callees t) (list-hand-at t) list-hand.Post
 list-hand-is-terminal-requires t c κs = search needs
 
-list-hand-returns-2 : (t : ℕ) → list-hand-lts.Need-returns-2 (
-  is-terminal-reads.Asked,
-  is-terminal-reads.Learnt,
-  write-first-reads.Asked,
-  write-first-reads.Learnt,
-  with-action-reads.Asked,
-  with-action-reads.Learnt,
-  list-hand-below t,
-  list-hand.Post,
-) (list-hand-at t) list-hand.Post
-list-hand-returns-2 t c = wrote-nothing (hand-over (c .before .before .before .before .before .args .n) (take (c .before .before .before .before .before .args .n) (c .before .before .before .before .before .args .cards)) (c .before .before .before .before .before .args .left) (take (c .before .before .before .before .before .args .acted) (c .before .before .before .before .before .args .t5)) (sym (c .before .is-terminal .ensures) ∙ c .if2 .taken))
+list-hand-returns-2 : (t : ℕ) → list-hand-lts.Need-returns-2 (list-hand-callees t) (list-hand-at t) list-hand.Post
+list-hand-returns-2 t c = let s0 = c .before .before .before .before .before in wrote-nothing (hand-over (s0 .args .n) (take (s0 .args .n) (s0 .args .cards)) (s0 .args .left) (take (s0 .args .acted) (s0 .args .t5)) (sym (c .before .is-terminal .ensures) ∙ c .if2 .taken))
 
-list-hand-write-first-requires : (t : ℕ) → list-hand-lts.Need-write-first-requires (
-  is-terminal-reads.Asked,
-  is-terminal-reads.Learnt,
-  write-first-reads.Asked,
-  write-first-reads.Learnt,
-  with-action-reads.Asked,
-  with-action-reads.Learnt,
-  list-hand-below t,
-  list-hand.Post,
-) (list-hand-at t) list-hand.Post
+list-hand-write-first-requires : (t : ℕ) → list-hand-lts.Need-write-first-requires (list-hand-callees t) (list-hand-at t) list-hand.Post
 list-hand-write-first-requires t c κs = ((search needs, search needs, search needs, c .before .before .before .before .before .before .pre .1 .0 .3), omega (arith, c .before .before .before .before .before .before .pre .1 .1, hand-length (c .before .before .before .before .before .before .args .n) (take (c .before .before .before .before .before .before .args .n) (c .before .before .before .before .before .before .args .cards)) (c .before .before .before .before .before .before .args .t5) (c .before .before .before .before .before .before .args .acted) (c .before .before .before .before .before .before .args .left) (search needs) (c .before .before .before .before .if1 .left) (sym (c .before .before .is-terminal .ensures) ∙ c .before .if2 .left) _ _ refl refl))
 
-list-hand-with-action-requires : (t : ℕ) → list-hand-lts.Need-with-action-requires (
-  is-terminal-reads.Asked,
-  is-terminal-reads.Learnt,
-  write-first-reads.Asked,
-  write-first-reads.Learnt,
-  with-action-reads.Asked,
-  with-action-reads.Learnt,
-  list-hand-below t,
-  list-hand.Post,
-) (list-hand-at t) list-hand.Post
+list-hand-with-action-requires : (t : ℕ) → list-hand-lts.Need-with-action-requires (list-hand-callees t) (list-hand-at t) list-hand.Post
 list-hand-with-action-requires t c κs = search needs
 
-list-hand-add-list-hand : (t : ℕ) → list-hand-lts.Need-add-list-hand (
-  is-terminal-reads.Asked,
-  is-terminal-reads.Learnt,
-  write-first-reads.Asked,
-  write-first-reads.Learnt,
-  with-action-reads.Asked,
-  with-action-reads.Learnt,
-  list-hand-below t,
-  list-hand.Post,
-) (list-hand-at t) list-hand.Post
+list-hand-add-list-hand : (t : ℕ) → list-hand-lts.Need-add-list-hand (list-hand-callees t) (list-hand-at t) list-hand.Post
 list-hand-add-list-hand t c = search needs
 
-list-hand-sub-list-hand : (t : ℕ) → list-hand-lts.Need-sub-list-hand (
-  is-terminal-reads.Asked,
-  is-terminal-reads.Learnt,
-  write-first-reads.Asked,
-  write-first-reads.Learnt,
-  with-action-reads.Asked,
-  with-action-reads.Learnt,
-  list-hand-below t,
-  list-hand.Post,
-) (list-hand-at t) list-hand.Post
+list-hand-sub-list-hand : (t : ℕ) → list-hand-lts.Need-sub-list-hand (list-hand-callees t) (list-hand-at t) list-hand.Post
 list-hand-sub-list-hand t c = search needs
 
-list-hand-list-hand-requires : (t : ℕ) → list-hand-lts.Need-list-hand-requires (
-  is-terminal-reads.Asked,
-  is-terminal-reads.Learnt,
-  write-first-reads.Asked,
-  write-first-reads.Learnt,
-  with-action-reads.Asked,
-  with-action-reads.Learnt,
-  list-hand-below t,
-  list-hand.Post,
-) (list-hand-at t) list-hand.Post
+list-hand-list-hand-requires : (t : ℕ) → list-hand-lts.Need-list-hand-requires (list-hand-callees t) (list-hand-at t) list-hand.Post
 list-hand-list-hand-requires t c κs = (omega (arith, c .before .before .before .before .before .before .before .before .before .before .before .pre .0, c .before .before .before .before .before .before .before .before .before .if1 .left), ((search needs, search needs, omega (arith, c .before .before .before .before .before .before .before .before .before .before .before .pre .1 .0 .2, c .before .before .before .before .before .before .before .before .before .if1 .left), c .before .before .before .before .before .before .before .before .before .before .before .pre .1 .0 .3), omega (arith, c .before .before .before .before .before .before .before .before .before .before .before .pre .1 .1, c .before .before .before .before .write-first .kept .0, c .before .before .before .before .write-first .ensures .next, hand-length (c .before .before .before .before .before .before .before .before .before .before .before .args .n) (take (c .before .before .before .before .before .before .before .before .before .before .before .args .n) (c .before .before .before .before .before .before .before .before .before .before .before .args .cards)) (c .before .before .before .before .before .before .before .before .before .before .before .args .t5) (c .before .before .before .before .before .before .before .before .before .before .before .args .acted) (c .before .before .before .before .before .before .before .before .before .before .before .args .left) (search needs) (c .before .before .before .before .before .before .before .before .before .if1 .left) (sym (c .before .before .before .before .before .before .before .is-terminal .ensures) ∙ c .before .before .before .before .before .before .if2 .left) _ _ (c .before .with-action .ensures) refl)))
 
-list-hand-with-action-requires-2 : (t : ℕ) → list-hand-lts.Need-with-action-requires-2 (
-  is-terminal-reads.Asked,
-  is-terminal-reads.Learnt,
-  write-first-reads.Asked,
-  write-first-reads.Learnt,
-  with-action-reads.Asked,
-  with-action-reads.Learnt,
-  list-hand-below t,
-  list-hand.Post,
-) (list-hand-at t) list-hand.Post
+list-hand-with-action-requires-2 : (t : ℕ) → list-hand-lts.Need-with-action-requires-2 (list-hand-callees t) (list-hand-at t) list-hand.Post
 list-hand-with-action-requires-2 t c κs = search needs
 
-list-hand-add-list-hand-2 : (t : ℕ) → list-hand-lts.Need-add-list-hand-2 (
-  is-terminal-reads.Asked,
-  is-terminal-reads.Learnt,
-  write-first-reads.Asked,
-  write-first-reads.Learnt,
-  with-action-reads.Asked,
-  with-action-reads.Learnt,
-  list-hand-below t,
-  list-hand.Post,
-) (list-hand-at t) list-hand.Post
+list-hand-add-list-hand-2 : (t : ℕ) → list-hand-lts.Need-add-list-hand-2 (list-hand-callees t) (list-hand-at t) list-hand.Post
 list-hand-add-list-hand-2 t c = search needs
 
-list-hand-sub-list-hand-2 : (t : ℕ) → list-hand-lts.Need-sub-list-hand-2 (
-  is-terminal-reads.Asked,
-  is-terminal-reads.Learnt,
-  write-first-reads.Asked,
-  write-first-reads.Learnt,
-  with-action-reads.Asked,
-  with-action-reads.Learnt,
-  list-hand-below t,
-  list-hand.Post,
-) (list-hand-at t) list-hand.Post
+list-hand-sub-list-hand-2 : (t : ℕ) → list-hand-lts.Need-sub-list-hand-2 (list-hand-callees t) (list-hand-at t) list-hand.Post
 list-hand-sub-list-hand-2 t c = search needs
 
-list-hand-list-hand-requires-2 : (t : ℕ) → list-hand-lts.Need-list-hand-requires-2 (
-  is-terminal-reads.Asked,
-  is-terminal-reads.Learnt,
-  write-first-reads.Asked,
-  write-first-reads.Learnt,
-  with-action-reads.Asked,
-  with-action-reads.Learnt,
-  list-hand-below t,
-  list-hand.Post,
-) (list-hand-at t) list-hand.Post
+list-hand-list-hand-requires-2 : (t : ℕ) → list-hand-lts.Need-list-hand-requires-2 (list-hand-callees t) (list-hand-at t) list-hand.Post
 list-hand-list-hand-requires-2 t c κs = (omega (arith, c .before .before .before .before .before .before .before .before .before .before .before .before .before .before .before .before .pre .0, c .before .before .before .before .before .before .before .before .before .before .before .before .before .before .if1 .left), ((search needs, search needs, omega (arith, c .before .before .before .before .before .before .before .before .before .before .before .before .before .before .before .before .pre .1 .0 .2, c .before .before .before .before .before .before .before .before .before .before .before .before .before .before .if1 .left), c .before .before .before .before .before .before .before .before .before .before .before .before .before .before .before .before .pre .1 .0 .3), omega (arith, c .before .before .before .before .before .before .before .before .before .before .before .before .before .before .before .before .pre .1 .1, c .before .before .before .before .before .before .before .before .before .write-first .kept .0, c .before .before .before .before .before .before .before .before .before .write-first .ensures .next, c .before .before .before .before .list-hand .kept .0, c .before .before .before .before .list-hand .ensures .next, hand-length (c .before .before .before .before .before .before .before .before .before .before .before .before .before .before .before .before .args .n) (take (c .before .before .before .before .before .before .before .before .before .before .before .before .before .before .before .before .args .n) (c .before .before .before .before .before .before .before .before .before .before .before .before .before .before .before .before .args .cards)) (c .before .before .before .before .before .before .before .before .before .before .before .before .before .before .before .before .args .t5) (c .before .before .before .before .before .before .before .before .before .before .before .before .before .before .before .before .args .acted) (c .before .before .before .before .before .before .before .before .before .before .before .before .before .before .before .before .args .left) (search needs) (c .before .before .before .before .before .before .before .before .before .before .before .before .before .before .if1 .left) (sym (c .before .before .before .before .before .before .before .before .before .before .before .before .is-terminal .ensures) ∙ c .before .before .before .before .before .before .before .before .before .before .before .if2 .left) _ _ (c .before .before .before .before .before .before .with-action .ensures) (c .before .with-action2 .ensures))))
 
-list-hand-same-length : (t : ℕ) → list-hand-lts.Need-same-length (
-  is-terminal-reads.Asked,
-  is-terminal-reads.Learnt,
-  write-first-reads.Asked,
-  write-first-reads.Learnt,
-  with-action-reads.Asked,
-  with-action-reads.Learnt,
-  list-hand-below t,
-  list-hand.Post,
-) (list-hand-at t) list-hand.Post
+list-hand-same-length : (t : ℕ) → list-hand-lts.Need-same-length (list-hand-callees t) (list-hand-at t) list-hand.Post
 list-hand-same-length t c = search needs
 
-list-hand-returns-3 : (t : ℕ) → list-hand-lts.Need-returns-3 (
-  is-terminal-reads.Asked,
-  is-terminal-reads.Learnt,
-  write-first-reads.Asked,
-  write-first-reads.Learnt,
-  with-action-reads.Asked,
-  with-action-reads.Learnt,
-  list-hand-below t,
-  list-hand.Post,
-) (list-hand-at t) list-hand.Post
+list-hand-returns-3 : (t : ℕ) → list-hand-lts.Need-returns-3 (list-hand-callees t) (list-hand-at t) list-hand.Post
 list-hand-returns-3 t c = wrote-hand (c .before .before .before .before .before .before .before .before .before .before .before .before .before .before .before .before .before .before .before .args .n) (take (c .before .before .before .before .before .before .before .before .before .before .before .before .before .before .before .before .before .before .before .args .n) (c .before .before .before .before .before .before .before .before .before .before .before .before .before .before .before .before .before .before .before .args .cards)) (c .before .before .before .before .before .before .before .before .before .before .before .before .before .before .before .before .before .before .before .args .t5) (c .before .before .before .before .before .before .before .before .before .before .before .before .before .before .before .before .before .before .before .args .acted) (c .before .before .before .before .before .before .before .before .before .before .before .before .before .before .before .before .before .before .before .args .left) (let v : c .before .before .before .before .before .before .before .before .before .before .before .before .before .before .before .before .before .before .before .args .acted < 11 = omega (arith, c .before .before .before .before .before .before .before .before .before .before .before .before .before .before .before .before .before .before .before .pre .1 .0 .2, c .before .before .before .before .before .before .before .before .before .before .before .before .before .before .before .before .before .if1 .left) in search (needs, c .before .before .before .before .before .before .before .before .before .before .before .before .before .before .before .before .before .before .before .good .1 .1 .1 .1 .0)) (c .before .before .before .before .before .before .before .before .before .before .before .before .before .before .before .before .before .if1 .left) (sym (c .before .before .before .before .before .before .before .before .before .before .before .before .before .before .before .is-terminal .ensures) ∙ c .before .before .before .before .before .before .before .before .before .before .before .before .before .before .if2 .left) (c .before .before .before .before .before .before .before .before .before .with-action .ensures) (c .before .before .before .before .with-action2 .ensures) (c .before .before .before .before .before .before .before .before .before .before .before .before .write-first .ensures) (c .before .before .before .before .before .before .before .list-hand .ensures) (c .before .before .list-hand2 .ensures)
 
 pub +list-hand-spec : {M : Type 1} → statement M
-+list-hand-spec = close μ-list-hand λ t. list-hand-lts.spec (
-  is-terminal-reads.Asked,
-  is-terminal-reads.Learnt,
-  write-first-reads.Asked,
-  write-first-reads.Learnt,
-  with-action-reads.Asked,
-  with-action-reads.Learnt,
-  list-hand-below t,
-  list-hand.Post,
-)
-    (list-hand-at t)
++list-hand-spec = close μ-list-hand λ t. list-hand-lts.spec (list-hand-callees t) (list-hand-at t)
     list-hand.Post
     (list-hand-returns t)
     (list-hand-slice-aggregate-is-terminal t)

@@ -31,7 +31,7 @@ lowest-unless-requires : tie.Need-lowest-unless-requires Inv-loop μ-loop
 lowest-unless-requires c κs = (search needs, search needs, c .before .before .before .before .before .pre .2 (c .before .loop .q) (search needs))
 
 returns : tie.Need-returns Inv-loop μ-loop
-returns c = sym (first-is (c .before .before .before .before .before .before .before .args .cards .now) (c .before .before .before .before .before .before .before .args .n) (c .before .before .before .before .before .before .before .pre .1) (c .before .before .before .before .before .before .before .args .seat) (c .before .before .before .before .before .before .before .pre .0)
+returns c = let s0 = c .before .before .before .before .before .before .before in sym (first-is (s0 .args .cards .now) (s0 .args .n) (s0 .pre .1) (s0 .args .seat) (s0 .pre .0)
     ∙ ap (λ x. every (c .before .before .before .before .before .before .before .args .n) (λ p. or (eqb p (c .before .before .before .before .before .before .before .args .seat)) (lowestBut (c .before .before .before .before .before .before .before .args .n) (take (c .before .before .before .before .before .before .before .args .n) (c .before .before .before .before .before .before .before .args .cards .now)) x p))) (sym (c .before .before .before .before .wide .ensures))
     ∙ every-fails _ _ (c .before .before .before .loop .q) (search needs) (sym (c .before .lowest-unless .ensures) ∙ not-true _ (c .if1 .taken)))
 
@@ -45,7 +45,7 @@ loop-again : tie.Need-loop-again Inv-loop μ-loop
 loop-again c = (search needs, every-more _ _ (c .before .before .before .loop .inv .1) (sym (c .before .lowest-unless .ensures) ∙ not-false _ (c .if1 .left)))
 
 returns-2 : tie.Need-returns-2 Inv-loop μ-loop
-returns-2 c = sym (first-is (c .before .before .before .before .before .args .cards .now) (c .before .before .before .before .before .args .n) (c .before .before .before .before .before .pre .1) (c .before .before .before .before .before .args .seat) (c .before .before .before .before .before .pre .0)
+returns-2 c = let s0 = c .before .before .before .before .before in sym (first-is (s0 .args .cards .now) (s0 .args .n) (s0 .pre .1) (s0 .args .seat) (s0 .pre .0)
     ∙ ap (λ x. every (c .before .before .before .before .before .args .n) (λ p. or (eqb p (c .before .before .before .before .before .args .seat)) (lowestBut (c .before .before .before .before .before .args .n) (take (c .before .before .before .before .before .args .n) (c .before .before .before .before .before .args .cards .now)) x p))) (sym (c .before .before .wide .ensures))
     ∙ every-passed (c .before .loop .q) _ _ (c .before .loop .inv .0) (search needs) (c .before .loop .inv .1))
 

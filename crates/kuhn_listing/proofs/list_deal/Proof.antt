@@ -18,7 +18,7 @@ any-first-requires : tie.Need-any-first-requires
 any-first-requires c κs = search needs
 
 returns : tie.Need-returns
-returns c = wrote-nothing (none-first (c .before .before .before .before .args .n) (take (c .before .before .before .before .args .n) (c .before .before .before .before .args .t4)) (c .before .before .before .before .pre .0 .0) (sym (c .before .any-first .ensures) ∙ not-true _ (c .if1 .taken)) (histories (c .before .before .before .before .args .n)))
+returns c = let s0 = c .before .before .before .before in wrote-nothing (none-first (s0 .args .n) (take (s0 .args .n) (s0 .args .t4)) (s0 .pre .0 .0) (sym (c .before .any-first .ensures) ∙ not-true _ (c .if1 .taken)) (histories (s0 .args .n)))
 
 mul-list-hand : tie.Need-mul-list-hand
 mul-list-hand c = search needs
@@ -33,7 +33,7 @@ same-length : tie.Need-same-length
 same-length c = search needs
 
 returns-2 : tie.Need-returns-2
-returns-2 c = wrote-as (whole-hand (c .before .before .before .before .before .before .before .before .args .n) (take (c .before .before .before .before .before .before .before .before .args .n) (c .before .before .before .before .before .before .before .before .args .t4)) [] refl) (c .before .before .list-hand .ensures)
+returns-2 c = let s0 = c .before .before .before .before .before .before .before .before in wrote-as (whole-hand (s0 .args .n) (take (s0 .args .n) (s0 .args .t4)) [] refl) (c .before .before .list-hand .ensures)
 
 pub list-deal-spec : {M : Type 1} → statement M
 list-deal-spec =

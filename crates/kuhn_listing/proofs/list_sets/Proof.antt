@@ -18,7 +18,7 @@ same-length : tie.Need-same-length
 same-length c = search needs
 
 returns : tie.Need-returns
-returns c = c .before .before .list-deals .ensures .wrote ∙ ap (sets (c .before .before .before .before .before .args .out .now) 0) (sym (all-deals (c .before .before .before .before .before .args .n) (c .before .before .before .before .before .pre .0)))
+returns c = let s0 = c .before .before .before .before .before in c .before .before .list-deals .ensures .wrote ∙ ap (sets (s0 .args .out .now) 0) (sym (all-deals (s0 .args .n) (s0 .pre .0)))
 
 pub list-sets-spec : {M : Type 1} → statement M
 list-sets-spec = tie.close (tie.spec add-list-deals list-deals-requires same-length returns)

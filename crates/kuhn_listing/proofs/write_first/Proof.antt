@@ -21,10 +21,10 @@ returns : tie.Need-returns
 returns c = wrote-later (c .before .before .before .before .args .n) (c .before .before .before .before .args .acted) (c .before .before .before .before .args .t4) (c .before .before .before .before .args .t5) (c .before .before .before .before .pre .0 .0) (search needs) (c .before .before .before .before .args .out .now) (c .before .before .before .before .args .at) (sym (c .before .is-first .ensures) ∙ not-true _ (c .if1 .taken))
 
 cast-key-of : tie.Need-cast-key-of
-cast-key-of c = omega (arith, NatL.mod-lt (c .before .before .before .before .args .acted) (c .before .before .before .before .pre .0 .0))
+cast-key-of c = let s0 = c .before .before .before .before in omega (arith, NatL.mod-lt (s0 .args .acted) (s0 .pre .0 .0))
 
 array-read-key-of : tie.Need-array-read-key-of
-array-read-key-of c = omega (arith, NatL.mod-lt (c .before .before .before .before .args .acted) (c .before .before .before .before .pre .0 .0))
+array-read-key-of c = let s0 = c .before .before .before .before in omega (arith, NatL.mod-lt (s0 .args .acted) (s0 .pre .0 .0))
 
 slice-aggregate-key-of : tie.Need-slice-aggregate-key-of
 slice-aggregate-key-of c = search needs
@@ -39,7 +39,7 @@ in-six-requires : tie.Need-in-six-requires
 in-six-requires c κs = search needs
 
 cast-put-record : tie.Need-cast-put-record
-cast-put-record c = omega (arith, NatL.mod-lt (c .before .before .before .before .before .before .before .before .before .args .acted) (c .before .before .before .before .before .before .before .before .before .pre .0 .0))
+cast-put-record c = let s0 = c .before .before .before .before .before .before .before .before .before in omega (arith, NatL.mod-lt (s0 .args .acted) (s0 .pre .0 .0))
 
 add-put-record : tie.Need-add-put-record
 add-put-record c = search needs

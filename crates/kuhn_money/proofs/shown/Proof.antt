@@ -20,7 +20,7 @@ returns c =
     c .wide .ensures ∙ ap (λ b. cond b (getD (c .before .before .before .before .before .before .args .cards .now) (c .before .before .before .before .before .before .args .player) 0) 0) (sym (c .before .before .if1 .taken) ∙ c .before .before .before .standing .ensures)
 
 returns-2 : tie.Need-returns-2
-returns-2 c = ap (λ b. cond b (getD (c .before .before .before .before .args .cards .now) (c .before .before .before .before .args .player) 0) 0) (sym (c .if1 .left) ∙ c .before .standing .ensures)
+returns-2 c = let s0 = c .before .before .before .before in ap (λ b. cond b (getD (s0 .args .cards .now) (s0 .args .player) 0) 0) (sym (c .if1 .left) ∙ c .before .standing .ensures)
 
 pub shown-spec : {M : Type 1} → statement M
 shown-spec =

@@ -43,190 +43,78 @@ dealt-at t = and 1 dealt-kinds.ps (is 1 dealt-kinds.ps μ-dealt t) dealt.Pre
 abbrev dealt-below : ℕ → In 1 dealt-kinds.ps
 dealt-below t = and 1 dealt-kinds.ps (falls 1 dealt-kinds.ps _<_ μ-dealt t) dealt.Pre
 
+abbrev deal-callees : ℕ → deal-lts.Claims
+deal-callees t = (dealt-below t, dealt.Post, chance-reads.Asked, chance-reads.Learnt, write-reads.Asked, write-reads.Learnt)
+
+abbrev dealt-callees : ℕ → dealt-lts.Claims
+dealt-callees t = (round-reads.Asked, round-reads.Learnt, deal-below t, deal.Post)
+
 abbrev deal-Inv-loop : deal-lts.InvT-loop
 deal-Inv-loop w₀ at left c next₀ d₀ w next d = Row 2 plain (at + 1) w₀ w (rowTo (λ x. not (eqb x c)) (dealTree left c) d) next × (d ≤ 6)
 
 abbrev deal-μ-loop : deal-lts.MeasureT-loop
 deal-μ-loop w₀ at left c next₀ d₀ w next d = 6 - d
 
-deal-add-next : (t : ℕ) → deal-lts.Need-add-next (
-  dealt-below t,
-  dealt.Post,
-  chance-reads.Asked,
-  chance-reads.Learnt,
-  write-reads.Asked,
-  write-reads.Learnt,
-) (deal-at t) deal.Post deal-Inv-loop deal-μ-loop
+deal-add-next : (t : ℕ) → deal-lts.Need-add-next (deal-callees t) (deal-at t) deal.Post deal-Inv-loop deal-μ-loop
 deal-add-next t c = place-fits (c .before .pre .1 .1)
 
-deal-loop-holds : (t : ℕ) → deal-lts.Need-loop-holds (
-  dealt-below t,
-  dealt.Post,
-  chance-reads.Asked,
-  chance-reads.Learnt,
-  write-reads.Asked,
-  write-reads.Learnt,
-) (deal-at t) deal.Post deal-Inv-loop deal-μ-loop
+deal-loop-holds : (t : ℕ) → deal-lts.Need-loop-holds (deal-callees t) (deal-at t) deal.Post deal-Inv-loop deal-μ-loop
 deal-loop-holds t c = (row-start _ _ _ _, omega arith)
 
-deal-dealt-requires : (t : ℕ) → deal-lts.Need-dealt-requires (
-  dealt-below t,
-  dealt.Post,
-  chance-reads.Asked,
-  chance-reads.Learnt,
-  write-reads.Asked,
-  write-reads.Learnt,
-) (deal-at t) deal.Post deal-Inv-loop deal-μ-loop
+deal-dealt-requires : (t : ℕ) → deal-lts.Need-dealt-requires (deal-callees t) (deal-at t) deal.Post deal-Inv-loop deal-μ-loop
 unfolding dealTree size
-deal-dealt-requires t c κs = (omega (arith, c .before .before .before .before .pre .0), ((c .before .before .before .before .pre .1 .0, c .before .loop-test .taken), child-room _ _ _ _ _ _ _ (c .before .before .loop .inv .0) (first-room (c .before .before .before .before .pre .1 .1) _ (NatL.le-refl _)) (c .before .loop-test .taken)))
+deal-dealt-requires t c κs = let s0 = c .before .before .before .before in (omega (arith, s0 .pre .0), ((s0 .pre .1 .0, c .before .loop-test .taken), child-room _ _ _ _ _ _ _ (c .before .before .loop .inv .0) (first-room (s0 .pre .1 .1) _ (NatL.le-refl _)) (c .before .loop-test .taken)))
 
-deal-add-d : (t : ℕ) → deal-lts.Need-add-d (
-  dealt-below t,
-  dealt.Post,
-  chance-reads.Asked,
-  chance-reads.Learnt,
-  write-reads.Asked,
-  write-reads.Learnt,
-) (deal-at t) deal.Post deal-Inv-loop deal-μ-loop
+deal-add-d : (t : ℕ) → deal-lts.Need-add-d (deal-callees t) (deal-at t) deal.Post deal-Inv-loop deal-μ-loop
 deal-add-d t c = omega (arith, c .before .before .before .before .loop-test .taken)
 
-deal-loop-less : (t : ℕ) → deal-lts.Need-loop-less (
-  dealt-below t,
-  dealt.Post,
-  chance-reads.Asked,
-  chance-reads.Learnt,
-  write-reads.Asked,
-  write-reads.Learnt,
-) (deal-at t) deal.Post deal-Inv-loop deal-μ-loop
+deal-loop-less : (t : ℕ) → deal-lts.Need-loop-less (deal-callees t) (deal-at t) deal.Post deal-Inv-loop deal-μ-loop
 deal-loop-less t c = omega (arith, c .before .before .before .before .loop-test .taken)
 
-deal-loop-again : (t : ℕ) → deal-lts.Need-loop-again (
-  dealt-below t,
-  dealt.Post,
-  chance-reads.Asked,
-  chance-reads.Learnt,
-  write-reads.Asked,
-  write-reads.Learnt,
-) (deal-at t) deal.Post deal-Inv-loop deal-μ-loop
+deal-loop-again : (t : ℕ) → deal-lts.Need-loop-again (deal-callees t) (deal-at t) deal.Post deal-Inv-loop deal-μ-loop
 deal-loop-again t c = (row-on _ _ _ _ _ _ _ (c .before .before .before .before .before .loop .inv .0) _ _ (c .before .before .dealt .ensures), omega (arith, c .before .before .before .before .loop-test .taken))
 
-deal-chance-requires : (t : ℕ) → deal-lts.Need-chance-requires (
-  dealt-below t,
-  dealt.Post,
-  chance-reads.Asked,
-  chance-reads.Learnt,
-  write-reads.Asked,
-  write-reads.Learnt,
-) (deal-at t) deal.Post deal-Inv-loop deal-μ-loop
+deal-chance-requires : (t : ℕ) → deal-lts.Need-chance-requires (deal-callees t) (deal-at t) deal.Post deal-Inv-loop deal-μ-loop
 unfolding dealTree size
 deal-chance-requires t c κs = row-fits (c .before .before .before .before .pre .1 .1) (row-done _ _ _ _ _ _ _ (c .before .before .loop .inv .0) (c .before .before .loop .inv .1) (c .before .loop-test .left)) refl .0
 
-deal-write-requires : (t : ℕ) → deal-lts.Need-write-requires (
-  dealt-below t,
-  dealt.Post,
-  chance-reads.Asked,
-  chance-reads.Learnt,
-  write-reads.Asked,
-  write-reads.Learnt,
-) (deal-at t) deal.Post deal-Inv-loop deal-μ-loop
+deal-write-requires : (t : ℕ) → deal-lts.Need-write-requires (deal-callees t) (deal-at t) deal.Post deal-Inv-loop deal-μ-loop
 unfolding dealTree size
-deal-write-requires t c κs = row-fits (c .before .before .before .before .before .pre .1 .1) (row-done _ _ _ _ _ _ _ (c .before .before .before .loop .inv .0) (c .before .before .before .loop .inv .1) (c .before .before .loop-test .left)) refl .1
+deal-write-requires t c κs = let s0 = c .before .before .before in row-fits (c .before .before .before .before .before .pre .1 .1) (row-done _ _ _ _ _ _ _ (s0 .loop .inv .0) (s0 .loop .inv .1) (c .before .before .loop-test .left)) refl .1
 
-deal-same-length : (t : ℕ) → deal-lts.Need-same-length (
-  dealt-below t,
-  dealt.Post,
-  chance-reads.Asked,
-  chance-reads.Learnt,
-  write-reads.Asked,
-  write-reads.Learnt,
-) (deal-at t) deal.Post deal-Inv-loop deal-μ-loop
+deal-same-length : (t : ℕ) → deal-lts.Need-same-length (deal-callees t) (deal-at t) deal.Post deal-Inv-loop deal-μ-loop
 deal-same-length t c = search needs
 
-deal-returns : (t : ℕ) → deal-lts.Need-returns (
-  dealt-below t,
-  dealt.Post,
-  chance-reads.Asked,
-  chance-reads.Learnt,
-  write-reads.Asked,
-  write-reads.Learnt,
-) (deal-at t) deal.Post deal-Inv-loop deal-μ-loop
+deal-returns : (t : ℕ) → deal-lts.Need-returns (deal-callees t) (deal-at t) deal.Post deal-Inv-loop deal-μ-loop
 unfolding dealTree size
-deal-returns t c = lays-chance (c .before .before .before .before .before .before .before .before .pre .1 .1) (row-done _ _ _ _ _ _ _ (c .before .before .before .before .before .before .loop .inv .0) (c .before .before .before .before .before .before .loop .inv .1) (c .before .before .before .before .before .loop-test .left)) refl (c .before .before .before .chance .ensures) (c .before .before .write .ensures)
+deal-returns t c = let s0 = c .before .before .before .before .before .before in lays-chance (c .before .before .before .before .before .before .before .before .pre .1 .1) (row-done _ _ _ _ _ _ _ (s0 .loop .inv .0) (s0 .loop .inv .1) (c .before .before .before .before .before .loop-test .left)) refl (c .before .before .before .chance .ensures) (c .before .before .write .ensures)
 
-dealt-returns : (t : ℕ) → dealt-lts.Need-returns (
-  round-reads.Asked,
-  round-reads.Learnt,
-  deal-below t,
-  deal.Post,
-) (dealt-at t) dealt.Post
+dealt-returns : (t : ℕ) → dealt-lts.Need-returns (dealt-callees t) (dealt-at t) dealt.Post
 dealt-returns t c = passes _ _ _ _ _ (rw (eq-eqb _ _ (c .if1 .taken)) refl)
 
-dealt-round-requires : (t : ℕ) → dealt-lts.Need-round-requires (
-  round-reads.Asked,
-  round-reads.Learnt,
-  deal-below t,
-  deal.Post,
-) (dealt-at t) dealt.Post
-dealt-round-requires t c κs = let kept : not (eqb (c .before .before .before .before .args .d) (c .before .before .before .before .args .c)) ≡ true = rw (ne-eqb _ _ (c .before .before .if1 .left)) refl in ((omega (arith, c .before .before .before .before .pre .1 .0 .0, c .before .if2 .taken), c .before .before .before .before .pre .1 .0 .1), rw (none-left (c .before .before .before .before .args .left) (c .before .before .before .before .args .c) (c .before .before .before .before .args .d) (c .before .if2 .taken)) at (kept-room _ _ _ _ _ kept (c .before .before .before .before .pre .1 .1)))
+dealt-round-requires : (t : ℕ) → dealt-lts.Need-round-requires (dealt-callees t) (dealt-at t) dealt.Post
+dealt-round-requires t c κs = let s0 = c .before .before .before .before in let kept : not (eqb (s0 .args .d) (s0 .args .c)) ≡ true = rw (ne-eqb _ _ (c .before .before .if1 .left)) refl in ((omega (arith, s0 .pre .1 .0 .0, c .before .if2 .taken), s0 .pre .1 .0 .1), rw (none-left (s0 .args .left) (s0 .args .c) (s0 .args .d) (c .before .if2 .taken)) at (kept-room _ _ _ _ _ kept (s0 .pre .1 .1)))
 
-dealt-same-length : (t : ℕ) → dealt-lts.Need-same-length (
-  round-reads.Asked,
-  round-reads.Learnt,
-  deal-below t,
-  deal.Post,
-) (dealt-at t) dealt.Post
+dealt-same-length : (t : ℕ) → dealt-lts.Need-same-length (dealt-callees t) (dealt-at t) dealt.Post
 dealt-same-length t c = search needs
 
-dealt-returns-2 : (t : ℕ) → dealt-lts.Need-returns-2 (
-  round-reads.Asked,
-  round-reads.Learnt,
-  deal-below t,
-  deal.Post,
-) (dealt-at t) dealt.Post
-dealt-returns-2 t c = let kept : not (eqb (c .before .before .before .before .before .before .before .args .d) (c .before .before .before .before .before .before .before .args .c)) ≡ true = rw (ne-eqb _ _ (c .before .before .before .before .before .if1 .left)) refl in keeps _ _ _ _ _ kept (rw (none-left (c .before .before .before .before .before .before .before .args .left) (c .before .before .before .before .before .before .before .args .c) (c .before .before .before .before .before .before .before .args .d) (c .before .before .before .before .if2 .taken)) (c .before .before .round .ensures))
+dealt-returns-2 : (t : ℕ) → dealt-lts.Need-returns-2 (dealt-callees t) (dealt-at t) dealt.Post
+dealt-returns-2 t c = let s0 = c .before .before .before .before .before .before .before in let kept : not (eqb (s0 .args .d) (s0 .args .c)) ≡ true = rw (ne-eqb _ _ (c .before .before .before .before .before .if1 .left)) refl in keeps _ _ _ _ _ kept (rw (none-left (s0 .args .left) (s0 .args .c) (s0 .args .d) (c .before .before .before .before .if2 .taken)) (c .before .before .round .ensures))
 
-dealt-sub-deal : (t : ℕ) → dealt-lts.Need-sub-deal (
-  round-reads.Asked,
-  round-reads.Learnt,
-  deal-below t,
-  deal.Post,
-) (dealt-at t) dealt.Post
+dealt-sub-deal : (t : ℕ) → dealt-lts.Need-sub-deal (dealt-callees t) (dealt-at t) dealt.Post
 dealt-sub-deal t c = omega (arith, c .before .if2 .left)
 
-dealt-deal-requires : (t : ℕ) → dealt-lts.Need-deal-requires (
-  round-reads.Asked,
-  round-reads.Learnt,
-  deal-below t,
-  deal.Post,
-) (dealt-at t) dealt.Post
-dealt-deal-requires t c κs = let kept : not (eqb (c .before .before .before .before .args .d) (c .before .before .before .before .args .c)) ≡ true = rw (ne-eqb _ _ (c .before .before .if1 .left)) refl in (omega (arith, c .before .before .before .before .pre .0, c .before .if2 .left), (omega (arith, c .before .before .before .before .pre .1 .0 .1), rw (some-left (c .before .before .before .before .args .left) (c .before .before .before .before .args .c) (c .before .before .before .before .args .d) (omega (arith, c .before .if2 .left))) at (kept-room _ _ _ _ _ kept (c .before .before .before .before .pre .1 .1))))
+dealt-deal-requires : (t : ℕ) → dealt-lts.Need-deal-requires (dealt-callees t) (dealt-at t) dealt.Post
+dealt-deal-requires t c κs = let s0 = c .before .before .before .before in let kept : not (eqb (s0 .args .d) (s0 .args .c)) ≡ true = rw (ne-eqb _ _ (c .before .before .if1 .left)) refl in (omega (arith, s0 .pre .0, c .before .if2 .left), (omega (arith, s0 .pre .1 .0 .1), rw (some-left (s0 .args .left) (s0 .args .c) (s0 .args .d) (omega (arith, c .before .if2 .left))) at (kept-room _ _ _ _ _ kept (s0 .pre .1 .1))))
 
-dealt-same-length-2 : (t : ℕ) → dealt-lts.Need-same-length-2 (
-  round-reads.Asked,
-  round-reads.Learnt,
-  deal-below t,
-  deal.Post,
-) (dealt-at t) dealt.Post
+dealt-same-length-2 : (t : ℕ) → dealt-lts.Need-same-length-2 (dealt-callees t) (dealt-at t) dealt.Post
 dealt-same-length-2 t c = search needs
 
-dealt-returns-3 : (t : ℕ) → dealt-lts.Need-returns-3 (
-  round-reads.Asked,
-  round-reads.Learnt,
-  deal-below t,
-  deal.Post,
-) (dealt-at t) dealt.Post
-dealt-returns-3 t c = let kept : not (eqb (c .before .before .before .before .before .before .before .args .d) (c .before .before .before .before .before .before .before .args .c)) ≡ true = rw (ne-eqb _ _ (c .before .before .before .before .before .if1 .left)) refl in keeps _ _ _ _ _ kept (rw (some-left (c .before .before .before .before .before .before .before .args .left) (c .before .before .before .before .before .before .before .args .c) (c .before .before .before .before .before .before .before .args .d) (omega (arith, c .before .before .before .before .if2 .left))) (c .before .before .deal .ensures))
+dealt-returns-3 : (t : ℕ) → dealt-lts.Need-returns-3 (dealt-callees t) (dealt-at t) dealt.Post
+dealt-returns-3 t c = let s0 = c .before .before .before .before .before .before .before in let kept : not (eqb (s0 .args .d) (s0 .args .c)) ≡ true = rw (ne-eqb _ _ (c .before .before .before .before .before .if1 .left)) refl in keeps _ _ _ _ _ kept (rw (some-left (s0 .args .left) (s0 .args .c) (s0 .args .d) (omega (arith, c .before .before .before .before .if2 .left))) (c .before .before .deal .ensures))
 
 pub +deal+dealt-spec : {M : Type 1} → statement M
-+deal+dealt-spec = close μ-deal μ-dealt (λ t. deal-lts.spec (
-  dealt-below t,
-  dealt.Post,
-  chance-reads.Asked,
-  chance-reads.Learnt,
-  write-reads.Asked,
-  write-reads.Learnt,
-)
-    (deal-at t)
++deal+dealt-spec = close μ-deal μ-dealt (λ t. deal-lts.spec (deal-callees t) (deal-at t)
     deal.Post
     deal-Inv-loop
     deal-μ-loop

@@ -25,178 +25,61 @@ raised-at t = and 1 raised-kinds.ps (is 1 raised-kinds.ps μ-raised t) raised.Pr
 abbrev raised-below : ℕ → In 1 raised-kinds.ps
 raised-below t = and 1 raised-kinds.ps (falls 1 raised-kinds.ps _<_ μ-raised t) raised.Pre
 
-raised-add-more : (t : ℕ) → raised-lts.Need-add-more (
-  end-reads.Asked,
-  end-reads.Learnt,
-  choose-reads.Asked,
-  choose-reads.Learnt,
-  raised-below t,
-  raised.Post,
-) (raised-at t) raised.Post
+abbrev raised-callees : ℕ → raised-lts.Claims
+raised-callees t = (end-reads.Asked, end-reads.Learnt, choose-reads.Asked, choose-reads.Learnt, raised-below t, raised.Post)
+
+raised-add-more : (t : ℕ) → raised-lts.Need-add-more (raised-callees t) (raised-at t) raised.Post
 raised-add-more t c = search needs
 
-raised-add-end : (t : ℕ) → raised-lts.Need-add-end (
-  end-reads.Asked,
-  end-reads.Learnt,
-  choose-reads.Asked,
-  choose-reads.Learnt,
-  raised-below t,
-  raised.Post,
-) (raised-at t) raised.Post
+raised-add-end : (t : ℕ) → raised-lts.Need-add-end (raised-callees t) (raised-at t) raised.Post
 raised-add-end t c = place-fits (c .before .before .pre .1 .1)
 
-raised-mul-end : (t : ℕ) → raised-lts.Need-mul-end (
-  end-reads.Asked,
-  end-reads.Learnt,
-  choose-reads.Asked,
-  choose-reads.Learnt,
-  raised-below t,
-  raised.Post,
-) (raised-at t) raised.Post
+raised-mul-end : (t : ℕ) → raised-lts.Need-mul-end (raised-callees t) (raised-at t) raised.Post
 raised-mul-end t c = search needs
 
-raised-end-requires : (t : ℕ) → raised-lts.Need-end-requires (
-  end-reads.Asked,
-  end-reads.Learnt,
-  choose-reads.Asked,
-  choose-reads.Learnt,
-  raised-below t,
-  raised.Post,
-) (raised-at t) raised.Post
+raised-end-requires : (t : ℕ) → raised-lts.Need-end-requires (raised-callees t) (raised-at t) raised.Post
 raised-end-requires t c κs = (fold-few (c .before .before .pre .1 .0 .3), second-few (c .before .before .args .n) (c .before .before .args .paid) (c .before .before .args .left) (c .before .before .pre .1 .0 .4) (c .before .before .pre .1 .0 .5) .1, fold-room _ _ _ _ _ _ _ _ _ (c .before .before .args .left) (c .before .before .pre .1 .1))
 
-raised-end-requires-2 : (t : ℕ) → raised-lts.Need-end-requires-2 (
-  end-reads.Asked,
-  end-reads.Learnt,
-  choose-reads.Asked,
-  choose-reads.Learnt,
-  raised-below t,
-  raised.Post,
-) (raised-at t) raised.Post
-raised-end-requires-2 t c κs = (c .before .before .before .before .before .before .pre .1 .0 .2, second-few (c .before .before .before .before .before .before .args .n) (c .before .before .before .before .before .before .args .paid) (c .before .before .before .before .before .before .args .left) (c .before .before .before .before .before .before .pre .1 .0 .4) (c .before .before .before .before .before .before .pre .1 .0 .5) .2, call-room _ _ _ _ _ _ _ _ _ (c .before .before .before .end .ensures) (c .before .before .before .before .before .before .args .left) (c .before .before .before .before .before .before .pre .1 .1))
+raised-end-requires-2 : (t : ℕ) → raised-lts.Need-end-requires-2 (raised-callees t) (raised-at t) raised.Post
+raised-end-requires-2 t c κs = let s0 = c .before .before .before .before .before .before in (s0 .pre .1 .0 .2, second-few (s0 .args .n) (s0 .args .paid) (s0 .args .left) (s0 .pre .1 .0 .4) (s0 .pre .1 .0 .5) .2, call-room _ _ _ _ _ _ _ _ _ (c .before .before .before .end .ensures) (s0 .args .left) (s0 .pre .1 .1))
 
-raised-choose-requires : (t : ℕ) → raised-lts.Need-choose-requires (
-  end-reads.Asked,
-  end-reads.Learnt,
-  choose-reads.Asked,
-  choose-reads.Learnt,
-  raised-below t,
-  raised.Post,
-) (raised-at t) raised.Post
+raised-choose-requires : (t : ℕ) → raised-lts.Need-choose-requires (raised-callees t) (raised-at t) raised.Post
 unfolding IsLe
-raised-choose-requires t c κs = ((c .before .before .before .before .before .before .before .before .before .before .before .pre .1 .0 .3, le-by-compare 3 4 tt, c .before .before .before .before .before .before .before .before .before .before .before .pre .1 .0 .0, c .before .before .before .before .before .before .before .before .before .before .before .pre .1 .0 .1, second-few (c .before .before .before .before .before .before .before .before .before .before .before .args .n) (c .before .before .before .before .before .before .before .before .before .before .before .args .paid) (c .before .before .before .before .before .before .before .before .before .before .before .args .left) (c .before .before .before .before .before .before .before .before .before .before .before .pre .1 .0 .4) (c .before .before .before .before .before .before .before .before .before .before .before .pre .1 .0 .5) .0), last-fits _ _ _ _ _ _ _ _ _ (c .before .before .before .before .before .before .before .before .end .ensures) (c .before .before .before .before .end2 .ensures) (c .before .before .before .before .before .before .before .before .before .before .before .args .left) (c .before .if1 .taken) (c .before .before .before .before .before .before .before .before .before .before .before .pre .1 .1))
+raised-choose-requires t c κs = let s0 = c .before .before .before .before .before .before .before .before .before .before .before in ((s0 .pre .1 .0 .3, le-by-compare 3 4 tt, s0 .pre .1 .0 .0, s0 .pre .1 .0 .1, second-few (s0 .args .n) (s0 .args .paid) (s0 .args .left) (s0 .pre .1 .0 .4) (s0 .pre .1 .0 .5) .0), last-fits _ _ _ _ _ _ _ _ _ (c .before .before .before .before .before .before .before .before .end .ensures) (c .before .before .before .before .end2 .ensures) (s0 .args .left) (c .before .if1 .taken) (s0 .pre .1 .1))
 
-raised-same-length : (t : ℕ) → raised-lts.Need-same-length (
-  end-reads.Asked,
-  end-reads.Learnt,
-  choose-reads.Asked,
-  choose-reads.Learnt,
-  raised-below t,
-  raised.Post,
-) (raised-at t) raised.Post
+raised-same-length : (t : ℕ) → raised-lts.Need-same-length (raised-callees t) (raised-at t) raised.Post
 raised-same-length t c = search needs
 
-raised-returns : (t : ℕ) → raised-lts.Need-returns (
-  end-reads.Asked,
-  end-reads.Learnt,
-  choose-reads.Asked,
-  choose-reads.Learnt,
-  raised-below t,
-  raised.Post,
-) (raised-at t) raised.Post
-raised-returns t c = lays-last _ _ _ _ _ _ _ _ _ (c .before .before .before .before .before .before .before .before .before .before .before .end .ensures) (c .before .before .before .before .before .before .before .end2 .ensures) (c .before .before .before .before .before .before .before .before .before .before .before .before .before .before .args .left) (c .before .before .before .before .if1 .taken) (c .before .before .before .before .before .before .before .before .before .before .before .before .before .before .pre .1 .1) (sym (NatL.add-zero (c .before .before .before .before .before .before .before .before .before .before .before .before .before .before .args .n))) (c .before .before .choose .ensures)
+raised-returns : (t : ℕ) → raised-lts.Need-returns (raised-callees t) (raised-at t) raised.Post
+raised-returns t c = let s0 = c .before .before .before .before .before .before .before .before .before .before .before .before .before .before in lays-last _ _ _ _ _ _ _ _ _ (c .before .before .before .before .before .before .before .before .before .before .before .end .ensures) (c .before .before .before .before .before .before .before .end2 .ensures) (s0 .args .left) (c .before .before .before .before .if1 .taken) (s0 .pre .1 .1) (sym (NatL.add-zero (s0 .args .n))) (c .before .before .choose .ensures)
 
-raised-sub-raised : (t : ℕ) → raised-lts.Need-sub-raised (
-  end-reads.Asked,
-  end-reads.Learnt,
-  choose-reads.Asked,
-  choose-reads.Learnt,
-  raised-below t,
-  raised.Post,
-) (raised-at t) raised.Post
+raised-sub-raised : (t : ℕ) → raised-lts.Need-sub-raised (raised-callees t) (raised-at t) raised.Post
 raised-sub-raised t c = search needs
 
-raised-mul-raised : (t : ℕ) → raised-lts.Need-mul-raised (
-  end-reads.Asked,
-  end-reads.Learnt,
-  choose-reads.Asked,
-  choose-reads.Learnt,
-  raised-below t,
-  raised.Post,
-) (raised-at t) raised.Post
+raised-mul-raised : (t : ℕ) → raised-lts.Need-mul-raised (raised-callees t) (raised-at t) raised.Post
 raised-mul-raised t c = search needs
 
-raised-add-raised : (t : ℕ) → raised-lts.Need-add-raised (
-  end-reads.Asked,
-  end-reads.Learnt,
-  choose-reads.Asked,
-  choose-reads.Learnt,
-  raised-below t,
-  raised.Post,
-) (raised-at t) raised.Post
+raised-add-raised : (t : ℕ) → raised-lts.Need-add-raised (raised-callees t) (raised-at t) raised.Post
 raised-add-raised t c = search needs
 
-raised-sub-raised-2 : (t : ℕ) → raised-lts.Need-sub-raised-2 (
-  end-reads.Asked,
-  end-reads.Learnt,
-  choose-reads.Asked,
-  choose-reads.Learnt,
-  raised-below t,
-  raised.Post,
-) (raised-at t) raised.Post
+raised-sub-raised-2 : (t : ℕ) → raised-lts.Need-sub-raised-2 (raised-callees t) (raised-at t) raised.Post
 raised-sub-raised-2 t c = search needs
 
-raised-raised-requires : (t : ℕ) → raised-lts.Need-raised-requires (
-  end-reads.Asked,
-  end-reads.Learnt,
-  choose-reads.Asked,
-  choose-reads.Learnt,
-  raised-below t,
-  raised.Post,
-) (raised-at t) raised.Post
-raised-raised-requires t c κs = let more = second-again (c .before .before .before .before .before .before .before .before .before .before .before .args .n) (c .before .before .before .before .before .before .before .before .before .before .before .args .paid) (c .before .before .before .before .before .before .before .before .before .before .before .args .left) (c .before .before .before .before .before .before .before .before .before .before .before .pre .1 .0 .4) (c .before .before .before .before .before .before .before .before .before .before .before .pre .1 .0 .5) (omega (arith, c .before .if1 .left)) in (omega (arith, c .before .before .before .before .before .before .before .before .before .before .before .pre .0, c .before .if1 .left), ((c .before .before .before .before .before .before .before .before .before .before .before .pre .1 .0 .0, c .before .before .before .before .before .before .before .before .before .before .before .pre .1 .0 .1, c .before .before .before .before .before .before .before .before .before .before .before .pre .1 .0 .2, other-seat (c .before .before .before .before .before .before .before .before .before .before .before .pre .1 .0 .3), more .0, more .1), again-room _ _ _ _ _ _ _ _ _ (c .before .before .before .before .before .before .before .before .end .ensures) (c .before .before .before .before .end2 .ensures) (c .before .before .before .before .before .before .before .before .before .before .before .args .left) (omega (arith, c .before .if1 .left)) (c .before .before .before .before .before .before .before .before .before .before .before .pre .1 .1)))
+raised-raised-requires : (t : ℕ) → raised-lts.Need-raised-requires (raised-callees t) (raised-at t) raised.Post
+raised-raised-requires t c κs = let s0 = c .before .before .before .before .before .before .before .before .before .before .before in let more = second-again (s0 .args .n) (s0 .args .paid) (s0 .args .left) (s0 .pre .1 .0 .4) (s0 .pre .1 .0 .5) (omega (arith, c .before .if1 .left)) in (omega (arith, s0 .pre .0, c .before .if1 .left), ((s0 .pre .1 .0 .0, s0 .pre .1 .0 .1, s0 .pre .1 .0 .2, other-seat (s0 .pre .1 .0 .3), more .0, more .1), again-room _ _ _ _ _ _ _ _ _ (c .before .before .before .before .before .before .before .before .end .ensures) (c .before .before .before .before .end2 .ensures) (s0 .args .left) (omega (arith, c .before .if1 .left)) (s0 .pre .1 .1)))
 
-raised-choose-requires-2 : (t : ℕ) → raised-lts.Need-choose-requires-2 (
-  end-reads.Asked,
-  end-reads.Learnt,
-  choose-reads.Asked,
-  choose-reads.Learnt,
-  raised-below t,
-  raised.Post,
-) (raised-at t) raised.Post
+raised-choose-requires-2 : (t : ℕ) → raised-lts.Need-choose-requires-2 (raised-callees t) (raised-at t) raised.Post
 unfolding IsLe
-raised-choose-requires-2 t c κs = ((c .before .before .before .before .before .before .before .before .before .before .before .before .before .before .before .pre .1 .0 .3, le-by-compare 4 4 tt, c .before .before .before .before .before .before .before .before .before .before .before .before .before .before .before .pre .1 .0 .0, c .before .before .before .before .before .before .before .before .before .before .before .before .before .before .before .pre .1 .0 .1, second-few (c .before .before .before .before .before .before .before .before .before .before .before .before .before .before .before .args .n) (c .before .before .before .before .before .before .before .before .before .before .before .before .before .before .before .args .paid) (c .before .before .before .before .before .before .before .before .before .before .before .before .before .before .before .args .left) (c .before .before .before .before .before .before .before .before .before .before .before .before .before .before .before .pre .1 .0 .4) (c .before .before .before .before .before .before .before .before .before .before .before .before .before .before .before .pre .1 .0 .5) .0), again-fits _ _ _ _ _ _ _ _ _ (c .before .before .before .before .before .before .before .before .before .before .before .before .end .ensures) (c .before .before .before .before .before .before .before .before .end2 .ensures) (c .before .before .before .before .before .before .before .before .before .before .before .before .before .before .before .args .left) (omega (arith, c .before .before .before .before .before .if1 .left)) (c .before .before .before .before .before .before .before .before .before .before .before .before .before .before .before .pre .1 .1) (c .before .before .before .raised .ensures))
+raised-choose-requires-2 t c κs = let s0 = c .before .before .before .before .before .before .before .before .before .before .before .before .before .before .before in ((s0 .pre .1 .0 .3, le-by-compare 4 4 tt, s0 .pre .1 .0 .0, s0 .pre .1 .0 .1, second-few (s0 .args .n) (s0 .args .paid) (s0 .args .left) (s0 .pre .1 .0 .4) (s0 .pre .1 .0 .5) .0), again-fits _ _ _ _ _ _ _ _ _ (c .before .before .before .before .before .before .before .before .before .before .before .before .end .ensures) (c .before .before .before .before .before .before .before .before .end2 .ensures) (s0 .args .left) (omega (arith, c .before .before .before .before .before .if1 .left)) (s0 .pre .1 .1) (c .before .before .before .raised .ensures))
 
-raised-same-length-2 : (t : ℕ) → raised-lts.Need-same-length-2 (
-  end-reads.Asked,
-  end-reads.Learnt,
-  choose-reads.Asked,
-  choose-reads.Learnt,
-  raised-below t,
-  raised.Post,
-) (raised-at t) raised.Post
+raised-same-length-2 : (t : ℕ) → raised-lts.Need-same-length-2 (raised-callees t) (raised-at t) raised.Post
 raised-same-length-2 t c = search needs
 
-raised-returns-2 : (t : ℕ) → raised-lts.Need-returns-2 (
-  end-reads.Asked,
-  end-reads.Learnt,
-  choose-reads.Asked,
-  choose-reads.Learnt,
-  raised-below t,
-  raised.Post,
-) (raised-at t) raised.Post
-raised-returns-2 t c = lays-again _ _ _ _ _ _ _ _ _ (c .before .before .before .before .before .before .before .before .before .before .before .before .before .before .before .end .ensures) (c .before .before .before .before .before .before .before .before .before .before .before .end2 .ensures) (c .before .before .before .before .before .before .before .before .before .before .before .before .before .before .before .before .before .before .args .left) (omega (arith, c .before .before .before .before .before .before .before .before .if1 .left)) (c .before .before .before .before .before .before .before .before .before .before .before .before .before .before .before .before .before .before .pre .1 .1) (c .before .before .before .before .before .before .raised .ensures) (sym (NatL.add-zero (c .before .before .before .before .before .before .before .before .before .before .before .before .before .before .before .before .before .before .args .n))) (c .before .before .choose2 .ensures)
+raised-returns-2 : (t : ℕ) → raised-lts.Need-returns-2 (raised-callees t) (raised-at t) raised.Post
+raised-returns-2 t c = let s0 = c .before .before .before .before .before .before .before .before .before .before .before .before .before .before .before .before .before .before in lays-again _ _ _ _ _ _ _ _ _ (c .before .before .before .before .before .before .before .before .before .before .before .before .before .before .before .end .ensures) (c .before .before .before .before .before .before .before .before .before .before .before .end2 .ensures) (s0 .args .left) (omega (arith, c .before .before .before .before .before .before .before .before .if1 .left)) (s0 .pre .1 .1) (c .before .before .before .before .before .before .raised .ensures) (sym (NatL.add-zero (s0 .args .n))) (c .before .before .choose2 .ensures)
 
 pub +raised-spec : {M : Type 1} → statement M
-+raised-spec = close μ-raised λ t. raised-lts.spec (
-  end-reads.Asked,
-  end-reads.Learnt,
-  choose-reads.Asked,
-  choose-reads.Learnt,
-  raised-below t,
-  raised.Post,
-)
-    (raised-at t)
++raised-spec = close μ-raised λ t. raised-lts.spec (raised-callees t) (raised-at t)
     raised.Post
     (raised-add-more t)
     (raised-add-end t)

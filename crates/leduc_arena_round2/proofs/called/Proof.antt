@@ -17,11 +17,11 @@ end-requires c κs = (c .before .before .pre .0 .2, NatL.le-trans (c .before .be
 
 raised-requires : tie.Need-raised-requires
 unfolding calledTree IsLe
-raised-requires c κs = ((c .before .before .before .before .before .before .pre .0 .0, c .before .before .before .before .before .before .pre .0 .1, c .before .before .before .before .before .before .pre .0 .2, le-by-compare 1 2 tt, le-by-compare 420 420 tt, start-few (c .before .before .before .before .before .before .pre .0 .3)), room-two _ _ _ _ _ (c .before .before .before .end .ensures) (c .before .before .before .before .before .before .pre .1))
+raised-requires c κs = let s0 = c .before .before .before .before .before .before in ((s0 .pre .0 .0, s0 .pre .0 .1, s0 .pre .0 .2, le-by-compare 1 2 tt, le-by-compare 420 420 tt, start-few (s0 .pre .0 .3)), room-two _ _ _ _ _ (c .before .before .before .end .ensures) (s0 .pre .1))
 
 choose-requires : tie.Need-choose-requires
 unfolding calledTree IsLe
-choose-requires c κs = ((le-by-compare 2 2 tt, le-by-compare 3 4 tt, c .before .before .before .before .before .before .before .before .before .before .pre .0 .0, c .before .before .before .before .before .before .before .before .before .before .pre .0 .1, le-by-compare 42 4656 tt), two-fit _ _ (c .before .before .before .before .before .before .before .end .ensures) (c .before .before .before .raised .ensures) (c .before .before .before .before .before .before .before .before .before .before .pre .1))
+choose-requires c κs = let s0 = c .before .before .before .before .before .before .before .before .before .before in ((le-by-compare 2 2 tt, le-by-compare 3 4 tt, s0 .pre .0 .0, s0 .pre .0 .1, le-by-compare 42 4656 tt), two-fit _ _ (c .before .before .before .before .before .before .before .end .ensures) (c .before .before .before .raised .ensures) (s0 .pre .1))
 
 same-length : tie.Need-same-length
 same-length c = search needs

@@ -23,7 +23,7 @@ same-length : tie.Need-same-length
 same-length c = search needs
 
 returns : tie.Need-returns
-returns c = c .before .before .list-moves .ensures .wrote ∙ ap (λ b. sets (c .before .before .before .before .before .before .args .out .now) 0 (nextRecords 10 start b)) (c .before .before .before .before .wide .ensures) ∙ ap (sets (c .before .before .before .before .before .before .args .out .now) 0) (sym from-start)
+returns c = let s0 = c .before .before .before .before .before .before in c .before .before .list-moves .ensures .wrote ∙ ap (λ b. sets (s0 .args .out .now) 0 (nextRecords 10 start b)) (c .before .before .before .before .wide .ensures) ∙ ap (sets (s0 .args .out .now) 0) (sym from-start)
 
 pub list-sets-spec : {M : Type 1} → statement M
 list-sets-spec = tie.close (tie.spec wide-requires list-moves-requires same-length returns)

@@ -58,7 +58,7 @@ cast-put-record-3 : tie.Need-cast-put-record-3
 cast-put-record-3 c = search needs
 
 put-record-requires : tie.Need-put-record-requires
-put-record-requires c κs = omega (arith, c .before .before .before .before .before .before .before .before .before .before .before .before .before .before .pre .1, node-length (placed (c .before .before .before .before .before .before .before .before .before .before .before .before .before .before .args .s)) (sym (c .before .before .before .before .before .before .before .before .before .before .before .before .seat-acts .ensures) ∙ not-false _ (c .before .before .before .before .before .before .before .before .before .before .before .if1 .left)) (sym (c .before .before .before .before .before .before .before .before .before .is-first .ensures) ∙ not-false _ (c .before .before .before .before .before .before .before .before .if2 .left)))
+put-record-requires c κs = let s0 = c .before .before .before .before .before .before .before .before .before .before .before .before .before .before in omega (arith, s0 .pre .1, node-length (placed (s0 .args .s)) (sym (c .before .before .before .before .before .before .before .before .before .before .before .before .seat-acts .ensures) ∙ not-false _ (c .before .before .before .before .before .before .before .before .before .before .before .if1 .left)) (sym (c .before .before .before .before .before .before .before .before .before .is-first .ensures) ∙ not-false _ (c .before .before .before .before .before .before .before .before .if2 .left)))
 
 add-result : tie.Need-add-result
 add-result c = search needs

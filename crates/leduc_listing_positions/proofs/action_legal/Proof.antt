@@ -34,7 +34,7 @@ is-legal-requires c κs = search needs
 
 returns : tie.Need-returns
 unfolding in-play
-returns c = c .is-legal .ensures ∙ ap (λ b. may (cond b (placed (c .before .before .before .before .before .before .before .args .s) .second) (placed (c .before .before .before .before .before .before .before .args .s) .first)) (c .before .before .before .before .before .before .before .args .a)) (sym (sym (c .before .before .before .before .round-over .ensures) ∙ c .before .before .before .if1 .taken))
+returns c = let s0 = c .before .before .before .before .before .before .before in c .is-legal .ensures ∙ ap (λ b. may (cond b (placed (s0 .args .s) .second) (placed (s0 .args .s) .first)) (s0 .args .a)) (sym (sym (c .before .before .before .before .round-over .ensures) ∙ c .before .before .before .if1 .taken))
 
 array-share-prefix-first-2 : tie.Need-array-share-prefix-first-2
 array-share-prefix-first-2 c =
@@ -49,7 +49,7 @@ is-legal-requires-2 c κs = search needs
 
 returns-2 : tie.Need-returns-2
 unfolding in-play
-returns-2 c = c .is-legal2 .ensures ∙ ap (λ b. may (cond b (placed (c .before .before .before .before .before .before .args .s) .second) (placed (c .before .before .before .before .before .before .args .s) .first)) (c .before .before .before .before .before .before .args .a)) (sym (sym (c .before .before .before .round-over .ensures) ∙ c .before .before .if1 .left))
+returns-2 c = let s0 = c .before .before .before .before .before .before in c .is-legal2 .ensures ∙ ap (λ b. may (cond b (placed (s0 .args .s) .second) (placed (s0 .args .s) .first)) (s0 .args .a)) (sym (sym (c .before .before .before .round-over .ensures) ∙ c .before .before .if1 .left))
 
 pub action-legal-spec : {M : Type 1} → statement M
 action-legal-spec =

@@ -35,7 +35,7 @@ contains-requires c κs = search needs
 
 returns-2 : tie.Need-returns-2
 unfolding left
-returns-2 c = ap not (c .contains .ensures ∙ ap (has (c .before .before .before .before .before .before .before .args .c)) (c .before .before .before .all-seen .ensures .1)) ∙ sym (and-rest _ (lt-ltb (c .before .before .before .before .before .before .before .args .c) 6 (omega (arith, c .before .before .before .before .before .before .wide .ensures, c .before .before .before .before .before .if1 .left))))
+returns-2 c = let s0 = c .before .before .before .before .before .before .before in ap not (c .contains .ensures ∙ ap (has (s0 .args .c)) (c .before .before .before .all-seen .ensures .1)) ∙ sym (and-rest _ (lt-ltb (s0 .args .c) 6 (omega (arith, c .before .before .before .before .before .before .wide .ensures, c .before .before .before .before .before .if1 .left))))
 
 pub card-left-spec : {M : Type 1} → statement M
 card-left-spec =

@@ -41,7 +41,7 @@ nth-remaining-requires c κs = search needs
 
 returns : tie.Need-returns
 unfolding isFirst
-returns c = first-by-lowest (c .before .before .before .before .before .before .args .s .cards) _ (c .before .before .before .before .before .before .args .s .public) (c .before .before .before .before .before .before .args .seat) _ _ (c .before .before .before .before .before .before .pre .2) (c .before .before .before .before .all-seen .ensures .1) (c .before .before .wide .ensures) (c .nth-remaining .ensures)
+returns c = let s0 = c .before .before .before .before .before .before in first-by-lowest (s0 .args .s .cards) _ (s0 .args .s .public) (s0 .args .seat) _ _ (s0 .pre .2) (c .before .before .before .before .all-seen .ensures .1) (c .before .before .wide .ensures) (c .nth-remaining .ensures)
     ∙ ap₂ (λ n j. eqb (getD (take n (c .before .before .before .before .before .before .args .s .cards)) (1 - j) 0) (getD (remaining (seen (getD (take n (c .before .before .before .before .before .before .args .s .cards)) j 0 ∷ []) (c .before .before .before .before .before .before .args .s .public))) 0 0)) (sym (c .before .before .before .before .before .before .pre .0)) (c .before .before .before .before .before .before .pre .1)
 
 pub is-first-spec : {M : Type 1} → statement M

@@ -41,7 +41,7 @@ seat-zero-first-requires c κs = search needs
 
 returns : tie.Need-returns Inv-loop μ-loop
 unfolding after-round
-returns c = c .seat-zero-first .ensures ∙ ap (seated (length (c .before .before .before .before .args .h .now))) (sym (bet-end (c .before .before .before .before .args .size) (c .before .before .loop .acting) (c .before .before .loop .other) (c .before .before .before .before .args .h .now) (c .before .before .loop .i) (omega arith)) ∙ c .before .before .loop .inv .3)
+returns c = let s0 = c .before .before .before .before in c .seat-zero-first .ensures ∙ ap (seated (length (s0 .args .h .now))) (sym (bet-end (s0 .args .size) (c .before .before .loop .acting) (c .before .before .loop .other) (s0 .args .h .now) (c .before .before .loop .i) (omega arith)) ∙ c .before .before .loop .inv .3)
 
 pub round-pot-spec : {M : Type 1} → statement M
 round-pot-spec =

@@ -11,16 +11,16 @@ refusal-of-requires : tie.Need-refusal-of-requires
 refusal-of-requires c κs = search needs
 
 returns : tie.Need-returns
-returns c = (not-listed _ _ (gameOf (c .before .before .before .before .args .number) (c .before .before .before .before .args .seats)) (c .before .refusal-of .ensures) (c .if1 .taken), not-written _ (gameOf (c .before .before .before .before .args .number) (c .before .before .before .before .args .seats)) (c .before .before .before .before .args .out .now) (c .if1 .taken))
+returns c = let s0 = c .before .before .before .before in (not-listed _ _ (gameOf (s0 .args .number) (s0 .args .seats)) (c .before .refusal-of .ensures) (c .if1 .taken), not-written _ (gameOf (s0 .args .number) (s0 .args .seats)) (s0 .args .out .now) (c .if1 .taken))
 
 write-listing-requires : tie.Need-write-listing-requires
-write-listing-requires c κs = (tree-accepted (gameOf (c .before .before .before .before .before .args .number) (c .before .before .before .before .before .args .seats)) (length (c .before .before .before .before .before .args .work .now)) (length (c .before .before .before .before .before .args .out .now)) (sym (c .before .before .refusal-of .ensures) ∙ c .before .if1 .left), room-accepted (gameOf (c .before .before .before .before .before .args .number) (c .before .before .before .before .before .args .seats)) (length (c .before .before .before .before .before .args .work .now)) (length (c .before .before .before .before .before .args .out .now)) (sym (c .before .before .refusal-of .ensures) ∙ c .before .if1 .left))
+write-listing-requires c κs = let s0 = c .before .before .before .before .before in (tree-accepted (gameOf (s0 .args .number) (s0 .args .seats)) (length (s0 .args .work .now)) (length (s0 .args .out .now)) (sym (c .before .before .refusal-of .ensures) ∙ c .before .if1 .left), room-accepted (gameOf (s0 .args .number) (s0 .args .seats)) (length (s0 .args .work .now)) (length (s0 .args .out .now)) (sym (c .before .before .refusal-of .ensures) ∙ c .before .if1 .left))
 
 nodes-requires : tie.Need-nodes-requires
-nodes-requires c κs = seats-in (gameOf (c .before .before .before .before .before .before .before .before .args .number) (c .before .before .before .before .before .before .before .before .args .seats)) (length (c .before .before .before .before .before .before .before .before .args .work .now)) (tree-accepted (gameOf (c .before .before .before .before .before .before .before .before .args .number) (c .before .before .before .before .before .before .before .before .args .seats)) (length (c .before .before .before .before .before .before .before .before .args .work .now)) (length (c .before .before .before .before .before .before .before .before .args .out .now)) (sym (c .before .before .before .before .before .refusal-of .ensures) ∙ c .before .before .before .before .if1 .left))
+nodes-requires c κs = let s0 = c .before .before .before .before .before .before .before .before in seats-in (gameOf (s0 .args .number) (s0 .args .seats)) (length (s0 .args .work .now)) (tree-accepted (gameOf (s0 .args .number) (s0 .args .seats)) (length (s0 .args .work .now)) (length (s0 .args .out .now)) (sym (c .before .before .before .before .before .refusal-of .ensures) ∙ c .before .before .before .before .if1 .left))
 
 sets-requires : tie.Need-sets-requires
-sets-requires c κs = seats-in (gameOf (c .before .before .before .before .before .before .before .before .before .args .number) (c .before .before .before .before .before .before .before .before .before .args .seats)) (length (c .before .before .before .before .before .before .before .before .before .args .work .now)) (tree-accepted (gameOf (c .before .before .before .before .before .before .before .before .before .args .number) (c .before .before .before .before .before .before .before .before .before .args .seats)) (length (c .before .before .before .before .before .before .before .before .before .args .work .now)) (length (c .before .before .before .before .before .before .before .before .before .args .out .now)) (sym (c .before .before .before .before .before .before .refusal-of .ensures) ∙ c .before .before .before .before .before .if1 .left))
+sets-requires c κs = let s0 = c .before .before .before .before .before .before .before .before .before in seats-in (gameOf (s0 .args .number) (s0 .args .seats)) (length (s0 .args .work .now)) (tree-accepted (gameOf (s0 .args .number) (s0 .args .seats)) (length (s0 .args .work .now)) (length (s0 .args .out .now)) (sym (c .before .before .before .before .before .before .refusal-of .ensures) ∙ c .before .before .before .before .before .if1 .left))
 
 same-length : tie.Need-same-length
 same-length c = search needs

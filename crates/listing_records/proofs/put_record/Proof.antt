@@ -30,7 +30,7 @@ add-out-2 : tie.Need-add-out-2
 add-out-2 c = search needs
 
 slice-write-out-3 : tie.Need-slice-write-out-3
-slice-write-out-3 c = omega (arith, c .before .before .copy-at .kept .0, length-two (c .before .before .before .before .before .before .args .out .now) (c .before .before .before .before .before .before .args .at) (c .before .before .before .before .before .before .args .seat) (c .before .before .before .before .before .before .args .at + 1) (c .before .before .before .before .before .before .args .count))
+slice-write-out-3 c = let s0 = c .before .before .before .before .before .before in omega (arith, c .before .before .copy-at .kept .0, length-two (s0 .args .out .now) (s0 .args .at) (s0 .args .seat) (s0 .args .at + 1) (s0 .args .count))
 
 add-copy-at-2 : tie.Need-add-copy-at-2
 add-copy-at-2 c = search needs
@@ -48,16 +48,16 @@ add-out-3 : tie.Need-add-out-3
 add-out-3 c = search needs
 
 slice-write-out-4 : tie.Need-slice-write-out-4
-slice-write-out-4 c = omega (arith, c .before .before .copy-at2 .kept .0, length-set (c .before .before .before .before .before .before .before .copy-at .last .0) (c .before .before .before .before .before .before .before .before .before .before .before .args .at + 15) (c .before .before .before .before .before .before .before .before .before .before .before .args .public), c .before .before .before .before .before .before .before .copy-at .kept .0, length-two (c .before .before .before .before .before .before .before .before .before .before .before .args .out .now) (c .before .before .before .before .before .before .before .before .before .before .before .args .at) (c .before .before .before .before .before .before .before .before .before .before .before .args .seat) (c .before .before .before .before .before .before .before .before .before .before .before .args .at + 1) (c .before .before .before .before .before .before .before .before .before .before .before .args .count))
+slice-write-out-4 c = let s0 = c .before .before .before .before .before .before .before .before .before .before .before in let s1 = c .before .before .before .before .before .before .before in omega (arith, c .before .before .copy-at2 .kept .0, length-set (s1 .copy-at .last .0) (s0 .args .at + 15) (s0 .args .public), s1 .copy-at .kept .0, length-two (s0 .args .out .now) (s0 .args .at) (s0 .args .seat) (s0 .args .at + 1) (s0 .args .count))
 
 add-out-4 : tie.Need-add-out-4
 add-out-4 c = search needs
 
 slice-write-out-5 : tie.Need-slice-write-out-5
-slice-write-out-5 c = omega (arith, length-set (c .before .before .copy-at2 .last .0) (c .before .before .before .before .before .before .before .before .before .before .before .args .at + 22) (c .before .before .before .before .before .before .before .before .before .before .before .args .legal), c .before .before .copy-at2 .kept .0, length-set (c .before .before .before .before .before .before .before .copy-at .last .0) (c .before .before .before .before .before .before .before .before .before .before .before .args .at + 15) (c .before .before .before .before .before .before .before .before .before .before .before .args .public), c .before .before .before .before .before .before .before .copy-at .kept .0, length-two (c .before .before .before .before .before .before .before .before .before .before .before .args .out .now) (c .before .before .before .before .before .before .before .before .before .before .before .args .at) (c .before .before .before .before .before .before .before .before .before .before .before .args .seat) (c .before .before .before .before .before .before .before .before .before .before .before .args .at + 1) (c .before .before .before .before .before .before .before .before .before .before .before .args .count))
+slice-write-out-5 c = let s0 = c .before .before .before .before .before .before .before .before .before .before .before in let s1 = c .before .before .before .before .before .before .before in omega (arith, length-set (c .before .before .copy-at2 .last .0) (s0 .args .at + 22) (s0 .args .legal), c .before .before .copy-at2 .kept .0, length-set (s1 .copy-at .last .0) (s0 .args .at + 15) (s0 .args .public), s1 .copy-at .kept .0, length-two (s0 .args .out .now) (s0 .args .at) (s0 .args .seat) (s0 .args .at + 1) (s0 .args .count))
 
 same-length : tie.Need-same-length
-same-length c = length-two (c .before .before .copy-at2 .last .0) (c .before .before .before .before .before .before .before .before .before .before .before .args .at + 22) (c .before .before .before .before .before .before .before .before .before .before .before .args .legal) (c .before .before .before .before .before .before .before .before .before .before .before .args .at + 23) 0 ∙ c .before .before .copy-at2 .kept .0 ∙ length-set (c .before .before .before .before .before .before .before .copy-at .last .0) (c .before .before .before .before .before .before .before .before .before .before .before .args .at + 15) (c .before .before .before .before .before .before .before .before .before .before .before .args .public) ∙ c .before .before .before .before .before .before .before .copy-at .kept .0 ∙ length-two (c .before .before .before .before .before .before .before .before .before .before .before .args .out .now) (c .before .before .before .before .before .before .before .before .before .before .before .args .at) (c .before .before .before .before .before .before .before .before .before .before .before .args .seat) (c .before .before .before .before .before .before .before .before .before .before .before .args .at + 1) (c .before .before .before .before .before .before .before .before .before .before .before .args .count)
+same-length c = let s0 = c .before .before .before .before .before .before .before .before .before .before .before in let s1 = c .before .before .before .before .before .before .before in length-two (c .before .before .copy-at2 .last .0) (s0 .args .at + 22) (s0 .args .legal) (s0 .args .at + 23) 0 ∙ c .before .before .copy-at2 .kept .0 ∙ length-set (s1 .copy-at .last .0) (s0 .args .at + 15) (s0 .args .public) ∙ s1 .copy-at .kept .0 ∙ length-two (s0 .args .out .now) (s0 .args .at) (s0 .args .seat) (s0 .args .at + 1) (s0 .args .count)
 
 returns : tie.Need-returns
 returns c = record-stored (c .before .before .before .before .before .before .before .before .before .before .before .args .out .now) (c .before .before .before .before .before .before .before .before .before .before .before .args .t5) (c .before .before .before .before .before .before .before .before .before .before .before .args .t7) (c .before .before .before .before .before .before .before .before .before .before .before .args .at) (c .before .before .before .before .before .before .before .before .before .before .before .args .seat) (c .before .before .before .before .before .before .before .before .before .before .before .args .count) (c .before .before .before .before .before .before .before .before .before .before .before .args .public) (c .before .before .before .before .before .before .before .before .before .before .before .args .legal) (search needs) (search needs) (search needs) _ _ (c .before .before .before .before .before .before .before .copy-at .ensures) (c .before .before .copy-at2 .ensures)

@@ -16,7 +16,7 @@ rest-refusal-requires : tie.Need-rest-refusal-requires
 rest-refusal-requires c κs = tree-known (c .before .before .args .g) (c .before .before .args .words) (sym (c .before .tree-refusal .ensures) ∙ c .if1 .left) .1
 
 returns-2 : tie.Need-returns-2
-returns-2 c = c .rest-refusal .ensures ∙ sym (tree-passed (c .before .before .before .args .g) (c .before .before .before .args .words) _ (sym (c .before .before .tree-refusal .ensures) ∙ c .before .if1 .left))
+returns-2 c = let s0 = c .before .before .before in c .rest-refusal .ensures ∙ sym (tree-passed (s0 .args .g) (s0 .args .words) _ (sym (c .before .before .tree-refusal .ensures) ∙ c .before .if1 .left))
 
 pub refusal-of-spec : {M : Type 1} → statement M
 refusal-of-spec =

@@ -11,7 +11,7 @@ enum-known-asked : tie.Need-enum-known-asked
 enum-known-asked c = search needs
 
 returns : tie.Need-returns
-returns c = seat-refused (c .before .before .before .before .before .args .g) (c .before .before .before .asked .given .0 .0) (entry-checks (c .before .before .before .before .before .args .g) (c .before .before .before .before .before .args .entries)) (c .if1 .taken) ∙ ap (λ a. first (restOf a (c .before .before .before .before .before .args .g) (c .before .before .before .before .before .args .entries))) (sym (c .before .before .before .asked .given .1))
+returns c = let s0 = c .before .before .before .before .before in let s1 = c .before .before .before in seat-refused (s0 .args .g) (s1 .asked .given .0 .0) (entry-checks (s0 .args .g) (s0 .args .entries)) (c .if1 .taken) ∙ ap (λ a. first (restOf a (s0 .args .g) (s0 .args .entries))) (sym (s1 .asked .given .1))
 
 entries-refusal-requires : tie.Need-entries-refusal-requires
 entries-refusal-requires c κs = c .before .before .before .before .before .pre
@@ -41,19 +41,19 @@ entries-refusal-requires-5 : tie.Need-entries-refusal-requires-5
 entries-refusal-requires-5 c κs = c .before .before .pre
 
 returns-2 : tie.Need-returns-2
-returns-2 c = c .entries-refusal .ensures ∙ seat-passed (c .before .before .before .before .before .before .args .g) (c .before .before .before .before .asked .given .0 .0) (entry-checks (c .before .before .before .before .before .before .args .g) (c .before .before .before .before .before .before .args .entries)) (c .before .if1 .left) ∙ ap (λ a. first (restOf a (c .before .before .before .before .before .before .args .g) (c .before .before .before .before .before .before .args .entries))) (sym (c .before .before .before .before .asked .given .1))
+returns-2 c = let s0 = c .before .before .before .before .before .before in let s1 = c .before .before .before .before in c .entries-refusal .ensures ∙ seat-passed (s0 .args .g) (s1 .asked .given .0 .0) (entry-checks (s0 .args .g) (s0 .args .entries)) (c .before .if1 .left) ∙ ap (λ a. first (restOf a (s0 .args .g) (s0 .args .entries))) (sym (s1 .asked .given .1))
 
 returns-3 : tie.Need-returns-3
-returns-3 c = (c .entries-refusal2 .ensures ∙ ap (λ a. first (restOf a (c .before .before .before .args .g) (c .before .before .before .args .entries))) (sym (c .before .enum-told .given .1)))
+returns-3 c = let s0 = c .before .before .before in (c .entries-refusal2 .ensures ∙ ap (λ a. first (restOf a (s0 .args .g) (s0 .args .entries))) (sym (c .before .enum-told .given .1)))
 
 returns-4 : tie.Need-returns-4
-returns-4 c = (c .entries-refusal3 .ensures ∙ ap (λ a. first (restOf a (c .before .before .before .args .g) (c .before .before .before .args .entries))) (sym (c .before .enum-told2 .given .1)))
+returns-4 c = let s0 = c .before .before .before in (c .entries-refusal3 .ensures ∙ ap (λ a. first (restOf a (s0 .args .g) (s0 .args .entries))) (sym (c .before .enum-told2 .given .1)))
 
 returns-5 : tie.Need-returns-5
-returns-5 c = (c .entries-refusal4 .ensures ∙ ap (λ a. first (restOf a (c .before .before .before .args .g) (c .before .before .before .args .entries))) (sym (c .before .enum-told3 .given .1)))
+returns-5 c = let s0 = c .before .before .before in (c .entries-refusal4 .ensures ∙ ap (λ a. first (restOf a (s0 .args .g) (s0 .args .entries))) (sym (c .before .enum-told3 .given .1)))
 
 returns-6 : tie.Need-returns-6
-returns-6 c = (c .entries-refusal5 .ensures ∙ ap (λ a. first (restOf a (c .before .before .before .args .g) (c .before .before .before .args .entries))) (sym (c .before .enum-told4 .given .1)))
+returns-6 c = let s0 = c .before .before .before in (c .entries-refusal5 .ensures ∙ ap (λ a. first (restOf a (s0 .args .g) (s0 .args .entries))) (sym (c .before .enum-told4 .given .1)))
 
 pub rest-refusal-spec : {M : Type 1} → statement M
 rest-refusal-spec =

@@ -28,7 +28,7 @@ actions-requires : tie.Need-actions-requires Inv-loop μ-loop
 actions-requires c κs = omega (arith, c .before .before .sets .ensures)
 
 add-end : tie.Need-add-end Inv-loop μ-loop
-add-end c = omega (arith, part-inside (c .before .before .before .before .before .args .g) (c .before .before .before .before .before .args .table .now) (c .before .before .loop .set) (c .before .before .loop .at) (c .actions .result) (c .before .before .before .before .before .pre .1) (omega (arith, c .before .before .before .sets .ensures)) (c .before .before .loop .inv .1) (c .actions .ensures .0))
+add-end c = let s0 = c .before .before .before .before .before in omega (arith, part-inside (s0 .args .g) (s0 .args .table .now) (c .before .before .loop .set) (c .before .before .loop .at) (c .actions .result) (s0 .pre .1) (omega (arith, c .before .before .before .sets .ensures)) (c .before .before .loop .inv .1) (c .actions .ensures .0))
 
 sub-part-sum : tie.Need-sub-part-sum Inv-loop μ-loop
 sub-part-sum c = omega arith
@@ -37,13 +37,13 @@ part-part-sum-start : tie.Need-part-part-sum-start Inv-loop μ-loop
 part-part-sum-start c = omega arith
 
 part-part-sum-end : tie.Need-part-part-sum-end Inv-loop μ-loop
-part-part-sum-end c = part-inside (c .before .before .before .before .before .args .g) (c .before .before .before .before .before .args .table .now) (c .before .before .loop .set) (c .before .before .loop .at) (c .actions .result) (c .before .before .before .before .before .pre .1) (omega (arith, c .before .before .before .sets .ensures)) (c .before .before .loop .inv .1) (c .actions .ensures .0)
+part-part-sum-end c = let s0 = c .before .before .before .before .before in part-inside (s0 .args .g) (s0 .args .table .now) (c .before .before .loop .set) (c .before .before .loop .at) (c .actions .result) (s0 .pre .1) (omega (arith, c .before .before .before .sets .ensures)) (c .before .before .loop .inv .1) (c .actions .ensures .0)
 
 part-sum-requires : tie.Need-part-sum-requires Inv-loop μ-loop
-part-sum-requires c κs = part-few (c .before .before .before .before .before .before .args .g) (c .before .before .before .before .before .before .args .table .now) (c .before .before .before .loop .set) (c .before .before .before .loop .at) (c .before .actions .result) (c .before .before .before .before .before .before .pre .1) (omega (arith, c .before .before .before .before .sets .ensures)) (c .before .before .before .loop .inv .1) (c .before .actions .ensures .0) (c .before .actions .ensures .1)
+part-sum-requires c κs = let s0 = c .before .before .before .before .before .before in let s1 = c .before .before .before in part-few (s0 .args .g) (s0 .args .table .now) (s1 .loop .set) (s1 .loop .at) (c .before .actions .result) (s0 .pre .1) (omega (arith, c .before .before .before .before .sets .ensures)) (s1 .loop .inv .1) (c .before .actions .ensures .0) (c .before .actions .ensures .1)
 
 returns : tie.Need-returns Inv-loop μ-loop
-returns c = sum-differs (c .before .before .before .before .before .before .before .before .args .g) (c .before .before .before .before .before .before .before .before .args .table .now) (c .before .before .before .before .before .loop .set) (c .before .before .before .before .before .loop .at) (c .before .before .before .actions .result) (c .before .before .before .before .before .before .before .before .pre .1) (omega (arith, c .before .before .before .before .before .before .sets .ensures)) (c .before .before .before .before .before .loop .inv .1) (c .before .before .before .actions .ensures .0) _ _ (c .before .before .before .before .before .loop .inv .2) (c .before .part-sum .ensures) (c .if1 .taken)
+returns c = let s0 = c .before .before .before .before .before .before .before .before in let s1 = c .before .before .before .before .before in let s2 = c .before .before .before in sum-differs (s0 .args .g) (s0 .args .table .now) (s1 .loop .set) (s1 .loop .at) (s2 .actions .result) (s0 .pre .1) (omega (arith, c .before .before .before .before .before .before .sets .ensures)) (s1 .loop .inv .1) (s2 .actions .ensures .0) _ _ (s1 .loop .inv .2) (c .before .part-sum .ensures) (c .if1 .taken)
 
 add-set : tie.Need-add-set Inv-loop μ-loop
 add-set c = omega arith
@@ -59,7 +59,7 @@ loop-again c = (
 )
 
 returns-2 : tie.Need-returns-2 Inv-loop μ-loop
-returns-2 c = sym (c .before .loop .inv .2 ∙ rest-none (c .before .before .before .before .args .d) (actionsOf (c .before .before .before .before .args .g)) (c .before .before .before .before .args .table .now) (c .before .loop .set) (rw (actions-counted (c .before .before .before .before .args .g)) (omega (arith, c .before .before .sets .ensures))))
+returns-2 c = let s0 = c .before .before .before .before in sym (c .before .loop .inv .2 ∙ rest-none (s0 .args .d) (actionsOf (s0 .args .g)) (s0 .args .table .now) (c .before .loop .set) (rw (actions-counted (s0 .args .g)) (omega (arith, c .before .before .sets .ensures))))
 
 pub adds-up-spec : {M : Type 1} → statement M
 adds-up-spec =

@@ -18,16 +18,16 @@ entries-requires : tie.Need-entries-requires
 entries-requires c κs = c .before .before .before .pre .1
 
 returns-2 : tie.Need-returns-2
-returns-2 c = wrong-length (c .before .before .before .before .before .args .g) (c .before .before .before .before .before .args .d) (c .before .before .before .before .before .args .table .now) (c .before .before .before .before .before .pre .1) (sym (c .before .before .before .parts-outside .ensures) ∙ c .before .before .if1 .left) _ (c .before .entries .ensures) (c .if2 .taken)
+returns-2 c = let s0 = c .before .before .before .before .before in wrong-length (s0 .args .g) (s0 .args .d) (s0 .args .table .now) (s0 .pre .1) (sym (c .before .before .before .parts-outside .ensures) ∙ c .before .before .if1 .left) _ (c .before .entries .ensures) (c .if2 .taken)
 
 adds-up-requires : tie.Need-adds-up-requires
 adds-up-requires c κs = (c .before .before .before .before .before .pre .1, c .if2 .left ∙ c .before .entries .ensures)
 
 returns-3 : tie.Need-returns-3
-returns-3 c = wrong-sum (c .before .before .before .before .before .before .before .args .g) (c .before .before .before .before .before .before .before .args .d) (c .before .before .before .before .before .before .before .args .table .now) (c .before .before .before .before .before .before .before .pre .1) (sym (c .before .before .before .before .before .parts-outside .ensures) ∙ c .before .before .before .before .if1 .left) _ (c .before .before .before .entries .ensures) (c .before .before .if2 .left) (sym (c .before .adds-up .ensures) ∙ not-true _ (c .if3 .taken))
+returns-3 c = let s0 = c .before .before .before .before .before .before .before in wrong-sum (s0 .args .g) (s0 .args .d) (s0 .args .table .now) (s0 .pre .1) (sym (c .before .before .before .before .before .parts-outside .ensures) ∙ c .before .before .before .before .if1 .left) _ (c .before .before .before .entries .ensures) (c .before .before .if2 .left) (sym (c .before .adds-up .ensures) ∙ not-true _ (c .if3 .taken))
 
 returns-4 : tie.Need-returns-4
-returns-4 c = right-sum (c .before .before .before .before .before .before .before .args .g) (c .before .before .before .before .before .before .before .args .d) (c .before .before .before .before .before .before .before .args .table .now) (c .before .before .before .before .before .before .before .pre .1) (sym (c .before .before .before .before .before .parts-outside .ensures) ∙ c .before .before .before .before .if1 .left) _ (c .before .before .before .entries .ensures) (c .before .before .if2 .left) (sym (c .before .adds-up .ensures) ∙ not-false _ (c .if3 .left))
+returns-4 c = let s0 = c .before .before .before .before .before .before .before in right-sum (s0 .args .g) (s0 .args .d) (s0 .args .table .now) (s0 .pre .1) (sym (c .before .before .before .before .before .parts-outside .ensures) ∙ c .before .before .before .before .if1 .left) _ (c .before .before .before .entries .ensures) (c .before .before .if2 .left) (sym (c .before .adds-up .ensures) ∙ not-false _ (c .if3 .left))
 
 pub table-refusal-spec : {M : Type 1} → statement M
 table-refusal-spec =

@@ -27,18 +27,18 @@ nodes-requires c κs = sym (c .before .seats-outside .ensures) ∙ c .if2 .left
 
 returns-3 : tie.Need-returns-3
 unfolding tree-checks
-returns-3 c = rw (le-ltb _ _ (c .before .before .before .before .if1 .left), sym (c .before .before .before .seats-outside .ensures) ∙ c .before .before .if2 .left, lt-ltb 4000000 (size (treeOf (c .before .before .before .before .before .before .args .g))) (omega (arith, nodes-are (c .before .before .before .before .before .before .args .g) (sym (c .before .before .before .seats-outside .ensures) ∙ c .before .before .if2 .left), c .before .nodes .ensures)))
+returns-3 c = let s0 = c .before .before .before .before .before .before in let s1 = c .before .before .before in rw (le-ltb _ _ (c .before .before .before .before .if1 .left), sym (s1 .seats-outside .ensures) ∙ c .before .before .if2 .left, lt-ltb 4000000 (size (treeOf (s0 .args .g))) (omega (arith, nodes-are (s0 .args .g) (sym (s1 .seats-outside .ensures) ∙ c .before .before .if2 .left), c .before .nodes .ensures)))
 
 mul-if4 : tie.Need-mul-if4
 mul-if4 c = omega (arith, c .before .nodes .ensures)
 
 returns-4 : tie.Need-returns-4
 unfolding tree-checks
-returns-4 c = rw (le-ltb _ _ (c .before .before .before .before .before .if1 .left), sym (c .before .before .before .before .seats-outside .ensures) ∙ c .before .before .before .if2 .left, le-ltb 4000000 (size (treeOf (c .before .before .before .before .before .before .before .args .g))) (omega (arith, nodes-are (c .before .before .before .before .before .before .before .args .g) (sym (c .before .before .before .before .seats-outside .ensures) ∙ c .before .before .before .if2 .left), c .before .before .nodes .ensures)), lt-ltb (c .before .before .before .before .before .before .before .args .words) (12 * size (treeOf (c .before .before .before .before .before .before .before .args .g))) (omega (arith, nodes-are (c .before .before .before .before .before .before .before .args .g) (sym (c .before .before .before .before .seats-outside .ensures) ∙ c .before .before .before .if2 .left), c .before .before .nodes .ensures)))
+returns-4 c = let s0 = c .before .before .before .before .before .before .before in let s1 = c .before .before .before .before in let s2 = c .before .before .before in rw (le-ltb _ _ (c .before .before .before .before .before .if1 .left), sym (s1 .seats-outside .ensures) ∙ s2 .if2 .left, le-ltb 4000000 (size (treeOf (s0 .args .g))) (omega (arith, nodes-are (s0 .args .g) (sym (s1 .seats-outside .ensures) ∙ s2 .if2 .left), c .before .before .nodes .ensures)), lt-ltb (s0 .args .words) (12 * size (treeOf (s0 .args .g))) (omega (arith, nodes-are (s0 .args .g) (sym (s1 .seats-outside .ensures) ∙ s2 .if2 .left), c .before .before .nodes .ensures)))
 
 returns-5 : tie.Need-returns-5
 unfolding tree-checks
-returns-5 c = rw (le-ltb _ _ (c .before .before .before .before .before .if1 .left), sym (c .before .before .before .before .seats-outside .ensures) ∙ c .before .before .before .if2 .left, le-ltb 4000000 (size (treeOf (c .before .before .before .before .before .before .before .args .g))) (omega (arith, nodes-are (c .before .before .before .before .before .before .before .args .g) (sym (c .before .before .before .before .seats-outside .ensures) ∙ c .before .before .before .if2 .left), c .before .before .nodes .ensures)), le-ltb (c .before .before .before .before .before .before .before .args .words) (12 * size (treeOf (c .before .before .before .before .before .before .before .args .g))) (omega (arith, nodes-are (c .before .before .before .before .before .before .before .args .g) (sym (c .before .before .before .before .seats-outside .ensures) ∙ c .before .before .before .if2 .left), c .before .before .nodes .ensures)))
+returns-5 c = let s0 = c .before .before .before .before .before .before .before in let s1 = c .before .before .before .before in let s2 = c .before .before .before in rw (le-ltb _ _ (c .before .before .before .before .before .if1 .left), sym (s1 .seats-outside .ensures) ∙ s2 .if2 .left, le-ltb 4000000 (size (treeOf (s0 .args .g))) (omega (arith, nodes-are (s0 .args .g) (sym (s1 .seats-outside .ensures) ∙ s2 .if2 .left), c .before .before .nodes .ensures)), le-ltb (s0 .args .words) (12 * size (treeOf (s0 .args .g))) (omega (arith, nodes-are (s0 .args .g) (sym (s1 .seats-outside .ensures) ∙ s2 .if2 .left), c .before .before .nodes .ensures)))
 
 pub tree-refusal-spec : {M : Type 1} → statement M
 tree-refusal-spec =

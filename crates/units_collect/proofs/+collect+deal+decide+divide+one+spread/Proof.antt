@@ -95,544 +95,137 @@ spread-at t = and 2 spread-kinds.ps (is 2 spread-kinds.ps μ-spread t) spread.Pr
 abbrev spread-below : ℕ → In 2 spread-kinds.ps
 spread-below t = and 2 spread-kinds.ps (falls 2 spread-kinds.ps _<_ μ-spread t) spread.Pre
 
-collect-returns : (t : ℕ) → collect-lts.Need-returns (
-  put-reads.Asked,
-  put-reads.Learnt,
-  word-reads.Asked,
-  word-reads.Learnt,
-  kind-reads.Asked,
-  kind-reads.Learnt,
-  next-reads.Asked,
-  next-reads.Learnt,
-  deal-below t,
-  deal.Post,
-  decide-below t,
-  decide.Post,
-) (collect-at t) collect.Post
+abbrev collect-callees : ℕ → collect-lts.Claims
+collect-callees t = (put-reads.Asked, put-reads.Learnt, word-reads.Asked, word-reads.Learnt, kind-reads.Asked, kind-reads.Learnt, next-reads.Asked, next-reads.Learnt, deal-below t, deal.Post, decide-below t, decide.Post)
+
+abbrev deal-callees : ℕ → deal-lts.Claims
+deal-callees t = (fan-reads.Asked, fan-reads.Learnt, spread-below t, spread.Post)
+
+abbrev decide-callees : ℕ → decide-lts.Claims
+decide-callees t = (actor-reads.Asked, actor-reads.Learnt, next-reads.Asked, next-reads.Learnt, spread-below t, spread.Post, set-reads.Asked, set-reads.Learnt, actions-reads.Asked, actions-reads.Learnt, divide-below t, divide.Post)
+
+abbrev divide-callees : ℕ → divide-lts.Claims
+divide-callees t = (share-reads.Asked, share-reads.Learnt, one-below t, one.Post, behind-reads.Asked, behind-reads.Learnt)
+
+abbrev one-callees : ℕ → one-lts.Claims
+one-callees t = (word-reads.Asked, word-reads.Learnt, kind-reads.Asked, kind-reads.Learnt, put-reads.Asked, put-reads.Learnt, collect-below t, collect.Post)
+
+abbrev spread-callees : ℕ → spread-lts.Claims
+spread-callees t = (one-below t, one.Post, behind-reads.Asked, behind-reads.Learnt)
+
+collect-returns : (t : ℕ) → collect-lts.Need-returns (collect-callees t) (collect-at t) collect.Post
 collect-returns t c = storing.node-none _ _ _ _ _ _ _ _ (c .if1 .taken)
 
-collect-add-put : (t : ℕ) → collect-lts.Need-add-put (
-  put-reads.Asked,
-  put-reads.Learnt,
-  word-reads.Asked,
-  word-reads.Learnt,
-  kind-reads.Asked,
-  kind-reads.Learnt,
-  next-reads.Asked,
-  next-reads.Learnt,
-  deal-below t,
-  deal.Post,
-  decide-below t,
-  decide.Post,
-) (collect-at t) collect.Post
-collect-add-put t c = record { fits = omega (arith, c .before .before .before .before .pre .1 .base, c .before .before .before .before .pre .1 .walk .place) }
+collect-add-put : (t : ℕ) → collect-lts.Need-add-put (collect-callees t) (collect-at t) collect.Post
+collect-add-put t c = let s0 = c .before .before .before .before in record { fits = omega (arith, s0 .pre .1 .base, s0 .pre .1 .walk .place) }
 
-collect-put-requires : (t : ℕ) → collect-lts.Need-put-requires (
-  put-reads.Asked,
-  put-reads.Learnt,
-  word-reads.Asked,
-  word-reads.Learnt,
-  kind-reads.Asked,
-  kind-reads.Learnt,
-  next-reads.Asked,
-  next-reads.Learnt,
-  deal-below t,
-  deal.Post,
-  decide-below t,
-  decide.Post,
-) (collect-at t) collect.Post
+collect-put-requires : (t : ℕ) → collect-lts.Need-put-requires (collect-callees t) (collect-at t) collect.Post
 collect-put-requires t c κs = search needs
 
-collect-word-requires : (t : ℕ) → collect-lts.Need-word-requires (
-  put-reads.Asked,
-  put-reads.Learnt,
-  word-reads.Asked,
-  word-reads.Learnt,
-  kind-reads.Asked,
-  kind-reads.Learnt,
-  next-reads.Asked,
-  next-reads.Learnt,
-  deal-below t,
-  deal.Post,
-  decide-below t,
-  decide.Post,
-) (collect-at t) collect.Post
+collect-word-requires : (t : ℕ) → collect-lts.Need-word-requires (collect-callees t) (collect-at t) collect.Post
 collect-word-requires t c κs = search needs
 
-collect-kind-requires : (t : ℕ) → collect-lts.Need-kind-requires (
-  put-reads.Asked,
-  put-reads.Learnt,
-  word-reads.Asked,
-  word-reads.Learnt,
-  kind-reads.Asked,
-  kind-reads.Learnt,
-  next-reads.Asked,
-  next-reads.Learnt,
-  deal-below t,
-  deal.Post,
-  decide-below t,
-  decide.Post,
-) (collect-at t) collect.Post
+collect-kind-requires : (t : ℕ) → collect-lts.Need-kind-requires (collect-callees t) (collect-at t) collect.Post
 collect-kind-requires t c κs = search needs
 
-collect-same-length : (t : ℕ) → collect-lts.Need-same-length (
-  put-reads.Asked,
-  put-reads.Learnt,
-  word-reads.Asked,
-  word-reads.Learnt,
-  kind-reads.Asked,
-  kind-reads.Learnt,
-  next-reads.Asked,
-  next-reads.Learnt,
-  deal-below t,
-  deal.Post,
-  decide-below t,
-  decide.Post,
-) (collect-at t) collect.Post
+collect-same-length : (t : ℕ) → collect-lts.Need-same-length (collect-callees t) (collect-at t) collect.Post
 collect-same-length t c = search needs
 
-collect-returns-2 : (t : ℕ) → collect-lts.Need-returns-2 (
-  put-reads.Asked,
-  put-reads.Learnt,
-  word-reads.Asked,
-  word-reads.Learnt,
-  kind-reads.Asked,
-  kind-reads.Learnt,
-  next-reads.Asked,
-  next-reads.Learnt,
-  deal-below t,
-  deal.Post,
-  decide-below t,
-  decide.Post,
-) (collect-at t) collect.Post
+collect-returns-2 : (t : ℕ) → collect-lts.Need-returns-2 (collect-callees t) (collect-at t) collect.Post
 collect-returns-2 t c = storing.node-end _ _ _ _ _ _ _ _ _ _ (c .before .before .before .before .before .before .put .ensures) (c .before .before .word .ensures) (sym (c .before .kind .ensures) ∙ c .if2 .taken)
 
-collect-add-deal : (t : ℕ) → collect-lts.Need-add-deal (
-  put-reads.Asked,
-  put-reads.Learnt,
-  word-reads.Asked,
-  word-reads.Learnt,
-  kind-reads.Asked,
-  kind-reads.Learnt,
-  next-reads.Asked,
-  next-reads.Learnt,
-  deal-below t,
-  deal.Post,
-  decide-below t,
-  decide.Post,
-) (collect-at t) collect.Post
+collect-add-deal : (t : ℕ) → collect-lts.Need-add-deal (collect-callees t) (collect-at t) collect.Post
 collect-add-deal t c = record { fits = omega (arith, c .before .before .before .before .before .before .before .before .before .before .before .before .before .pre .1 .walk .place) }
 
-collect-next-requires : (t : ℕ) → collect-lts.Need-next-requires (
-  put-reads.Asked,
-  put-reads.Learnt,
-  word-reads.Asked,
-  word-reads.Learnt,
-  kind-reads.Asked,
-  kind-reads.Learnt,
-  next-reads.Asked,
-  next-reads.Learnt,
-  deal-below t,
-  deal.Post,
-  decide-below t,
-  decide.Post,
-) (collect-at t) collect.Post
+collect-next-requires : (t : ℕ) → collect-lts.Need-next-requires (collect-callees t) (collect-at t) collect.Post
 collect-next-requires t c κs = search needs
 
-collect-sub-deal : (t : ℕ) → collect-lts.Need-sub-deal (
-  put-reads.Asked,
-  put-reads.Learnt,
-  word-reads.Asked,
-  word-reads.Learnt,
-  kind-reads.Asked,
-  kind-reads.Learnt,
-  next-reads.Asked,
-  next-reads.Learnt,
-  deal-below t,
-  deal.Post,
-  decide-below t,
-  decide.Post,
-) (collect-at t) collect.Post
+collect-sub-deal : (t : ℕ) → collect-lts.Need-sub-deal (collect-callees t) (collect-at t) collect.Post
 collect-sub-deal t c = let z = c .before .before .before .before .before .before .before .before .before .before .before .if1 .left in omega (arith, z)
 
-collect-deal-requires : (t : ℕ) → collect-lts.Need-deal-requires (
-  put-reads.Asked,
-  put-reads.Learnt,
-  word-reads.Asked,
-  word-reads.Learnt,
-  kind-reads.Asked,
-  kind-reads.Learnt,
-  next-reads.Asked,
-  next-reads.Learnt,
-  deal-below t,
-  deal.Post,
-  decide-below t,
-  decide.Post,
-) (collect-at t) collect.Post
+collect-deal-requires : (t : ℕ) → collect-lts.Need-deal-requires (collect-callees t) (collect-at t) collect.Post
 collect-deal-requires t c κs =
     let z = c .before .before .before .before .before .before .before .before .before .before .before .if1 .left in
     (omega (arith, c .before .before .before .before .before .before .before .before .before .before .before .before .before .before .pre .0, z), storing.store-down _ _ _ _ _ (c .before .before .before .before .before .before .before .before .before .before .before .before .before .before .pre .1) z)
 
-collect-same-length-2 : (t : ℕ) → collect-lts.Need-same-length-2 (
-  put-reads.Asked,
-  put-reads.Learnt,
-  word-reads.Asked,
-  word-reads.Learnt,
-  kind-reads.Asked,
-  kind-reads.Learnt,
-  next-reads.Asked,
-  next-reads.Learnt,
-  deal-below t,
-  deal.Post,
-  decide-below t,
-  decide.Post,
-) (collect-at t) collect.Post
+collect-same-length-2 : (t : ℕ) → collect-lts.Need-same-length-2 (collect-callees t) (collect-at t) collect.Post
 collect-same-length-2 t c = search needs
 
-collect-returns-3 : (t : ℕ) → collect-lts.Need-returns-3 (
-  put-reads.Asked,
-  put-reads.Learnt,
-  word-reads.Asked,
-  word-reads.Learnt,
-  kind-reads.Asked,
-  kind-reads.Learnt,
-  next-reads.Asked,
-  next-reads.Learnt,
-  deal-below t,
-  deal.Post,
-  decide-below t,
-  decide.Post,
-) (collect-at t) collect.Post
+collect-returns-3 : (t : ℕ) → collect-lts.Need-returns-3 (collect-callees t) (collect-at t) collect.Post
 collect-returns-3 t c = storing.node-chance _ _ _ _ _ _ _ _ _ _ (c .before .before .before .before .before .before .before .before .before .before .before .before .put .ensures) (c .before .before .before .before .before .before .before .before .word .ensures) _ _ (sym (c .before .before .before .before .before .before .before .kind .ensures) ∙ c .before .before .before .before .before .if3 .taken) (c .before .before .before .next .ensures) (c .before .before .deal .ensures)
 
-collect-add-decide : (t : ℕ) → collect-lts.Need-add-decide (
-  put-reads.Asked,
-  put-reads.Learnt,
-  word-reads.Asked,
-  word-reads.Learnt,
-  kind-reads.Asked,
-  kind-reads.Learnt,
-  next-reads.Asked,
-  next-reads.Learnt,
-  deal-below t,
-  deal.Post,
-  decide-below t,
-  decide.Post,
-) (collect-at t) collect.Post
+collect-add-decide : (t : ℕ) → collect-lts.Need-add-decide (collect-callees t) (collect-at t) collect.Post
 collect-add-decide t c = record { fits = omega (arith, c .before .before .before .before .before .before .before .before .before .before .before .before .before .pre .1 .walk .place) }
 
-collect-sub-decide : (t : ℕ) → collect-lts.Need-sub-decide (
-  put-reads.Asked,
-  put-reads.Learnt,
-  word-reads.Asked,
-  word-reads.Learnt,
-  kind-reads.Asked,
-  kind-reads.Learnt,
-  next-reads.Asked,
-  next-reads.Learnt,
-  deal-below t,
-  deal.Post,
-  decide-below t,
-  decide.Post,
-) (collect-at t) collect.Post
+collect-sub-decide : (t : ℕ) → collect-lts.Need-sub-decide (collect-callees t) (collect-at t) collect.Post
 collect-sub-decide t c = let z = c .before .before .before .before .before .before .before .before .before .before .if1 .left in omega (arith, z)
 
-collect-decide-requires : (t : ℕ) → collect-lts.Need-decide-requires (
-  put-reads.Asked,
-  put-reads.Learnt,
-  word-reads.Asked,
-  word-reads.Learnt,
-  kind-reads.Asked,
-  kind-reads.Learnt,
-  next-reads.Asked,
-  next-reads.Learnt,
-  deal-below t,
-  deal.Post,
-  decide-below t,
-  decide.Post,
-) (collect-at t) collect.Post
+collect-decide-requires : (t : ℕ) → collect-lts.Need-decide-requires (collect-callees t) (collect-at t) collect.Post
 collect-decide-requires t c κs =
     let z = c .before .before .before .before .before .before .before .before .before .before .if1 .left in
     (omega (arith, c .before .before .before .before .before .before .before .before .before .before .before .before .before .pre .0, z), storing.store-down _ _ _ _ _ (c .before .before .before .before .before .before .before .before .before .before .before .before .before .pre .1) z)
 
-collect-same-length-3 : (t : ℕ) → collect-lts.Need-same-length-3 (
-  put-reads.Asked,
-  put-reads.Learnt,
-  word-reads.Asked,
-  word-reads.Learnt,
-  kind-reads.Asked,
-  kind-reads.Learnt,
-  next-reads.Asked,
-  next-reads.Learnt,
-  deal-below t,
-  deal.Post,
-  decide-below t,
-  decide.Post,
-) (collect-at t) collect.Post
+collect-same-length-3 : (t : ℕ) → collect-lts.Need-same-length-3 (collect-callees t) (collect-at t) collect.Post
 collect-same-length-3 t c = search needs
 
-collect-returns-4 : (t : ℕ) → collect-lts.Need-returns-4 (
-  put-reads.Asked,
-  put-reads.Learnt,
-  word-reads.Asked,
-  word-reads.Learnt,
-  kind-reads.Asked,
-  kind-reads.Learnt,
-  next-reads.Asked,
-  next-reads.Learnt,
-  deal-below t,
-  deal.Post,
-  decide-below t,
-  decide.Post,
-) (collect-at t) collect.Post
-collect-returns-4 t c = storing.node-decides _ _ _ _ _ _ _ _ _ _ (c .before .before .before .before .before .before .before .before .before .before .before .put .ensures) (c .before .before .before .before .before .before .before .word .ensures) _ (λ q. c .before .before .before .before .before .if2 .left (c .before .before .before .before .before .before .kind .ensures ∙ q)) (λ q. c .before .before .before .before .if3 .left (c .before .before .before .before .before .before .kind .ensures ∙ q)) (c .before .before .decide .ensures)
+collect-returns-4 : (t : ℕ) → collect-lts.Need-returns-4 (collect-callees t) (collect-at t) collect.Post
+collect-returns-4 t c = let s0 = c .before .before .before .before .before .before in storing.node-decides _ _ _ _ _ _ _ _ _ _ (c .before .before .before .before .before .before .before .before .before .before .before .put .ensures) (c .before .before .before .before .before .before .before .word .ensures) _ (λ q. c .before .before .before .before .before .if2 .left (s0 .kind .ensures ∙ q)) (λ q. c .before .before .before .before .if3 .left (s0 .kind .ensures ∙ q)) (c .before .before .decide .ensures)
 
-deal-fan-requires : (t : ℕ) → deal-lts.Need-fan-requires (
-  fan-reads.Asked,
-  fan-reads.Learnt,
-  spread-below t,
-  spread.Post,
-) (deal-at t) deal.Post
+deal-fan-requires : (t : ℕ) → deal-lts.Need-fan-requires (deal-callees t) (deal-at t) deal.Post
 deal-fan-requires t c κs = omega (arith, c .before .before .before .pre .1 .walk .place)
 
-deal-same-length : (t : ℕ) → deal-lts.Need-same-length (
-  fan-reads.Asked,
-  fan-reads.Learnt,
-  spread-below t,
-  spread.Post,
-) (deal-at t) deal.Post
+deal-same-length : (t : ℕ) → deal-lts.Need-same-length (deal-callees t) (deal-at t) deal.Post
 deal-same-length t c = search needs
 
-deal-returns : (t : ℕ) → deal-lts.Need-returns (
-  fan-reads.Asked,
-  fan-reads.Learnt,
-  spread-below t,
-  spread.Post,
-) (deal-at t) deal.Post
+deal-returns : (t : ℕ) → deal-lts.Need-returns (deal-callees t) (deal-at t) deal.Post
 deal-returns t c = storing.deal-none _ _ _ _ _ _ _ _ _ _ (c .before .fan .ensures) (c .if1 .taken)
 
-deal-div-spread : (t : ℕ) → deal-lts.Need-div-spread (
-  fan-reads.Asked,
-  fan-reads.Learnt,
-  spread-below t,
-  spread.Post,
-) (deal-at t) deal.Post
+deal-div-spread : (t : ℕ) → deal-lts.Need-div-spread (deal-callees t) (deal-at t) deal.Post
 deal-div-spread t c = omega (arith, c .before .if1 .left)
 
-deal-spread-requires : (t : ℕ) → deal-lts.Need-spread-requires (
-  fan-reads.Asked,
-  fan-reads.Learnt,
-  spread-below t,
-  spread.Post,
-) (deal-at t) deal.Post
-deal-spread-requires t c κs = (omega (arith, c .before .before .before .before .before .before .pre .0), storing.store-here _ _ _ _ _ _ (c .before .before .before .before .before .before .pre .1) (passing.quotient-few _ _ (c .before .before .before .before .before .before .pre .1 .walk .units)))
+deal-spread-requires : (t : ℕ) → deal-lts.Need-spread-requires (deal-callees t) (deal-at t) deal.Post
+deal-spread-requires t c κs = let s0 = c .before .before .before .before .before .before in (omega (arith, s0 .pre .0), storing.store-here _ _ _ _ _ _ (s0 .pre .1) (passing.quotient-few _ _ (s0 .pre .1 .walk .units)))
 
-deal-same-length-2 : (t : ℕ) → deal-lts.Need-same-length-2 (
-  fan-reads.Asked,
-  fan-reads.Learnt,
-  spread-below t,
-  spread.Post,
-) (deal-at t) deal.Post
+deal-same-length-2 : (t : ℕ) → deal-lts.Need-same-length-2 (deal-callees t) (deal-at t) deal.Post
 deal-same-length-2 t c = search needs
 
-deal-returns-2 : (t : ℕ) → deal-lts.Need-returns-2 (
-  fan-reads.Asked,
-  fan-reads.Learnt,
-  spread-below t,
-  spread.Post,
-) (deal-at t) deal.Post
+deal-returns-2 : (t : ℕ) → deal-lts.Need-returns-2 (deal-callees t) (deal-at t) deal.Post
 deal-returns-2 t c = storing.deal-some _ _ _ _ _ _ _ _ _ _ (c .before .before .before .before .before .fan .ensures) _ (c .before .before .spread .ensures)
 
-decide-actor-requires : (t : ℕ) → decide-lts.Need-actor-requires (
-  actor-reads.Asked,
-  actor-reads.Learnt,
-  next-reads.Asked,
-  next-reads.Learnt,
-  spread-below t,
-  spread.Post,
-  set-reads.Asked,
-  set-reads.Learnt,
-  actions-reads.Asked,
-  actions-reads.Learnt,
-  divide-below t,
-  divide.Post,
-) (decide-at t) decide.Post
+decide-actor-requires : (t : ℕ) → decide-lts.Need-actor-requires (decide-callees t) (decide-at t) decide.Post
 decide-actor-requires t c κs = search needs
 
-decide-next-requires : (t : ℕ) → decide-lts.Need-next-requires (
-  actor-reads.Asked,
-  actor-reads.Learnt,
-  next-reads.Asked,
-  next-reads.Learnt,
-  spread-below t,
-  spread.Post,
-  set-reads.Asked,
-  set-reads.Learnt,
-  actions-reads.Asked,
-  actions-reads.Learnt,
-  divide-below t,
-  divide.Post,
-) (decide-at t) decide.Post
+decide-next-requires : (t : ℕ) → decide-lts.Need-next-requires (decide-callees t) (decide-at t) decide.Post
 decide-next-requires t c κs = search needs
 
-decide-spread-requires : (t : ℕ) → decide-lts.Need-spread-requires (
-  actor-reads.Asked,
-  actor-reads.Learnt,
-  next-reads.Asked,
-  next-reads.Learnt,
-  spread-below t,
-  spread.Post,
-  set-reads.Asked,
-  set-reads.Learnt,
-  actions-reads.Asked,
-  actions-reads.Learnt,
-  divide-below t,
-  divide.Post,
-) (decide-at t) decide.Post
-decide-spread-requires t c κs = (omega (arith, c .before .before .before .before .before .before .pre .0), c .before .before .before .before .before .before .pre .1)
+decide-spread-requires : (t : ℕ) → decide-lts.Need-spread-requires (decide-callees t) (decide-at t) decide.Post
+decide-spread-requires t c κs = let s0 = c .before .before .before .before .before .before in (omega (arith, s0 .pre .0), s0 .pre .1)
 
-decide-same-length : (t : ℕ) → decide-lts.Need-same-length (
-  actor-reads.Asked,
-  actor-reads.Learnt,
-  next-reads.Asked,
-  next-reads.Learnt,
-  spread-below t,
-  spread.Post,
-  set-reads.Asked,
-  set-reads.Learnt,
-  actions-reads.Asked,
-  actions-reads.Learnt,
-  divide-below t,
-  divide.Post,
-) (decide-at t) decide.Post
+decide-same-length : (t : ℕ) → decide-lts.Need-same-length (decide-callees t) (decide-at t) decide.Post
 decide-same-length t c = search needs
 
-decide-returns : (t : ℕ) → decide-lts.Need-returns (
-  actor-reads.Asked,
-  actor-reads.Learnt,
-  next-reads.Asked,
-  next-reads.Learnt,
-  spread-below t,
-  spread.Post,
-  set-reads.Asked,
-  set-reads.Learnt,
-  actions-reads.Asked,
-  actions-reads.Learnt,
-  divide-below t,
-  divide.Post,
-) (decide-at t) decide.Post
+decide-returns : (t : ℕ) → decide-lts.Need-returns (decide-callees t) (decide-at t) decide.Post
 decide-returns t c = storing.decide-own _ _ (c .before .before .before .before .before .before .before .before .before .args .seat) _ _ _ _ _ _ _ _ (sym (c .before .before .before .before .before .before .actor .ensures) ∙ c .before .before .before .before .before .if1 .taken) (c .before .before .before .next .ensures) (c .before .before .spread .ensures)
 
-decide-set-requires : (t : ℕ) → decide-lts.Need-set-requires (
-  actor-reads.Asked,
-  actor-reads.Learnt,
-  next-reads.Asked,
-  next-reads.Learnt,
-  spread-below t,
-  spread.Post,
-  set-reads.Asked,
-  set-reads.Learnt,
-  actions-reads.Asked,
-  actions-reads.Learnt,
-  divide-below t,
-  divide.Post,
-) (decide-at t) decide.Post
+decide-set-requires : (t : ℕ) → decide-lts.Need-set-requires (decide-callees t) (decide-at t) decide.Post
 decide-set-requires t c κs = search needs
 
-decide-actions-requires : (t : ℕ) → decide-lts.Need-actions-requires (
-  actor-reads.Asked,
-  actor-reads.Learnt,
-  next-reads.Asked,
-  next-reads.Learnt,
-  spread-below t,
-  spread.Post,
-  set-reads.Asked,
-  set-reads.Learnt,
-  actions-reads.Asked,
-  actions-reads.Learnt,
-  divide-below t,
-  divide.Post,
-) (decide-at t) decide.Post
+decide-actions-requires : (t : ℕ) → decide-lts.Need-actions-requires (decide-callees t) (decide-at t) decide.Post
 decide-actions-requires t c κs = search needs
 
-decide-add-end : (t : ℕ) → decide-lts.Need-add-end (
-  actor-reads.Asked,
-  actor-reads.Learnt,
-  next-reads.Asked,
-  next-reads.Learnt,
-  spread-below t,
-  spread.Post,
-  set-reads.Asked,
-  set-reads.Learnt,
-  actions-reads.Asked,
-  actions-reads.Learnt,
-  divide-below t,
-  divide.Post,
-) (decide-at t) decide.Post
+decide-add-end : (t : ℕ) → decide-lts.Need-add-end (decide-callees t) (decide-at t) decide.Post
 decide-add-end t c = record { fits = omega (arith, c .before .set .ensures, c .actions .ensures) }
 
-decide-returns-2 : (t : ℕ) → decide-lts.Need-returns-2 (
-  actor-reads.Asked,
-  actor-reads.Learnt,
-  next-reads.Asked,
-  next-reads.Learnt,
-  spread-below t,
-  spread.Post,
-  set-reads.Asked,
-  set-reads.Learnt,
-  actions-reads.Asked,
-  actions-reads.Learnt,
-  divide-below t,
-  divide.Post,
-) (decide-at t) decide.Post
+decide-returns-2 : (t : ℕ) → decide-lts.Need-returns-2 (decide-callees t) (decide-at t) decide.Post
 decide-returns-2 t c = storing.decide-none _ _ _ _ _ _ _ _ _ (omega (arith, c .before .before .set .ensures, c .before .actions .ensures, c .if2 .taken))
 
-decide-divide-requires : (t : ℕ) → decide-lts.Need-divide-requires (
-  actor-reads.Asked,
-  actor-reads.Learnt,
-  next-reads.Asked,
-  next-reads.Learnt,
-  spread-below t,
-  spread.Post,
-  set-reads.Asked,
-  set-reads.Learnt,
-  actions-reads.Asked,
-  actions-reads.Learnt,
-  divide-below t,
-  divide.Post,
-) (decide-at t) decide.Post
-decide-divide-requires t c κs = (omega (arith, c .before .before .before .before .before .before .before .before .pre .0), (c .before .before .before .before .before .before .before .before .pre .1, omega arith, omega (arith, c .before .if2 .left)))
+decide-divide-requires : (t : ℕ) → decide-lts.Need-divide-requires (decide-callees t) (decide-at t) decide.Post
+decide-divide-requires t c κs = let s0 = c .before .before .before .before .before .before .before .before in (omega (arith, s0 .pre .0), (s0 .pre .1, omega arith, omega (arith, c .before .if2 .left)))
 
-decide-same-length-2 : (t : ℕ) → decide-lts.Need-same-length-2 (
-  actor-reads.Asked,
-  actor-reads.Learnt,
-  next-reads.Asked,
-  next-reads.Learnt,
-  spread-below t,
-  spread.Post,
-  set-reads.Asked,
-  set-reads.Learnt,
-  actions-reads.Asked,
-  actions-reads.Learnt,
-  divide-below t,
-  divide.Post,
-) (decide-at t) decide.Post
+decide-same-length-2 : (t : ℕ) → decide-lts.Need-same-length-2 (decide-callees t) (decide-at t) decide.Post
 decide-same-length-2 t c = search needs
 
-decide-returns-3 : (t : ℕ) → decide-lts.Need-returns-3 (
-  actor-reads.Asked,
-  actor-reads.Learnt,
-  next-reads.Asked,
-  next-reads.Learnt,
-  spread-below t,
-  spread.Post,
-  set-reads.Asked,
-  set-reads.Learnt,
-  actions-reads.Asked,
-  actions-reads.Learnt,
-  divide-below t,
-  divide.Post,
-) (decide-at t) decide.Post
+decide-returns-3 : (t : ℕ) → decide-lts.Need-returns-3 (decide-callees t) (decide-at t) decide.Post
 decide-returns-3 t c = storing.decide-other _ _ (c .before .before .before .before .before .before .before .before .before .before .before .args .seat) _ _ _ _ _ _ _ _ _ (λ q. c .before .before .before .before .before .before .before .if1 .left (c .before .before .before .before .before .before .before .before .actor .ensures ∙ q)) (c .before .before .before .before .before .before .set .ensures) (c .before .before .before .before .before .actions .ensures) (c .before .before .divide .ensures)
 
 abbrev divide-Inv-loop : divide-lts.InvT-loop
@@ -641,255 +234,76 @@ divide-Inv-loop w₀ table a first end u seat d units depth each at₀ action₀
 abbrev divide-μ-loop : divide-lts.MeasureT-loop
 divide-μ-loop w₀ table a first end u seat d units depth each at₀ action₀ w at action = end - first - action
 
-divide-div-each : (t : ℕ) → divide-lts.Need-div-each (
-  share-reads.Asked,
-  share-reads.Learnt,
-  one-below t,
-  one.Post,
-  behind-reads.Asked,
-  behind-reads.Learnt,
-) (divide-at t) divide.Post divide-Inv-loop divide-μ-loop
+divide-div-each : (t : ℕ) → divide-lts.Need-div-each (divide-callees t) (divide-at t) divide.Post divide-Inv-loop divide-μ-loop
 divide-div-each t c = omega (arith, c .before .before .pre .1 .0 .walk .least)
 
-divide-loop-holds : (t : ℕ) → divide-lts.Need-loop-holds (
-  share-reads.Asked,
-  share-reads.Learnt,
-  one-below t,
-  one.Post,
-  behind-reads.Asked,
-  behind-reads.Learnt,
-) (divide-at t) divide.Post divide-Inv-loop divide-μ-loop
+divide-loop-holds : (t : ℕ) → divide-lts.Need-loop-holds (divide-callees t) (divide-at t) divide.Post divide-Inv-loop divide-μ-loop
 divide-loop-holds t c = (storing.shared-start _ _ _ _ _ _ _ _ _ _, c .before .before .pre .1 .0, omega arith)
 
-divide-sub-loop : (t : ℕ) → divide-lts.Need-sub-loop (
-  share-reads.Asked,
-  share-reads.Learnt,
-  one-below t,
-  one.Post,
-  behind-reads.Asked,
-  behind-reads.Learnt,
-) (divide-at t) divide.Post divide-Inv-loop divide-μ-loop
+divide-sub-loop : (t : ℕ) → divide-lts.Need-sub-loop (divide-callees t) (divide-at t) divide.Post divide-Inv-loop divide-μ-loop
 divide-sub-loop t c = c .before .before .before .pre .1 .1
 
-divide-sub-share : (t : ℕ) → divide-lts.Need-sub-share (
-  share-reads.Asked,
-  share-reads.Learnt,
-  one-below t,
-  one.Post,
-  behind-reads.Asked,
-  behind-reads.Learnt,
-) (divide-at t) divide.Post divide-Inv-loop divide-μ-loop
+divide-sub-share : (t : ℕ) → divide-lts.Need-sub-share (divide-callees t) (divide-at t) divide.Post divide-Inv-loop divide-μ-loop
 divide-sub-share t c = c .before .before .before .before .pre .1 .1
 
-divide-part-share-start : (t : ℕ) → divide-lts.Need-part-share-start (
-  share-reads.Asked,
-  share-reads.Learnt,
-  one-below t,
-  one.Post,
-  behind-reads.Asked,
-  behind-reads.Learnt,
-) (divide-at t) divide.Post divide-Inv-loop divide-μ-loop
+divide-part-share-start : (t : ℕ) → divide-lts.Need-part-share-start (divide-callees t) (divide-at t) divide.Post divide-Inv-loop divide-μ-loop
 divide-part-share-start t c = search needs
 
-divide-part-share-end : (t : ℕ) → divide-lts.Need-part-share-end (
-  share-reads.Asked,
-  share-reads.Learnt,
-  one-below t,
-  one.Post,
-  behind-reads.Asked,
-  behind-reads.Learnt,
-) (divide-at t) divide.Post divide-Inv-loop divide-μ-loop
+divide-part-share-end : (t : ℕ) → divide-lts.Need-part-share-end (divide-callees t) (divide-at t) divide.Post divide-Inv-loop divide-μ-loop
 divide-part-share-end t c = search needs
 
-divide-share-requires : (t : ℕ) → divide-lts.Need-share-requires (
-  share-reads.Asked,
-  share-reads.Learnt,
-  one-below t,
-  one.Post,
-  behind-reads.Asked,
-  behind-reads.Learnt,
-) (divide-at t) divide.Post divide-Inv-loop divide-μ-loop
-divide-share-requires t c κs = (rw (part-length (now (c .before .before .before .before .before .args .table)) (c .before .before .before .before .before .args .first) (c .before .before .before .before .before .args .end) (c .before .before .before .before .before .pre .1 .2)) (c .before .loop-test .taken), c .before .before .before .before .before .pre .1 .0 .walk .units, c .before .before .before .before .before .pre .1 .0 .walk .least, c .before .before .before .before .before .pre .1 .0 .walk .most, refl)
+divide-share-requires : (t : ℕ) → divide-lts.Need-share-requires (divide-callees t) (divide-at t) divide.Post divide-Inv-loop divide-μ-loop
+divide-share-requires t c κs = let s0 = c .before .before .before .before .before in (rw (part-length (now (s0 .args .table)) (s0 .args .first) (s0 .args .end) (s0 .pre .1 .2)) (c .before .loop-test .taken), s0 .pre .1 .0 .walk .units, s0 .pre .1 .0 .walk .least, s0 .pre .1 .0 .walk .most, refl)
 
-divide-one-requires : (t : ℕ) → divide-lts.Need-one-requires (
-  share-reads.Asked,
-  share-reads.Learnt,
-  one-below t,
-  one.Post,
-  behind-reads.Asked,
-  behind-reads.Learnt,
-) (divide-at t) divide.Post divide-Inv-loop divide-μ-loop
+divide-one-requires : (t : ℕ) → divide-lts.Need-one-requires (divide-callees t) (divide-at t) divide.Post divide-Inv-loop divide-μ-loop
 divide-one-requires t c κs = (omega (arith, c .before .before .before .before .before .before .before .pre .0), storing.store-here _ _ _ _ _ _ (c .before .before .before .before .loop .inv .1) (c .before .share .ensures .0))
 
-divide-behind-requires : (t : ℕ) → divide-lts.Need-behind-requires (
-  share-reads.Asked,
-  share-reads.Learnt,
-  one-below t,
-  one.Post,
-  behind-reads.Asked,
-  behind-reads.Learnt,
-) (divide-at t) divide.Post divide-Inv-loop divide-μ-loop
+divide-behind-requires : (t : ℕ) → divide-lts.Need-behind-requires (divide-callees t) (divide-at t) divide.Post divide-Inv-loop divide-μ-loop
 divide-behind-requires t c κs = omega (arith, c .before .before .before .before .before .before .before .before .loop .inv .1 .walk .place)
 
-divide-add-action : (t : ℕ) → divide-lts.Need-add-action (
-  share-reads.Asked,
-  share-reads.Learnt,
-  one-below t,
-  one.Post,
-  behind-reads.Asked,
-  behind-reads.Learnt,
-) (divide-at t) divide.Post divide-Inv-loop divide-μ-loop
+divide-add-action : (t : ℕ) → divide-lts.Need-add-action (divide-callees t) (divide-at t) divide.Post divide-Inv-loop divide-μ-loop
 divide-add-action t c = record { fits = omega (arith, c .before .before .before .before .before .before .before .before .loop-test .taken) }
 
-divide-loop-less : (t : ℕ) → divide-lts.Need-loop-less (
-  share-reads.Asked,
-  share-reads.Learnt,
-  one-below t,
-  one.Post,
-  behind-reads.Asked,
-  behind-reads.Learnt,
-) (divide-at t) divide.Post divide-Inv-loop divide-μ-loop
+divide-loop-less : (t : ℕ) → divide-lts.Need-loop-less (divide-callees t) (divide-at t) divide.Post divide-Inv-loop divide-μ-loop
 divide-loop-less t c = omega (arith, c .before .before .before .before .before .before .before .before .loop-test .taken)
 
-divide-loop-again : (t : ℕ) → divide-lts.Need-loop-again (
-  share-reads.Asked,
-  share-reads.Learnt,
-  one-below t,
-  one.Post,
-  behind-reads.Asked,
-  behind-reads.Learnt,
-) (divide-at t) divide.Post divide-Inv-loop divide-μ-loop
+divide-loop-again : (t : ℕ) → divide-lts.Need-loop-again (divide-callees t) (divide-at t) divide.Post divide-Inv-loop divide-μ-loop
 divide-loop-again t c =
     let l = c .before .before .before .before .before .before .before .before .loop-test .taken in
     let b = c .behind .ensures in
     (storing.shared-more _ _ _ _ _ _ _ _ _ _ _ _ _ _ _ _ (c .before .before .before .before .before .before .before .before .before .loop .inv .0) l (passing.part-shares (now (c .before .before .before .before .before .before .before .before .before .before .before .before .args .table)) (c .before .before .before .before .before .before .before .before .before .before .before .before .args .first) (c .before .before .before .before .before .before .before .before .before .before .before .before .args .end) (c .before .before .before .before .before .before .before .before .before .loop .action) (c .before .before .before .before .before .before .before .before .before .before .before .before .args .u) (c .before .before .before .before .before .before .share .result) (c .before .before .before .before .before .before .before .before .before .before .before .before .args .d) l (c .before .before .before .before .before .before .share .ensures .1)) (c .before .before .before .before .one .ensures) b, storing.store-along _ _ _ _ _ _ _ (c .before .before .before .before .before .before .before .before .before .before .before .before .pre .1 .0) (b .near) (c .before .before .before .before .before .before .before .before .before .before .before .before .pre .1 .0 .walk .units), omega (arith, l))
 
-divide-same-length : (t : ℕ) → divide-lts.Need-same-length (
-  share-reads.Asked,
-  share-reads.Learnt,
-  one-below t,
-  one.Post,
-  behind-reads.Asked,
-  behind-reads.Learnt,
-) (divide-at t) divide.Post divide-Inv-loop divide-μ-loop
+divide-same-length : (t : ℕ) → divide-lts.Need-same-length (divide-callees t) (divide-at t) divide.Post divide-Inv-loop divide-μ-loop
 divide-same-length t c = c .before .loop .inv .0 .long
 
-divide-returns : (t : ℕ) → divide-lts.Need-returns (
-  share-reads.Asked,
-  share-reads.Learnt,
-  one-below t,
-  one.Post,
-  behind-reads.Asked,
-  behind-reads.Learnt,
-) (divide-at t) divide.Post divide-Inv-loop divide-μ-loop
+divide-returns : (t : ℕ) → divide-lts.Need-returns (divide-callees t) (divide-at t) divide.Post divide-Inv-loop divide-μ-loop
 divide-returns t c = storing.shared-end _ _ _ _ _ _ _ _ _ _ _ _ _ (c .before .loop .inv .0) (c .loop-test .left)
 
-one-word-requires : (t : ℕ) → one-lts.Need-word-requires (
-  word-reads.Asked,
-  word-reads.Learnt,
-  kind-reads.Asked,
-  kind-reads.Learnt,
-  put-reads.Asked,
-  put-reads.Learnt,
-  collect-below t,
-  collect.Post,
-) (one-at t) one.Post
+one-word-requires : (t : ℕ) → one-lts.Need-word-requires (one-callees t) (one-at t) one.Post
 one-word-requires t c κs = search needs
 
-one-kind-requires : (t : ℕ) → one-lts.Need-kind-requires (
-  word-reads.Asked,
-  word-reads.Learnt,
-  kind-reads.Asked,
-  kind-reads.Learnt,
-  put-reads.Asked,
-  put-reads.Learnt,
-  collect-below t,
-  collect.Post,
-) (one-at t) one.Post
+one-kind-requires : (t : ℕ) → one-lts.Need-kind-requires (one-callees t) (one-at t) one.Post
 one-kind-requires t c κs = search needs
 
-one-add-put : (t : ℕ) → one-lts.Need-add-put (
-  word-reads.Asked,
-  word-reads.Learnt,
-  kind-reads.Asked,
-  kind-reads.Learnt,
-  put-reads.Asked,
-  put-reads.Learnt,
-  collect-below t,
-  collect.Post,
-) (one-at t) one.Post
-one-add-put t c = record { fits = omega (arith, c .before .before .before .before .before .before .before .pre .1 .base, c .before .before .before .before .before .before .before .pre .1 .walk .place) }
+one-add-put : (t : ℕ) → one-lts.Need-add-put (one-callees t) (one-at t) one.Post
+one-add-put t c = let s0 = c .before .before .before .before .before .before .before in record { fits = omega (arith, s0 .pre .1 .base, s0 .pre .1 .walk .place) }
 
-one-put-requires : (t : ℕ) → one-lts.Need-put-requires (
-  word-reads.Asked,
-  word-reads.Learnt,
-  kind-reads.Asked,
-  kind-reads.Learnt,
-  put-reads.Asked,
-  put-reads.Learnt,
-  collect-below t,
-  collect.Post,
-) (one-at t) one.Post
+one-put-requires : (t : ℕ) → one-lts.Need-put-requires (one-callees t) (one-at t) one.Post
 one-put-requires t c κs = search needs
 
-one-same-length : (t : ℕ) → one-lts.Need-same-length (
-  word-reads.Asked,
-  word-reads.Learnt,
-  kind-reads.Asked,
-  kind-reads.Learnt,
-  put-reads.Asked,
-  put-reads.Learnt,
-  collect-below t,
-  collect.Post,
-) (one-at t) one.Post
+one-same-length : (t : ℕ) → one-lts.Need-same-length (one-callees t) (one-at t) one.Post
 one-same-length t c = search needs
 
-one-returns : (t : ℕ) → one-lts.Need-returns (
-  word-reads.Asked,
-  word-reads.Learnt,
-  kind-reads.Asked,
-  kind-reads.Learnt,
-  put-reads.Asked,
-  put-reads.Learnt,
-  collect-below t,
-  collect.Post,
-) (one-at t) one.Post
-one-returns t c = storing.node-peeked (now (c .before .before .before .before .before .before .before .before .before .before .args .table)) (c .before .before .before .before .before .before .before .before .before .before .args .d) (c .before .before .before .before .before .before .before .before .before .before .args .seat) (c .before .before .before .before .before .before .before .before .before .before .args .units) (c .before .before .before .before .before .before .before .before .before .before .args .a) (c .before .before .before .before .before .before .before .before .before .before .args .u) (c .before .before .before .before .before .before .before .before .before .before .args .depth) (now (c .before .before .before .before .before .before .before .before .before .before .args .w)) (c .before .before .put .last .0) (c .before .before .before .before .before .before .word .result) (c .before .before .put .ensures) (c .before .before .before .before .before .before .word .ensures) (sym (c .before .before .before .before .before .kind .ensures) ∙ c .before .before .before .before .if1 .taken)
+one-returns : (t : ℕ) → one-lts.Need-returns (one-callees t) (one-at t) one.Post
+one-returns t c = let s0 = c .before .before .before .before .before .before .before .before .before .before in let s1 = c .before .before .before .before .before .before in storing.node-peeked (now (s0 .args .table)) (s0 .args .d) (s0 .args .seat) (s0 .args .units) (s0 .args .a) (s0 .args .u) (s0 .args .depth) (now (s0 .args .w)) (c .before .before .put .last .0) (s1 .word .result) (c .before .before .put .ensures) (s1 .word .ensures) (sym (c .before .before .before .before .before .kind .ensures) ∙ c .before .before .before .before .if1 .taken)
 
-one-collect-requires : (t : ℕ) → one-lts.Need-collect-requires (
-  word-reads.Asked,
-  word-reads.Learnt,
-  kind-reads.Asked,
-  kind-reads.Learnt,
-  put-reads.Asked,
-  put-reads.Learnt,
-  collect-below t,
-  collect.Post,
-) (one-at t) one.Post
-one-collect-requires t c κs = (omega (arith, c .before .before .before .before .before .before .before .pre .0), c .before .before .before .before .before .before .before .pre .1)
+one-collect-requires : (t : ℕ) → one-lts.Need-collect-requires (one-callees t) (one-at t) one.Post
+one-collect-requires t c κs = let s0 = c .before .before .before .before .before .before .before in (omega (arith, s0 .pre .0), s0 .pre .1)
 
-one-same-length-2 : (t : ℕ) → one-lts.Need-same-length-2 (
-  word-reads.Asked,
-  word-reads.Learnt,
-  kind-reads.Asked,
-  kind-reads.Learnt,
-  put-reads.Asked,
-  put-reads.Learnt,
-  collect-below t,
-  collect.Post,
-) (one-at t) one.Post
+one-same-length-2 : (t : ℕ) → one-lts.Need-same-length-2 (one-callees t) (one-at t) one.Post
 one-same-length-2 t c = search needs
 
-one-returns-2 : (t : ℕ) → one-lts.Need-returns-2 (
-  word-reads.Asked,
-  word-reads.Learnt,
-  kind-reads.Asked,
-  kind-reads.Learnt,
-  put-reads.Asked,
-  put-reads.Learnt,
-  collect-below t,
-  collect.Post,
-) (one-at t) one.Post
+one-returns-2 : (t : ℕ) → one-lts.Need-returns-2 (one-callees t) (one-at t) one.Post
 one-returns-2 t c = c .before .before .collect .ensures
 
 abbrev spread-Inv-loop : spread-lts.InvT-loop
@@ -898,95 +312,36 @@ spread-Inv-loop w₀ table a end u seat d units depth at₀ w at = storing.SoFar
 abbrev spread-μ-loop : spread-lts.MeasureT-loop
 spread-μ-loop w₀ table a end u seat d units depth at₀ w at = end - at
 
-spread-loop-holds : (t : ℕ) → spread-lts.Need-loop-holds (
-  one-below t,
-  one.Post,
-  behind-reads.Asked,
-  behind-reads.Learnt,
-) (spread-at t) spread.Post spread-Inv-loop spread-μ-loop
+spread-loop-holds : (t : ℕ) → spread-lts.Need-loop-holds (spread-callees t) (spread-at t) spread.Post spread-Inv-loop spread-μ-loop
 spread-loop-holds t c = (storing.each-start _ _ _ _ _ _ _ _ _, c .before .before .pre .1)
 
-spread-one-requires : (t : ℕ) → spread-lts.Need-one-requires (
-  one-below t,
-  one.Post,
-  behind-reads.Asked,
-  behind-reads.Learnt,
-) (spread-at t) spread.Post spread-Inv-loop spread-μ-loop
+spread-one-requires : (t : ℕ) → spread-lts.Need-one-requires (spread-callees t) (spread-at t) spread.Post spread-Inv-loop spread-μ-loop
 spread-one-requires t c κs = (omega (arith, c .before .before .before .before .before .pre .0), c .before .before .loop .inv .1)
 
-spread-behind-requires : (t : ℕ) → spread-lts.Need-behind-requires (
-  one-below t,
-  one.Post,
-  behind-reads.Asked,
-  behind-reads.Learnt,
-) (spread-at t) spread.Post spread-Inv-loop spread-μ-loop
+spread-behind-requires : (t : ℕ) → spread-lts.Need-behind-requires (spread-callees t) (spread-at t) spread.Post spread-Inv-loop spread-μ-loop
 spread-behind-requires t c κs = omega (arith, c .before .before .before .before .before .before .loop .inv .1 .walk .place)
 
-spread-same-length : (t : ℕ) → spread-lts.Need-same-length (
-  one-below t,
-  one.Post,
-  behind-reads.Asked,
-  behind-reads.Learnt,
-) (spread-at t) spread.Post spread-Inv-loop spread-μ-loop
+spread-same-length : (t : ℕ) → spread-lts.Need-same-length (spread-callees t) (spread-at t) spread.Post spread-Inv-loop spread-μ-loop
 spread-same-length t c = c .before .before .before .before .before .one .ensures .long ∙ c .before .before .before .before .before .before .before .before .loop .inv .0 .long
 
-spread-returns : (t : ℕ) → spread-lts.Need-returns (
-  one-below t,
-  one.Post,
-  behind-reads.Asked,
-  behind-reads.Learnt,
-) (spread-at t) spread.Post spread-Inv-loop spread-μ-loop
+spread-returns : (t : ℕ) → spread-lts.Need-returns (spread-callees t) (spread-at t) spread.Post spread-Inv-loop spread-μ-loop
 spread-returns t c = storing.each-stuck _ _ _ _ _ _ _ _ _ _ _ _ _ (c .before .before .before .before .before .before .before .before .loop .inv .0) (c .before .before .before .before .before .before .before .loop-test .taken) (c .before .before .before .before .before .one .ensures) (c .before .behind .ensures) (c .if1 .taken)
 
-spread-loop-less : (t : ℕ) → spread-lts.Need-loop-less (
-  one-below t,
-  one.Post,
-  behind-reads.Asked,
-  behind-reads.Learnt,
-) (spread-at t) spread.Post spread-Inv-loop spread-μ-loop
+spread-loop-less : (t : ℕ) → spread-lts.Need-loop-less (spread-callees t) (spread-at t) spread.Post spread-Inv-loop spread-μ-loop
 spread-loop-less t c = omega (arith, c .if1 .left, c .before .before .before .before .before .before .before .loop-test .taken)
 
-spread-loop-again : (t : ℕ) → spread-lts.Need-loop-again (
-  one-below t,
-  one.Post,
-  behind-reads.Asked,
-  behind-reads.Learnt,
-) (spread-at t) spread.Post spread-Inv-loop spread-μ-loop
-spread-loop-again t c = (storing.each-more _ _ _ _ _ _ _ _ _ _ _ _ _ (c .before .before .before .before .before .before .before .before .loop .inv .0) (c .before .before .before .before .before .before .before .loop-test .taken) (c .before .before .before .before .before .one .ensures) (c .before .behind .ensures), storing.store-along _ _ _ _ _ _ _ (c .before .before .before .before .before .before .before .before .before .before .before .pre .1) (c .before .behind .ensures .near) (c .before .before .before .before .before .before .before .before .before .before .before .pre .1 .walk .units))
+spread-loop-again : (t : ℕ) → spread-lts.Need-loop-again (spread-callees t) (spread-at t) spread.Post spread-Inv-loop spread-μ-loop
+spread-loop-again t c = let s0 = c .before .before .before .before .before .before .before .before .before .before .before in (storing.each-more _ _ _ _ _ _ _ _ _ _ _ _ _ (c .before .before .before .before .before .before .before .before .loop .inv .0) (c .before .before .before .before .before .before .before .loop-test .taken) (c .before .before .before .before .before .one .ensures) (c .before .behind .ensures), storing.store-along _ _ _ _ _ _ _ (s0 .pre .1) (c .before .behind .ensures .near) (s0 .pre .1 .walk .units))
 
-spread-same-length-2 : (t : ℕ) → spread-lts.Need-same-length-2 (
-  one-below t,
-  one.Post,
-  behind-reads.Asked,
-  behind-reads.Learnt,
-) (spread-at t) spread.Post spread-Inv-loop spread-μ-loop
+spread-same-length-2 : (t : ℕ) → spread-lts.Need-same-length-2 (spread-callees t) (spread-at t) spread.Post spread-Inv-loop spread-μ-loop
 spread-same-length-2 t c = c .before .loop .inv .0 .long
 
-spread-returns-2 : (t : ℕ) → spread-lts.Need-returns-2 (
-  one-below t,
-  one.Post,
-  behind-reads.Asked,
-  behind-reads.Learnt,
-) (spread-at t) spread.Post spread-Inv-loop spread-μ-loop
+spread-returns-2 : (t : ℕ) → spread-lts.Need-returns-2 (spread-callees t) (spread-at t) spread.Post spread-Inv-loop spread-μ-loop
 spread-returns-2 t c = storing.each-end _ _ _ _ _ _ _ _ _ _ _ (c .before .loop .inv .0) (c .loop-test .left)
 
 pub +collect+deal+decide+divide+one+spread-spec : {M : Type 1} → statement M
 +collect+deal+decide+divide+one+spread-spec =
-    close μ-collect μ-deal μ-decide μ-divide μ-one μ-spread (λ t. collect-lts.spec (
-      put-reads.Asked,
-      put-reads.Learnt,
-      word-reads.Asked,
-      word-reads.Learnt,
-      kind-reads.Asked,
-      kind-reads.Learnt,
-      next-reads.Asked,
-      next-reads.Learnt,
-      deal-below t,
-      deal.Post,
-      decide-below t,
-      decide.Post,
-    )
-    (collect-at t)
+    close μ-collect μ-deal μ-decide μ-divide μ-one μ-spread (λ t. collect-lts.spec (collect-callees t) (collect-at t)
     collect.Post
     (collect-returns t)
     (collect-add-put t)
@@ -1017,21 +372,7 @@ pub +collect+deal+decide+divide+one+spread-spec : {M : Type 1} → statement M
     (deal-spread-requires t)
     (deal-same-length-2 t)
     (deal-returns-2 t))
-    (λ t. decide-lts.spec (
-      actor-reads.Asked,
-      actor-reads.Learnt,
-      next-reads.Asked,
-      next-reads.Learnt,
-      spread-below t,
-      spread.Post,
-      set-reads.Asked,
-      set-reads.Learnt,
-      actions-reads.Asked,
-      actions-reads.Learnt,
-      divide-below t,
-      divide.Post,
-    )
-    (decide-at t)
+    (λ t. decide-lts.spec (decide-callees t) (decide-at t)
     decide.Post
     (decide-actor-requires t)
     (decide-next-requires t)
@@ -1045,15 +386,7 @@ pub +collect+deal+decide+divide+one+spread-spec : {M : Type 1} → statement M
     (decide-divide-requires t)
     (decide-same-length-2 t)
     (decide-returns-3 t))
-    (λ t. divide-lts.spec (
-      share-reads.Asked,
-      share-reads.Learnt,
-      one-below t,
-      one.Post,
-      behind-reads.Asked,
-      behind-reads.Learnt,
-    )
-    (divide-at t)
+    (λ t. divide-lts.spec (divide-callees t) (divide-at t)
     divide.Post
     divide-Inv-loop
     divide-μ-loop
@@ -1071,17 +404,7 @@ pub +collect+deal+decide+divide+one+spread-spec : {M : Type 1} → statement M
     (divide-loop-again t)
     (divide-same-length t)
     (divide-returns t))
-    (λ t. one-lts.spec (
-      word-reads.Asked,
-      word-reads.Learnt,
-      kind-reads.Asked,
-      kind-reads.Learnt,
-      put-reads.Asked,
-      put-reads.Learnt,
-      collect-below t,
-      collect.Post,
-    )
-    (one-at t)
+    (λ t. one-lts.spec (one-callees t) (one-at t)
     one.Post
     (one-word-requires t)
     (one-kind-requires t)

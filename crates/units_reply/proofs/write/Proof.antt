@@ -24,13 +24,13 @@ same-length : tie.Need-same-length
 same-length c = search needs
 
 returns : tie.Need-returns
-returns c = laying.wrote-three (now (c .before .before .before .before .before .before .before .before .before .before .before .before .before .before .args .out)) (c .before .before .before .before .before .before .before .before .before .before .before .put .last .0) (c .before .before .before .before .before .before .before .put2 .last .0) (c .before .before .put3 .last .0) (c .before .before .before .before .before .before .before .before .before .before .before .before .before .before .args .at) (c .before .before .before .before .before .before .before .before .before .before .before .before .before .before .args .count) (c .before .before .before .before .before .before .before .before .before .before .before .before .before .before .args .x) (c .before .before .before .before .before .before .before .before .before .before .before .before .before .before .args .y) (c .before .before .before .before .before .before .before .before .before .before .before .before .before .before .args .z) (c .before .before .before .before .before .before .before .before .before .before .before .put .ensures) (c .before .before .before .before .before .before .before .put2 .ensures) (c .before .before .put3 .ensures) (c .before .before .before .before .if1 .taken)
+returns c = let s0 = c .before .before .before .before .before .before .before .before .before .before .before .before .before .before in let s1 = c .before .before .before .before .before .before .before .before .before .before .before in let s2 = c .before .before .before .before .before .before .before in laying.wrote-three (now (s0 .args .out)) (s1 .put .last .0) (s2 .put2 .last .0) (c .before .before .put3 .last .0) (s0 .args .at) (s0 .args .count) (s0 .args .x) (s0 .args .y) (s0 .args .z) (s1 .put .ensures) (s2 .put2 .ensures) (c .before .before .put3 .ensures) (c .before .before .before .before .if1 .taken)
 
 same-length-2 : tie.Need-same-length-2
 same-length-2 c = search needs
 
 returns-2 : tie.Need-returns-2
-returns-2 c = laying.wrote-two (now (c .before .before .before .before .before .before .before .before .before .before .args .out)) (c .before .before .before .before .before .before .before .put .last .0) (c .before .before .before .put2 .last .0) (c .before .before .before .before .before .before .before .before .before .before .args .at) (c .before .before .before .before .before .before .before .before .before .before .args .count) (c .before .before .before .before .before .before .before .before .before .before .args .x) (c .before .before .before .before .before .before .before .before .before .before .args .y) (c .before .before .before .before .before .before .before .before .before .before .args .z) (c .before .before .before .before .before .before .before .put .ensures) (c .before .before .before .put2 .ensures) (c .if1 .left)
+returns-2 c = let s0 = c .before .before .before .before .before .before .before .before .before .before in let s1 = c .before .before .before .before .before .before .before in let s2 = c .before .before .before in laying.wrote-two (now (s0 .args .out)) (s1 .put .last .0) (s2 .put2 .last .0) (s0 .args .at) (s0 .args .count) (s0 .args .x) (s0 .args .y) (s0 .args .z) (s1 .put .ensures) (s2 .put2 .ensures) (c .if1 .left)
 
 pub write-spec : {M : Type 1} → statement M
 write-spec =

@@ -17,10 +17,10 @@ abbrev μ-loop : tie.MeasureT-loop
 μ-loop w₀ table out₀ count seat d heads units kept set₀ at₀ w out set at = count - set
 
 loop-holds : tie.Need-loop-holds Inv-loop μ-loop
-loop-holds c = (laying.laying-start (now (c .before .before .before .args .table)) (c .before .before .before .args .count) (c .before .before .before .args .seat) (c .before .before .before .args .d) (c .before .before .before .args .heads) (c .before .before .before .args .units) (c .before .before .before .args .kept) (now (c .before .before .before .args .w)) (now (c .before .before .before .args .out)), omega arith, refl, refl)
+loop-holds c = let s0 = c .before .before .before in (laying.laying-start (now (s0 .args .table)) (s0 .args .count) (s0 .args .seat) (s0 .args .d) (s0 .args .heads) (s0 .args .units) (s0 .args .kept) (now (s0 .args .w)) (now (s0 .args .out)), omega arith, refl, refl)
 
 add-word : tie.Need-add-word Inv-loop μ-loop
-add-word c = record { fits = omega (arith, c .before .before .loop .inv .1, c .before .loop-test .taken, c .before .before .before .before .before .before .pre .2, c .before .before .before .before .before .before .pre .0 .heads) }
+add-word c = let s0 = c .before .before .before .before .before .before in record { fits = omega (arith, c .before .before .loop .inv .1, c .before .loop-test .taken, s0 .pre .2, s0 .pre .0 .heads) }
 
 word-requires : tie.Need-word-requires Inv-loop μ-loop
 word-requires c κs = search needs
@@ -29,7 +29,7 @@ word-requires-2 : tie.Need-word-requires-2 Inv-loop μ-loop
 word-requires-2 c κs = search needs
 
 write-set-requires : tie.Need-write-set-requires Inv-loop μ-loop
-write-set-requires c κs = (walk-at 0 (c .before .before .before .before .before .before .before .before .before .before .before .args .seat) 32 (c .before .before .before .before .before .before .before .before .before .before .before .args .heads) (c .before .before .before .before .before .before .before .before .before .before .before .args .units) (c .before .before .before .before .before .before .before .before .before .before .before .args .kept) (c .before .before .before .before .before .before .before .before .before .before .before .pre .0) (c .before .before .before .before .before .before .before .loop .at) 32 (omega arith) (omega (arith, c .before .before .before .before .before .before .before .loop .inv .1, c .before .before .before .before .before .before .loop-test .taken, c .before .before .before .before .before .before .before .before .before .before .before .pre .2)), c .before .before .before .before .before .before .before .before .before .before .before .pre .1)
+write-set-requires c κs = let s0 = c .before .before .before .before .before .before .before .before .before .before .before in let s1 = c .before .before .before .before .before .before .before in (walk-at 0 (s0 .args .seat) 32 (s0 .args .heads) (s0 .args .units) (s0 .args .kept) (s0 .pre .0) (s1 .loop .at) 32 (omega arith) (omega (arith, s1 .loop .inv .1, c .before .before .before .before .before .before .loop-test .taken, s0 .pre .2)), s0 .pre .1)
 
 actions-requires : tie.Need-actions-requires Inv-loop μ-loop
 actions-requires c κs = search needs
@@ -44,7 +44,7 @@ loop-less : tie.Need-loop-less Inv-loop μ-loop
 loop-less c = omega (arith, c .before .before .before .before .before .before .before .before .before .before .before .before .loop-test .taken)
 
 loop-again : tie.Need-loop-again Inv-loop μ-loop
-loop-again c = (subst (λ z. laying.Laying (now (c .before .before .before .before .before .before .before .before .before .before .before .before .before .before .before .before .before .args .table)) (c .before .before .before .before .before .before .before .before .before .before .before .before .before .before .before .before .before .args .count) (c .before .before .before .before .before .before .before .before .before .before .before .before .before .before .before .before .before .args .seat) (c .before .before .before .before .before .before .before .before .before .before .before .before .before .before .before .before .before .args .d) (c .before .before .before .before .before .before .before .before .before .before .before .before .before .before .before .before .before .args .heads) (c .before .before .before .before .before .before .before .before .before .before .before .before .before .before .before .before .before .args .units) (c .before .before .before .before .before .before .before .before .before .before .before .before .before .before .before .before .before .args .kept) (now (c .before .before .before .before .before .before .before .before .before .before .before .before .before .before .before .before .before .args .w)) (now (c .before .before .before .before .before .before .before .before .before .before .before .before .before .before .before .before .before .args .out)) (c .before .before .before .before .before .write-set .last .0) (c .before .before .before .before .before .write-set .last .1 .1 .0) (c .before .before .before .before .before .before .before .before .before .before .before .before .before .loop .set + 1) (c .before .before .before .before .before .before .before .before .before .before .before .before .before .loop .at + z)) (sym (c .actions .ensures)) (laying.laying-more (now (c .before .before .before .before .before .before .before .before .before .before .before .before .before .before .before .before .before .args .table)) (c .before .before .before .before .before .before .before .before .before .before .before .before .before .before .before .before .before .args .count) (c .before .before .before .before .before .before .before .before .before .before .before .before .before .before .before .before .before .args .seat) (c .before .before .before .before .before .before .before .before .before .before .before .before .before .before .before .before .before .args .d) (c .before .before .before .before .before .before .before .before .before .before .before .before .before .before .before .before .before .args .heads) (c .before .before .before .before .before .before .before .before .before .before .before .before .before .before .before .before .before .args .units) (c .before .before .before .before .before .before .before .before .before .before .before .before .before .before .before .before .before .args .kept) (now (c .before .before .before .before .before .before .before .before .before .before .before .before .before .before .before .before .before .args .w)) (now (c .before .before .before .before .before .before .before .before .before .before .before .before .before .before .before .before .before .args .out)) (c .before .before .before .before .before .before .before .before .before .before .before .before .before .loop .w) (c .before .before .before .before .before .write-set .last .0) (c .before .before .before .before .before .before .before .before .before .before .before .before .before .loop .out) (c .before .before .before .before .before .write-set .last .1 .1 .0) (c .before .before .before .before .before .before .before .before .before .before .before .before .before .loop .set) (c .before .before .before .before .before .before .before .before .before .before .before .before .before .loop .at) (c .before .before .before .before .before .before .before .before .word2 .result) (c .before .before .before .before .before .before .before .before .before .before .before .before .loop-test .taken) (c .before .before .before .before .before .before .before .before .before .before .before .before .before .loop .inv .0) (c .before .before .before .before .before .before .before .before .word2 .ensures ∙ ap (λ z. getD (c .before .before .before .before .before .before .before .before .before .before .before .before .before .loop .w) (z % 2097152) 0) (c .before .before .before .before .before .before .before .before .before .before .word .ensures)) (c .before .before .before .before .before .write-set .ensures)), omega (arith, c .before .before .before .before .before .before .before .before .before .before .before .before .before .loop .inv .1, c .actions .ensures), omega (arith, c .before .before .before .before .before .write-set .kept .0, c .before .before .before .before .before .before .before .before .before .before .before .before .before .loop .inv .2), omega (arith, c .before .before .before .before .before .write-set .kept .1 .1 .0, c .before .before .before .before .before .before .before .before .before .before .before .before .before .loop .inv .3))
+loop-again c = let s0 = c .before .before .before .before .before .before .before .before .before .before .before .before .before .before .before .before .before in let s1 = c .before .before .before .before .before .before .before .before .before .before .before .before .before in let s2 = c .before .before .before .before .before .before .before .before in let s3 = c .before .before .before .before .before in (subst (λ z. laying.Laying (now (s0 .args .table)) (s0 .args .count) (s0 .args .seat) (s0 .args .d) (s0 .args .heads) (s0 .args .units) (s0 .args .kept) (now (s0 .args .w)) (now (s0 .args .out)) (s3 .write-set .last .0) (s3 .write-set .last .1 .1 .0) (s1 .loop .set + 1) (s1 .loop .at + z)) (sym (c .actions .ensures)) (laying.laying-more (now (s0 .args .table)) (s0 .args .count) (s0 .args .seat) (s0 .args .d) (s0 .args .heads) (s0 .args .units) (s0 .args .kept) (now (s0 .args .w)) (now (s0 .args .out)) (s1 .loop .w) (s3 .write-set .last .0) (s1 .loop .out) (s3 .write-set .last .1 .1 .0) (s1 .loop .set) (s1 .loop .at) (s2 .word2 .result) (c .before .before .before .before .before .before .before .before .before .before .before .before .loop-test .taken) (s1 .loop .inv .0) (s2 .word2 .ensures ∙ ap (λ z. getD (s1 .loop .w) (z % 2097152) 0) (c .before .before .before .before .before .before .before .before .before .before .word .ensures)) (s3 .write-set .ensures)), omega (arith, s1 .loop .inv .1, c .actions .ensures), omega (arith, s3 .write-set .kept .0, s1 .loop .inv .2), omega (arith, s3 .write-set .kept .1 .1 .0, s1 .loop .inv .3))
 
 same-length : tie.Need-same-length Inv-loop μ-loop
 same-length c = search needs
@@ -53,7 +53,7 @@ same-length-2 : tie.Need-same-length-2 Inv-loop μ-loop
 same-length-2 c = search needs
 
 returns : tie.Need-returns Inv-loop μ-loop
-returns c = laying.laying-end (now (c .before .before .before .before .before .args .table)) (c .before .before .before .before .before .args .count) (c .before .before .before .before .before .args .seat) (c .before .before .before .before .before .args .d) (c .before .before .before .before .before .args .heads) (c .before .before .before .before .before .args .units) (c .before .before .before .before .before .args .kept) (now (c .before .before .before .before .before .args .w)) (now (c .before .before .before .before .before .args .out)) (c .before .loop .w) (c .before .loop .out) (c .before .loop .set) (c .before .loop .at) (omega (arith, c .loop-test .left)) (c .before .loop .inv .0)
+returns c = let s0 = c .before .before .before .before .before in laying.laying-end (now (s0 .args .table)) (s0 .args .count) (s0 .args .seat) (s0 .args .d) (s0 .args .heads) (s0 .args .units) (s0 .args .kept) (now (s0 .args .w)) (now (s0 .args .out)) (c .before .loop .w) (c .before .loop .out) (c .before .loop .set) (c .before .loop .at) (omega (arith, c .loop-test .left)) (c .before .loop .inv .0)
 
 pub write-reply-spec : {M : Type 1} → statement M
 write-reply-spec =

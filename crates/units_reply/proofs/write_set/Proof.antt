@@ -34,7 +34,7 @@ same-length : tie.Need-same-length
 same-length c = search needs
 
 returns : tie.Need-returns
-returns c = laying.laid-other (now (c .before .before .before .before .before .before .before .before .before .before .before .before .before .args .table)) (c .before .before .before .before .before .before .before .before .before .before .before .before .before .args .x) (c .before .before .before .before .before .before .before .before .before .before .before .before .before .args .at) (c .before .before .before .before .before .before .before .before .before .before .before .before .before .args .seat) (c .before .before .before .before .before .before .before .before .before .before .before .before .before .args .d) (c .before .before .before .before .before .before .before .before .before .before .before .before .before .args .heads) (c .before .before .before .before .before .before .before .before .before .before .before .before .before .args .units) (c .before .before .before .before .before .before .before .before .before .before .before .before .before .args .kept) (now (c .before .before .before .before .before .before .before .before .before .before .before .before .before .args .w)) (now (c .before .before .before .before .before .before .before .before .before .before .before .before .before .args .out)) (c .before .before .write .last .0) (c .before .before .before .before .before .before .before .before .before .actions .result) (c .before .before .before .before .before .before .byte .result) (c .before .before .before .before .before .byte2 .result) (c .before .before .before .before .byte3 .result) (c .before .before .before .before .before .before .before .before .before .actions .ensures) (c .before .before .write .ensures) (λ q. c .before .before .before .before .before .before .before .if1 .taken (c .before .before .before .before .before .before .before .before .actor .ensures ∙ q)) (c .before .before .before .before .before .before .byte .ensures) (c .before .before .before .before .before .byte2 .ensures) (c .before .before .before .before .byte3 .ensures)
+returns c = let s0 = c .before .before .before .before .before .before .before .before .before .before .before .before .before in let s1 = c .before .before .before .before .before .before .before .before .before in let s2 = c .before .before .before .before .before .before in let s3 = c .before .before .before .before .before in let s4 = c .before .before .before .before in laying.laid-other (now (s0 .args .table)) (s0 .args .x) (s0 .args .at) (s0 .args .seat) (s0 .args .d) (s0 .args .heads) (s0 .args .units) (s0 .args .kept) (now (s0 .args .w)) (now (s0 .args .out)) (c .before .before .write .last .0) (s1 .actions .result) (s2 .byte .result) (s3 .byte2 .result) (s4 .byte3 .result) (s1 .actions .ensures) (c .before .before .write .ensures) (λ q. c .before .before .before .before .before .before .before .if1 .taken (c .before .before .before .before .before .before .before .before .actor .ensures ∙ q)) (s2 .byte .ensures) (s3 .byte2 .ensures) (s4 .byte3 .ensures)
 
 choose-requires : tie.Need-choose-requires
 choose-requires c κs = search needs
@@ -58,7 +58,7 @@ same-length-3 : tie.Need-same-length-3
 same-length-3 c = search needs
 
 returns-2 : tie.Need-returns-2
-returns-2 c = laying.laid-own (now (c .before .before .before .before .before .before .before .before .before .before .before .before .before .before .before .before .before .args .table)) (c .before .before .before .before .before .before .before .before .before .before .before .before .before .before .before .before .before .args .x) (c .before .before .before .before .before .before .before .before .before .before .before .before .before .before .before .before .before .args .at) (c .before .before .before .before .before .before .before .before .before .before .before .before .before .before .before .before .before .args .seat) (c .before .before .before .before .before .before .before .before .before .before .before .before .before .before .before .before .before .args .d) (c .before .before .before .before .before .before .before .before .before .before .before .before .before .before .before .before .before .args .heads) (c .before .before .before .before .before .before .before .before .before .before .before .before .before .before .before .before .before .args .units) (c .before .before .before .before .before .before .before .before .before .before .before .before .before .before .before .before .before .args .kept) (now (c .before .before .before .before .before .before .before .before .before .before .before .before .before .before .before .before .before .args .w)) (now (c .before .before .before .before .before .before .before .before .before .before .before .before .before .before .before .before .before .args .out)) (c .before .before .write2 .last .0) (c .before .before .before .before .before .before .before .before .before .before .before .before .before .actions .result) (c .before .before .before .before .before .before .pure .result) (c .before .before .before .before .before .pure2 .result) (c .before .before .before .before .pure3 .result) (c .before .before .before .before .before .before .before .before .before .before .before .before .before .actions .ensures) (c .before .before .write2 .ensures) (c .before .before .before .before .before .before .before .before .before .choose .last .0) (c .before .before .before .before .before .before .before .before .before .choose .result) (sym (c .before .before .before .before .before .before .before .before .before .before .before .before .actor .ensures) ∙ c .before .before .before .before .before .before .before .before .before .before .before .if1 .left) (c .before .before .before .before .before .before .before .before .before .choose .ensures) (c .before .before .before .before .before .before .pure .ensures) (c .before .before .before .before .before .pure2 .ensures) (c .before .before .before .before .pure3 .ensures)
+returns-2 c = let s0 = c .before .before .before .before .before .before .before .before .before .before .before .before .before .before .before .before .before in let s1 = c .before .before .before .before .before .before .before .before .before .before .before .before .before in let s2 = c .before .before .before .before .before .before .before .before .before in let s3 = c .before .before .before .before .before .before in let s4 = c .before .before .before .before .before in let s5 = c .before .before .before .before in laying.laid-own (now (s0 .args .table)) (s0 .args .x) (s0 .args .at) (s0 .args .seat) (s0 .args .d) (s0 .args .heads) (s0 .args .units) (s0 .args .kept) (now (s0 .args .w)) (now (s0 .args .out)) (c .before .before .write2 .last .0) (s1 .actions .result) (s3 .pure .result) (s4 .pure2 .result) (s5 .pure3 .result) (s1 .actions .ensures) (c .before .before .write2 .ensures) (s2 .choose .last .0) (s2 .choose .result) (sym (c .before .before .before .before .before .before .before .before .before .before .before .before .actor .ensures) ∙ c .before .before .before .before .before .before .before .before .before .before .before .if1 .left) (s2 .choose .ensures) (s3 .pure .ensures) (s4 .pure2 .ensures) (s5 .pure3 .ensures)
 
 pub write-set-spec : {M : Type 1} → statement M
 write-set-spec =

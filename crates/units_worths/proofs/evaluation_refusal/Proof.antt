@@ -10,13 +10,13 @@ tree-refusal-requires : tie.Need-tree-refusal-requires
 tree-refusal-requires c κs = search needs
 
 returns : tie.Need-returns
-returns c = c .before .tree-refusal .ensures ∙ first-refused (tree-checks (c .before .before .before .args .g) (c .before .before .before .args .words)) _ (λ q. c .if1 .taken (c .before .tree-refusal .ensures ∙ q))
+returns c = let s0 = c .before .before .before in c .before .tree-refusal .ensures ∙ first-refused (tree-checks (s0 .args .g) (s0 .args .words)) _ (λ q. c .if1 .taken (c .before .tree-refusal .ensures ∙ q))
 
 table-refusal-requires : tie.Need-table-refusal-requires
-table-refusal-requires c κs = tree-known (c .before .before .before .args .g) (c .before .before .before .args .words) (sym (c .before .tree-refusal .ensures) ∙ c .if1 .left)
+table-refusal-requires c κs = let s0 = c .before .before .before in tree-known (s0 .args .g) (s0 .args .words) (sym (c .before .tree-refusal .ensures) ∙ c .if1 .left)
 
 returns-2 : tie.Need-returns-2
-returns-2 c = c .table-refusal .ensures ∙ sym (tree-passed (c .before .before .before .before .args .g) (c .before .before .before .before .args .words) _ (sym (c .before .before .tree-refusal .ensures) ∙ c .before .if1 .left))
+returns-2 c = let s0 = c .before .before .before .before in c .table-refusal .ensures ∙ sym (tree-passed (s0 .args .g) (s0 .args .words) _ (sym (c .before .before .tree-refusal .ensures) ∙ c .before .if1 .left))
 
 pub evaluation-refusal-spec : {M : Type 1} → statement M
 evaluation-refusal-spec =

@@ -16,22 +16,22 @@ evaluation-refusal-requires : tie.Need-evaluation-refusal-requires
 evaluation-refusal-requires c κs = search needs
 
 returns : tie.Need-returns
-returns c = (not-valued _ _ (gameOf (c .before .before .before .before .args .number) (c .before .before .before .before .args .seats)) (c .before .before .before .before .args .d) (c .before .before .before .before .args .table .now) (c .before .evaluation-refusal .ensures) (c .if1 .taken), all-left _ (gameOf (c .before .before .before .before .args .number) (c .before .before .before .before .args .seats)) (c .before .before .before .before .args .work .now) (c .if1 .taken))
+returns c = let s0 = c .before .before .before .before in (not-valued _ _ (gameOf (s0 .args .number) (s0 .args .seats)) (s0 .args .d) (s0 .args .table .now) (c .before .evaluation-refusal .ensures) (c .if1 .taken), all-left _ (gameOf (s0 .args .number) (s0 .args .seats)) (s0 .args .work .now) (c .if1 .taken))
 
 nodes-requires : tie.Need-nodes-requires
-nodes-requires c κs = accepted-game (gameOf (c .before .before .before .before .args .number) (c .before .before .before .before .args .seats)) (length (c .before .before .before .before .args .work .now)) (c .before .before .before .before .args .d) (c .before .before .before .before .args .table .now) (sym (c .before .evaluation-refusal .ensures) ∙ c .if1 .left) .seats
+nodes-requires c κs = let s0 = c .before .before .before .before in accepted-game (gameOf (s0 .args .number) (s0 .args .seats)) (length (s0 .args .work .now)) (s0 .args .d) (s0 .args .table .now) (sym (c .before .evaluation-refusal .ensures) ∙ c .if1 .left) .seats
 
 mul-words : tie.Need-mul-words
-mul-words c = omega (arith, nodes-room (gameOf (c .before .before .before .before .before .args .number) (c .before .before .before .before .before .args .seats)) (length (c .before .before .before .before .before .args .work .now)) (c .before .before .before .before .before .args .d) (c .before .before .before .before .before .args .table .now) (sym (c .before .before .evaluation-refusal .ensures) ∙ c .before .if1 .left) _ (c .nodes .ensures))
+mul-words c = let s0 = c .before .before .before .before .before in omega (arith, nodes-room (gameOf (s0 .args .number) (s0 .args .seats)) (length (s0 .args .work .now)) (s0 .args .d) (s0 .args .table .now) (sym (c .before .before .evaluation-refusal .ensures) ∙ c .before .if1 .left) _ (c .nodes .ensures))
 
 slice-relend-prefix-evaluate : tie.Need-slice-relend-prefix-evaluate
-slice-relend-prefix-evaluate c = nodes-room (gameOf (c .before .before .before .before .before .args .number) (c .before .before .before .before .before .args .seats)) (length (c .before .before .before .before .before .args .work .now)) (c .before .before .before .before .before .args .d) (c .before .before .before .before .before .args .table .now) (sym (c .before .before .evaluation-refusal .ensures) ∙ c .before .if1 .left) _ (c .nodes .ensures)
+slice-relend-prefix-evaluate c = let s0 = c .before .before .before .before .before in nodes-room (gameOf (s0 .args .number) (s0 .args .seats)) (length (s0 .args .work .now)) (s0 .args .d) (s0 .args .table .now) (sym (c .before .before .evaluation-refusal .ensures) ∙ c .before .if1 .left) _ (c .nodes .ensures)
 
 slice-aggregate-evaluate : tie.Need-slice-aggregate-evaluate
-slice-aggregate-evaluate c = sym (length-take-le (12 * c .before .nodes .result) (c .before .before .before .before .before .before .args .work .now) (nodes-room (gameOf (c .before .before .before .before .before .before .args .number) (c .before .before .before .before .before .before .args .seats)) (length (c .before .before .before .before .before .before .args .work .now)) (c .before .before .before .before .before .before .args .d) (c .before .before .before .before .before .before .args .table .now) (sym (c .before .before .before .evaluation-refusal .ensures) ∙ c .before .before .if1 .left) _ (c .before .nodes .ensures)))
+slice-aggregate-evaluate c = let s0 = c .before .before .before .before .before .before in sym (length-take-le (12 * c .before .nodes .result) (s0 .args .work .now) (nodes-room (gameOf (s0 .args .number) (s0 .args .seats)) (length (s0 .args .work .now)) (s0 .args .d) (s0 .args .table .now) (sym (c .before .before .before .evaluation-refusal .ensures) ∙ c .before .before .if1 .left) _ (c .before .nodes .ensures)))
 
 evaluate-requires : tie.Need-evaluate-requires
-evaluate-requires c κs = (accepted-table (gameOf (c .before .before .before .before .before .before .args .number) (c .before .before .before .before .before .before .args .seats)) (length (c .before .before .before .before .before .before .args .work .now)) (c .before .before .before .before .before .before .args .d) (c .before .before .before .before .before .before .args .table .now) (sym (c .before .before .before .evaluation-refusal .ensures) ∙ c .before .before .if1 .left), part-room (gameOf (c .before .before .before .before .before .before .args .number) (c .before .before .before .before .before .before .args .seats)) (length (c .before .before .before .before .before .before .args .work .now)) (c .before .before .before .before .before .before .args .d) (c .before .before .before .before .before .before .args .table .now) (sym (c .before .before .before .evaluation-refusal .ensures) ∙ c .before .before .if1 .left) _ (c .before .before .before .before .before .before .args .work .now) (c .before .nodes .ensures) refl)
+evaluate-requires c κs = let s0 = c .before .before .before .before .before .before in let s1 = c .before .before .before in (accepted-table (gameOf (s0 .args .number) (s0 .args .seats)) (length (s0 .args .work .now)) (s0 .args .d) (s0 .args .table .now) (sym (s1 .evaluation-refusal .ensures) ∙ c .before .before .if1 .left), part-room (gameOf (s0 .args .number) (s0 .args .seats)) (length (s0 .args .work .now)) (s0 .args .d) (s0 .args .table .now) (sym (s1 .evaluation-refusal .ensures) ∙ c .before .before .if1 .left) _ (s0 .args .work .now) (c .before .nodes .ensures) refl)
 
 same-length : tie.Need-same-length
 same-length c = search needs

@@ -17,7 +17,7 @@ add-result : tie.Need-add-result
 add-result c = search needs
 
 returns : tie.Need-returns
-returns c = at-end (now (c .before .before .before .before .args .w)) (c .before .before .before .before .args .a) (ap kindOf (sym (c .before .before .word .ensures)) ∙ sym (c .before .kind .ensures) ∙ c .if1 .taken)
+returns c = let s0 = c .before .before .before .before in at-end (now (s0 .args .w)) (s0 .args .a) (ap kindOf (sym (c .before .before .word .ensures)) ∙ sym (c .before .kind .ensures) ∙ c .if1 .taken)
 
 next-requires : tie.Need-next-requires
 next-requires c κs = search needs

@@ -20,7 +20,7 @@ returns : tie.Need-returns Inv-loop μ-loop
 returns c = along-stuck _ _ _ _ _ _ (c .before .before .before .loop .inv .0) (c .before .before .loop-test .taken) (c .before .behind .ensures) (c .if1 .taken)
 
 add-count : tie.Need-add-count Inv-loop μ-loop
-add-count c = record { fits = omega (arith, c .before .before .before .loop .inv .1, c .before .before .before .loop .inv .2) }
+add-count c = let s0 = c .before .before .before in record { fits = omega (arith, s0 .loop .inv .1, s0 .loop .inv .2) }
 
 loop-less : tie.Need-loop-less Inv-loop μ-loop
 loop-less c = omega (arith, c .before .before .loop-test .taken, c .if1 .left)

@@ -27,7 +27,7 @@ loop-less : tie.Need-loop-less Inv-loop μ-loop
 loop-less c = omega arith
 
 loop-again : tie.Need-loop-again Inv-loop μ-loop
-loop-again c = (clear-more _ _ _ _ _ (c .before .before .before .before .before .loop .inv .1) (c .before .before .before .before .before .loop .inv .0) (c .before .before .put .ensures), omega (arith, c .before .before .before .before .before .loop .inv .1), omega (arith, c .before .before .before .before .loop-test .taken))
+loop-again c = let s0 = c .before .before .before .before .before in (clear-more _ _ _ _ _ (s0 .loop .inv .1) (s0 .loop .inv .0) (c .before .before .put .ensures), omega (arith, s0 .loop .inv .1), omega (arith, c .before .before .before .before .loop-test .taken))
 
 same-length : tie.Need-same-length Inv-loop μ-loop
 same-length c = c .before .loop .inv .0 .kept .long

@@ -118,249 +118,83 @@ value-at t = and 2 value-kinds.ps (is 2 value-kinds.ps μ-value t) value.Pre
 abbrev value-below : ℕ → In 2 value-kinds.ps
 value-below t = and 2 value-kinds.ps (falls 2 value-kinds.ps _<_ μ-value t) value.Pre
 
+abbrev choose-callees : ℕ → choose-lts.Claims
+choose-callees t = (word-reads.Asked, word-reads.Learnt, start-reads.Asked, start-reads.Learnt, total-below t, total.Post, past-reads.Asked, past-reads.Learnt, put-reads.Asked, put-reads.Learnt)
+
+abbrev dealt-callees : ℕ → dealt-lts.Claims
+dealt-callees t = (fan-reads.Asked, fan-reads.Learnt, weight-reads.Asked, weight-reads.Learnt, gain-below t, gain.Post, behind-reads.Asked, behind-reads.Learnt)
+
+abbrev gain-callees : ℕ → gain-lts.Claims
+gain-callees t = (word-reads.Asked, word-reads.Learnt, kind-reads.Asked, kind-reads.Learnt, payoff-of-reads.Asked, payoff-of-reads.Learnt, value-below t, value.Post)
+
+abbrev own-callees : ℕ → own-lts.Claims
+own-callees t = (set-reads.Asked, set-reads.Learnt, actions-reads.Asked, actions-reads.Learnt, choose-below t, choose.Post, child-reads.Asked, child-reads.Learnt, gain-below t, gain.Post)
+
+abbrev split-callees : ℕ → split-lts.Claims
+split-callees t = (set-reads.Asked, set-reads.Learnt, actions-reads.Asked, actions-reads.Learnt, gain-below t, gain.Post, weighed-reads.Asked, weighed-reads.Learnt, behind-reads.Asked, behind-reads.Learnt)
+
+abbrev total-callees : ℕ → total-lts.Claims
+total-callees t = (word-reads.Asked, word-reads.Learnt, child-reads.Asked, child-reads.Learnt, gain-below t, gain.Post, reached-reads.Asked, reached-reads.Learnt, later-reads.Asked, later-reads.Learnt)
+
+abbrev value-callees : ℕ → value-lts.Claims
+value-callees t = (word-reads.Asked, word-reads.Learnt, kind-reads.Asked, kind-reads.Learnt, next-reads.Asked, next-reads.Learnt, dealt-below t, dealt.Post, actor-reads.Asked, actor-reads.Learnt, own-below t, own.Post, split-below t, split.Post)
+
 abbrev choose-Inv-loop : choose-lts.InvT-loop
 choose-Inv-loop w₀ profile first count seat depth heads reach kept known lead₀ action₀ w lead action = choosing.Led profile seat depth heads reach kept first count w₀ w (lead .action) (lead .sum) action × (lead .action ≤ action - 1) × (action ≤ count) × (length w ≡ length w₀)
 
 abbrev choose-μ-loop : choose-lts.MeasureT-loop
 choose-μ-loop w₀ profile first count seat depth heads reach kept known lead₀ action₀ w lead action = count - action
 
-choose-add-word : (t : ℕ) → choose-lts.Need-add-word (
-  word-reads.Asked,
-  word-reads.Learnt,
-  start-reads.Asked,
-  start-reads.Learnt,
-  total-below t,
-  total.Post,
-  past-reads.Asked,
-  past-reads.Learnt,
-  put-reads.Asked,
-  put-reads.Learnt,
-) (choose-at t) choose.Post choose-Inv-loop choose-μ-loop
-choose-add-word t c = record { fits = omega (arith, c .before .before .before .pre .1 .kept, c .before .before .before .pre .1 .place) }
+choose-add-word : (t : ℕ) → choose-lts.Need-add-word (choose-callees t) (choose-at t) choose.Post choose-Inv-loop choose-μ-loop
+choose-add-word t c = let s0 = c .before .before .before in record { fits = omega (arith, s0 .pre .1 .kept, s0 .pre .1 .place) }
 
-choose-word-requires : (t : ℕ) → choose-lts.Need-word-requires (
-  word-reads.Asked,
-  word-reads.Learnt,
-  start-reads.Asked,
-  start-reads.Learnt,
-  total-below t,
-  total.Post,
-  past-reads.Asked,
-  past-reads.Learnt,
-  put-reads.Asked,
-  put-reads.Learnt,
-) (choose-at t) choose.Post choose-Inv-loop choose-μ-loop
+choose-word-requires : (t : ℕ) → choose-lts.Need-word-requires (choose-callees t) (choose-at t) choose.Post choose-Inv-loop choose-μ-loop
 choose-word-requires t c κs = search needs
 
-choose-sub-result : (t : ℕ) → choose-lts.Need-sub-result (
-  word-reads.Asked,
-  word-reads.Learnt,
-  start-reads.Asked,
-  start-reads.Learnt,
-  total-below t,
-  total.Post,
-  past-reads.Asked,
-  past-reads.Learnt,
-  put-reads.Asked,
-  put-reads.Learnt,
-) (choose-at t) choose.Post choose-Inv-loop choose-μ-loop
+choose-sub-result : (t : ℕ) → choose-lts.Need-sub-result (choose-callees t) (choose-at t) choose.Post choose-Inv-loop choose-μ-loop
 choose-sub-result t c = omega (arith, c .if1 .taken)
 
-choose-same-length : (t : ℕ) → choose-lts.Need-same-length (
-  word-reads.Asked,
-  word-reads.Learnt,
-  start-reads.Asked,
-  start-reads.Learnt,
-  total-below t,
-  total.Post,
-  past-reads.Asked,
-  past-reads.Learnt,
-  put-reads.Asked,
-  put-reads.Learnt,
-) (choose-at t) choose.Post choose-Inv-loop choose-μ-loop
+choose-same-length : (t : ℕ) → choose-lts.Need-same-length (choose-callees t) (choose-at t) choose.Post choose-Inv-loop choose-μ-loop
 choose-same-length t c = search needs
 
-choose-returns : (t : ℕ) → choose-lts.Need-returns (
-  word-reads.Asked,
-  word-reads.Learnt,
-  start-reads.Asked,
-  start-reads.Learnt,
-  total-below t,
-  total.Post,
-  past-reads.Asked,
-  past-reads.Learnt,
-  put-reads.Asked,
-  put-reads.Learnt,
-) (choose-at t) choose.Post choose-Inv-loop choose-μ-loop
-choose-returns t c = choosing.chosen-known (now (c .before .before .before .before .before .args .profile)) (c .before .before .before .before .before .args .seat) (c .before .before .before .before .before .args .depth) (c .before .before .before .before .before .args .heads) (c .before .before .before .before .before .args .reach) (c .before .before .before .before .before .args .kept) (c .before .before .before .before .before .args .first) (c .before .before .before .before .before .args .count) (now (c .before .before .before .before .before .args .w)) (c .before .word .result) _ (c .before .word .ensures) (c .if1 .taken) refl
+choose-returns : (t : ℕ) → choose-lts.Need-returns (choose-callees t) (choose-at t) choose.Post choose-Inv-loop choose-μ-loop
+choose-returns t c = let s0 = c .before .before .before .before .before in choosing.chosen-known (now (s0 .args .profile)) (s0 .args .seat) (s0 .args .depth) (s0 .args .heads) (s0 .args .reach) (s0 .args .kept) (s0 .args .first) (s0 .args .count) (now (s0 .args .w)) (c .before .word .result) _ (c .before .word .ensures) (c .if1 .taken) refl
 
-choose-start-requires : (t : ℕ) → choose-lts.Need-start-requires (
-  word-reads.Asked,
-  word-reads.Learnt,
-  start-reads.Asked,
-  start-reads.Learnt,
-  total-below t,
-  total.Post,
-  past-reads.Asked,
-  past-reads.Learnt,
-  put-reads.Asked,
-  put-reads.Learnt,
-) (choose-at t) choose.Post choose-Inv-loop choose-μ-loop
+choose-start-requires : (t : ℕ) → choose-lts.Need-start-requires (choose-callees t) (choose-at t) choose.Post choose-Inv-loop choose-μ-loop
 choose-start-requires t c κs = search needs
 
-choose-loop-holds : (t : ℕ) → choose-lts.Need-loop-holds (
-  word-reads.Asked,
-  word-reads.Learnt,
-  start-reads.Asked,
-  start-reads.Learnt,
-  total-below t,
-  total.Post,
-  past-reads.Asked,
-  past-reads.Learnt,
-  put-reads.Asked,
-  put-reads.Learnt,
-) (choose-at t) choose.Post choose-Inv-loop choose-μ-loop
-choose-loop-holds t c = (choosing.led-start (now (c .before .before .before .before .before .before .args .profile)) (c .before .before .before .before .before .before .args .seat) (c .before .before .before .before .before .before .args .depth) (c .before .before .before .before .before .before .args .heads) (c .before .before .before .before .before .before .args .reach) (c .before .before .before .before .before .before .args .kept) (c .before .before .before .before .before .before .args .first) (c .before .before .before .before .before .before .args .count) (now (c .before .before .before .before .before .before .args .w)) _ _ (c .start .ensures .0) (c .start .ensures .1), omega (arith, c .start .ensures .0), omega arith, refl)
+choose-loop-holds : (t : ℕ) → choose-lts.Need-loop-holds (choose-callees t) (choose-at t) choose.Post choose-Inv-loop choose-μ-loop
+choose-loop-holds t c = let s0 = c .before .before .before .before .before .before in (choosing.led-start (now (s0 .args .profile)) (s0 .args .seat) (s0 .args .depth) (s0 .args .heads) (s0 .args .reach) (s0 .args .kept) (s0 .args .first) (s0 .args .count) (now (s0 .args .w)) _ _ (c .start .ensures .0) (c .start .ensures .1), omega (arith, c .start .ensures .0), omega arith, refl)
 
-choose-total-requires : (t : ℕ) → choose-lts.Need-total-requires (
-  word-reads.Asked,
-  word-reads.Learnt,
-  start-reads.Asked,
-  start-reads.Learnt,
-  total-below t,
-  total.Post,
-  past-reads.Asked,
-  past-reads.Learnt,
-  put-reads.Asked,
-  put-reads.Learnt,
-) (choose-at t) choose.Post choose-Inv-loop choose-μ-loop
-choose-total-requires t c κs = (omega (arith, c .before .before .before .before .before .before .before .before .before .pre .0), c .before .before .before .before .before .before .before .before .before .pre .1)
+choose-total-requires : (t : ℕ) → choose-lts.Need-total-requires (choose-callees t) (choose-at t) choose.Post choose-Inv-loop choose-μ-loop
+choose-total-requires t c κs = let s0 = c .before .before .before .before .before .before .before .before .before in (omega (arith, s0 .pre .0), s0 .pre .1)
 
-choose-past-requires : (t : ℕ) → choose-lts.Need-past-requires (
-  word-reads.Asked,
-  word-reads.Learnt,
-  start-reads.Asked,
-  start-reads.Learnt,
-  total-below t,
-  total.Post,
-  past-reads.Asked,
-  past-reads.Learnt,
-  put-reads.Asked,
-  put-reads.Learnt,
-) (choose-at t) choose.Post choose-Inv-loop choose-μ-loop
+choose-past-requires : (t : ℕ) → choose-lts.Need-past-requires (choose-callees t) (choose-at t) choose.Post choose-Inv-loop choose-μ-loop
 choose-past-requires t c κs = search needs
 
-choose-add-action : (t : ℕ) → choose-lts.Need-add-action (
-  word-reads.Asked,
-  word-reads.Learnt,
-  start-reads.Asked,
-  start-reads.Learnt,
-  total-below t,
-  total.Post,
-  past-reads.Asked,
-  past-reads.Learnt,
-  put-reads.Asked,
-  put-reads.Learnt,
-) (choose-at t) choose.Post choose-Inv-loop choose-μ-loop
+choose-add-action : (t : ℕ) → choose-lts.Need-add-action (choose-callees t) (choose-at t) choose.Post choose-Inv-loop choose-μ-loop
 choose-add-action t c = record { fits = omega (arith, c .before .before .before .before .before .loop-test .taken) }
 
-choose-loop-less : (t : ℕ) → choose-lts.Need-loop-less (
-  word-reads.Asked,
-  word-reads.Learnt,
-  start-reads.Asked,
-  start-reads.Learnt,
-  total-below t,
-  total.Post,
-  past-reads.Asked,
-  past-reads.Learnt,
-  put-reads.Asked,
-  put-reads.Learnt,
-) (choose-at t) choose.Post choose-Inv-loop choose-μ-loop
+choose-loop-less : (t : ℕ) → choose-lts.Need-loop-less (choose-callees t) (choose-at t) choose.Post choose-Inv-loop choose-μ-loop
 choose-loop-less t c = omega (arith, c .before .before .before .before .before .loop-test .taken)
 
-choose-loop-again : (t : ℕ) → choose-lts.Need-loop-again (
-  word-reads.Asked,
-  word-reads.Learnt,
-  start-reads.Asked,
-  start-reads.Learnt,
-  total-below t,
-  total.Post,
-  past-reads.Asked,
-  past-reads.Learnt,
-  put-reads.Asked,
-  put-reads.Learnt,
-) (choose-at t) choose.Post choose-Inv-loop choose-μ-loop
-choose-loop-again t c = (choosing.led-more (now (c .before .before .before .before .before .before .before .before .before .before .before .before .before .args .profile)) (c .before .before .before .before .before .before .before .before .before .before .before .before .before .args .seat) (c .before .before .before .before .before .before .before .before .before .before .before .before .before .args .depth) (c .before .before .before .before .before .before .before .before .before .before .before .before .before .args .heads) (c .before .before .before .before .before .before .before .before .before .before .before .before .before .args .reach) (c .before .before .before .before .before .before .before .before .before .before .before .before .before .args .kept) (c .before .before .before .before .before .before .before .before .before .before .before .before .before .args .first) (c .before .before .before .before .before .before .before .before .before .before .before .before .before .args .count) (now (c .before .before .before .before .before .before .before .before .before .before .before .before .before .args .w)) (c .before .before .before .before .before .before .loop .w) (c .before .before .before .total .last .0) (c .before .before .before .before .before .before .loop .lead .action) (c .before .before .before .before .before .before .loop .lead .sum) (c .before .before .before .before .before .before .loop .action) (c .before .before .before .total .result) (c .past .result .action) (c .past .result .sum) (c .before .before .before .before .before .before .loop .inv .0) (c .before .before .before .before .before .loop-test .taken) (c .before .before .before .total .ensures) (c .past .ensures .0) (c .past .ensures .1), omega (arith, c .past .ensures .0, past-few (lt (c .before .before .before .before .before .before .loop .lead .sum) (c .before .before .before .total .result)) (c .before .before .before .before .before .before .loop .action) (c .before .before .before .before .before .before .loop .lead .action) (c .before .before .before .before .before .before .loop .inv .1)), omega (arith, c .before .before .before .before .before .loop-test .taken), omega (arith, c .before .before .before .total .kept .0, c .before .before .before .before .before .before .loop .inv .3))
+choose-loop-again : (t : ℕ) → choose-lts.Need-loop-again (choose-callees t) (choose-at t) choose.Post choose-Inv-loop choose-μ-loop
+choose-loop-again t c = let s0 = c .before .before .before .before .before .before .before .before .before .before .before .before .before in let s1 = c .before .before .before .before .before .before in let s2 = c .before .before .before .before .before in let s3 = c .before .before .before in (choosing.led-more (now (s0 .args .profile)) (s0 .args .seat) (s0 .args .depth) (s0 .args .heads) (s0 .args .reach) (s0 .args .kept) (s0 .args .first) (s0 .args .count) (now (s0 .args .w)) (s1 .loop .w) (s3 .total .last .0) (s1 .loop .lead .action) (s1 .loop .lead .sum) (s1 .loop .action) (s3 .total .result) (c .past .result .action) (c .past .result .sum) (s1 .loop .inv .0) (s2 .loop-test .taken) (s3 .total .ensures) (c .past .ensures .0) (c .past .ensures .1), omega (arith, c .past .ensures .0, past-few (lt (s1 .loop .lead .sum) (s3 .total .result)) (s1 .loop .action) (s1 .loop .lead .action) (s1 .loop .inv .1)), omega (arith, s2 .loop-test .taken), omega (arith, s3 .total .kept .0, s1 .loop .inv .3))
 
-choose-add-put : (t : ℕ) → choose-lts.Need-add-put (
-  word-reads.Asked,
-  word-reads.Learnt,
-  start-reads.Asked,
-  start-reads.Learnt,
-  total-below t,
-  total.Post,
-  past-reads.Asked,
-  past-reads.Learnt,
-  put-reads.Asked,
-  put-reads.Learnt,
-) (choose-at t) choose.Post choose-Inv-loop choose-μ-loop
-choose-add-put t c = record { fits = omega (arith, c .before .before .before .before .before .before .before .before .before .pre .1 .kept, c .before .before .before .before .before .before .before .before .before .pre .1 .place) }
+choose-add-put : (t : ℕ) → choose-lts.Need-add-put (choose-callees t) (choose-at t) choose.Post choose-Inv-loop choose-μ-loop
+choose-add-put t c = let s0 = c .before .before .before .before .before .before .before .before .before in record { fits = omega (arith, s0 .pre .1 .kept, s0 .pre .1 .place) }
 
-choose-add-put-2 : (t : ℕ) → choose-lts.Need-add-put-2 (
-  word-reads.Asked,
-  word-reads.Learnt,
-  start-reads.Asked,
-  start-reads.Learnt,
-  total-below t,
-  total.Post,
-  past-reads.Asked,
-  past-reads.Learnt,
-  put-reads.Asked,
-  put-reads.Learnt,
-) (choose-at t) choose.Post choose-Inv-loop choose-μ-loop
+choose-add-put-2 : (t : ℕ) → choose-lts.Need-add-put-2 (choose-callees t) (choose-at t) choose.Post choose-Inv-loop choose-μ-loop
 choose-add-put-2 t c = record { fits = omega (arith, c .before .before .loop .inv .1, c .before .before .loop .inv .2, c .before .loop-test .left) }
 
-choose-put-requires : (t : ℕ) → choose-lts.Need-put-requires (
-  word-reads.Asked,
-  word-reads.Learnt,
-  start-reads.Asked,
-  start-reads.Learnt,
-  total-below t,
-  total.Post,
-  past-reads.Asked,
-  past-reads.Learnt,
-  put-reads.Asked,
-  put-reads.Learnt,
-) (choose-at t) choose.Post choose-Inv-loop choose-μ-loop
+choose-put-requires : (t : ℕ) → choose-lts.Need-put-requires (choose-callees t) (choose-at t) choose.Post choose-Inv-loop choose-μ-loop
 choose-put-requires t c κs = search needs
 
-choose-same-length-2 : (t : ℕ) → choose-lts.Need-same-length-2 (
-  word-reads.Asked,
-  word-reads.Learnt,
-  start-reads.Asked,
-  start-reads.Learnt,
-  total-below t,
-  total.Post,
-  past-reads.Asked,
-  past-reads.Learnt,
-  put-reads.Asked,
-  put-reads.Learnt,
-) (choose-at t) choose.Post choose-Inv-loop choose-μ-loop
+choose-same-length-2 : (t : ℕ) → choose-lts.Need-same-length-2 (choose-callees t) (choose-at t) choose.Post choose-Inv-loop choose-μ-loop
 choose-same-length-2 t c = search needs
 
-choose-returns-2 : (t : ℕ) → choose-lts.Need-returns-2 (
-  word-reads.Asked,
-  word-reads.Learnt,
-  start-reads.Asked,
-  start-reads.Learnt,
-  total-below t,
-  total.Post,
-  past-reads.Asked,
-  past-reads.Learnt,
-  put-reads.Asked,
-  put-reads.Learnt,
-) (choose-at t) choose.Post choose-Inv-loop choose-μ-loop
-choose-returns-2 t c = choosing.led-end (now (c .before .before .before .before .before .before .before .before .before .before .before .before .args .profile)) (c .before .before .before .before .before .before .before .before .before .before .before .before .args .seat) (c .before .before .before .before .before .before .before .before .before .before .before .before .args .depth) (c .before .before .before .before .before .before .before .before .before .before .before .before .args .heads) (c .before .before .before .before .before .before .before .before .before .before .before .before .args .reach) (c .before .before .before .before .before .before .before .before .before .before .before .before .args .kept) (c .before .before .before .before .before .before .before .before .before .before .before .before .args .first) (c .before .before .before .before .before .before .before .before .before .before .before .before .args .count) (now (c .before .before .before .before .before .before .before .before .before .before .before .before .args .w)) (c .before .before .before .before .before .loop .w) (c .before .before .put .last .0) (c .before .before .before .before .before .loop .lead .action) (c .before .before .before .before .before .loop .lead .sum) (c .before .before .before .before .before .loop .action) (c .before .before .before .before .before .loop .inv .0) (omega (arith, c .before .before .before .before .loop-test .left)) (c .before .before .put .ensures)
+choose-returns-2 : (t : ℕ) → choose-lts.Need-returns-2 (choose-callees t) (choose-at t) choose.Post choose-Inv-loop choose-μ-loop
+choose-returns-2 t c = let s0 = c .before .before .before .before .before .before .before .before .before .before .before .before in let s1 = c .before .before .before .before .before in choosing.led-end (now (s0 .args .profile)) (s0 .args .seat) (s0 .args .depth) (s0 .args .heads) (s0 .args .reach) (s0 .args .kept) (s0 .args .first) (s0 .args .count) (now (s0 .args .w)) (s1 .loop .w) (c .before .before .put .last .0) (s1 .loop .lead .action) (s1 .loop .lead .sum) (s1 .loop .action) (s1 .loop .inv .0) (omega (arith, c .before .before .before .before .loop-test .left)) (c .before .before .put .ensures)
 
 abbrev dealt-Inv-loop : dealt-lts.InvT-loop
 dealt-Inv-loop w₀ profile a end seat depth heads reach kept each sum₀ at₀ w sum at = valuing.Along profile seat depth heads reach kept a end w₀ each w at sum × (at + depth < 8388608) × (length w ≡ length w₀)
@@ -368,331 +202,83 @@ dealt-Inv-loop w₀ profile a end seat depth heads reach kept each sum₀ at₀ 
 abbrev dealt-μ-loop : dealt-lts.MeasureT-loop
 dealt-μ-loop w₀ profile a end seat depth heads reach kept each sum₀ at₀ w sum at = end - at
 
-dealt-fan-requires : (t : ℕ) → dealt-lts.Need-fan-requires (
-  fan-reads.Asked,
-  fan-reads.Learnt,
-  weight-reads.Asked,
-  weight-reads.Learnt,
-  gain-below t,
-  gain.Post,
-  behind-reads.Asked,
-  behind-reads.Learnt,
-) (dealt-at t) dealt.Post dealt-Inv-loop dealt-μ-loop
+dealt-fan-requires : (t : ℕ) → dealt-lts.Need-fan-requires (dealt-callees t) (dealt-at t) dealt.Post dealt-Inv-loop dealt-μ-loop
 dealt-fan-requires t c κs = omega (arith, c .before .before .before .pre .1 .place)
 
-dealt-weight-requires : (t : ℕ) → dealt-lts.Need-weight-requires (
-  fan-reads.Asked,
-  fan-reads.Learnt,
-  weight-reads.Asked,
-  weight-reads.Learnt,
-  gain-below t,
-  gain.Post,
-  behind-reads.Asked,
-  behind-reads.Learnt,
-) (dealt-at t) dealt.Post dealt-Inv-loop dealt-μ-loop
+dealt-weight-requires : (t : ℕ) → dealt-lts.Need-weight-requires (dealt-callees t) (dealt-at t) dealt.Post dealt-Inv-loop dealt-μ-loop
 dealt-weight-requires t c κs = search needs
 
-dealt-loop-holds : (t : ℕ) → dealt-lts.Need-loop-holds (
-  fan-reads.Asked,
-  fan-reads.Learnt,
-  weight-reads.Asked,
-  weight-reads.Learnt,
-  gain-below t,
-  gain.Post,
-  behind-reads.Asked,
-  behind-reads.Learnt,
-) (dealt-at t) dealt.Post dealt-Inv-loop dealt-μ-loop
-dealt-loop-holds t c = (valuing.along-start (now (c .before .before .before .before .before .args .profile)) (c .before .before .before .before .before .args .seat) (c .before .before .before .before .before .args .depth) (c .before .before .before .before .before .args .heads) (c .before .before .before .before .before .args .reach) (c .before .before .before .before .before .args .kept) (c .before .before .before .before .before .args .a) (c .before .before .before .before .before .args .end) (now (c .before .before .before .before .before .args .w)) (c .weight .result) (c .before .fan .result) (c .before .fan .ensures) (c .weight .ensures), c .before .before .before .before .before .pre .1 .place, refl)
+dealt-loop-holds : (t : ℕ) → dealt-lts.Need-loop-holds (dealt-callees t) (dealt-at t) dealt.Post dealt-Inv-loop dealt-μ-loop
+dealt-loop-holds t c = let s0 = c .before .before .before .before .before in (valuing.along-start (now (s0 .args .profile)) (s0 .args .seat) (s0 .args .depth) (s0 .args .heads) (s0 .args .reach) (s0 .args .kept) (s0 .args .a) (s0 .args .end) (now (s0 .args .w)) (c .weight .result) (c .before .fan .result) (c .before .fan .ensures) (c .weight .ensures), s0 .pre .1 .place, refl)
 
-dealt-gain-requires : (t : ℕ) → dealt-lts.Need-gain-requires (
-  fan-reads.Asked,
-  fan-reads.Learnt,
-  weight-reads.Asked,
-  weight-reads.Learnt,
-  gain-below t,
-  gain.Post,
-  behind-reads.Asked,
-  behind-reads.Learnt,
-) (dealt-at t) dealt.Post dealt-Inv-loop dealt-μ-loop
-dealt-gain-requires t c κs = (omega (arith, c .before .before .before .before .before .before .before .before .pre .0), valuing.walk-at (c .before .before .before .before .before .before .before .before .args .a) (c .before .before .before .before .before .before .before .before .args .seat) (c .before .before .before .before .before .before .before .before .args .depth) (c .before .before .before .before .before .before .before .before .args .heads) (c .before .before .before .before .before .before .before .before .args .reach) (c .before .before .before .before .before .before .before .before .args .kept) (c .before .before .before .before .before .before .before .before .pre .1) (c .before .before .loop .at) (c .before .before .before .before .before .before .before .before .args .depth) (omega arith) (c .before .before .loop .inv .1))
+dealt-gain-requires : (t : ℕ) → dealt-lts.Need-gain-requires (dealt-callees t) (dealt-at t) dealt.Post dealt-Inv-loop dealt-μ-loop
+dealt-gain-requires t c κs = let s0 = c .before .before .before .before .before .before .before .before in (omega (arith, s0 .pre .0), valuing.walk-at (s0 .args .a) (s0 .args .seat) (s0 .args .depth) (s0 .args .heads) (s0 .args .reach) (s0 .args .kept) (s0 .pre .1) (c .before .before .loop .at) (s0 .args .depth) (omega arith) (c .before .before .loop .inv .1))
 
-dealt-behind-requires : (t : ℕ) → dealt-lts.Need-behind-requires (
-  fan-reads.Asked,
-  fan-reads.Learnt,
-  weight-reads.Asked,
-  weight-reads.Learnt,
-  gain-below t,
-  gain.Post,
-  behind-reads.Asked,
-  behind-reads.Learnt,
-) (dealt-at t) dealt.Post dealt-Inv-loop dealt-μ-loop
+dealt-behind-requires : (t : ℕ) → dealt-lts.Need-behind-requires (dealt-callees t) (dealt-at t) dealt.Post dealt-Inv-loop dealt-μ-loop
 dealt-behind-requires t c κs = omega (arith, c .before .before .before .before .before .before .loop .inv .1)
 
-dealt-same-length : (t : ℕ) → dealt-lts.Need-same-length (
-  fan-reads.Asked,
-  fan-reads.Learnt,
-  weight-reads.Asked,
-  weight-reads.Learnt,
-  gain-below t,
-  gain.Post,
-  behind-reads.Asked,
-  behind-reads.Learnt,
-) (dealt-at t) dealt.Post dealt-Inv-loop dealt-μ-loop
+dealt-same-length : (t : ℕ) → dealt-lts.Need-same-length (dealt-callees t) (dealt-at t) dealt.Post dealt-Inv-loop dealt-μ-loop
 dealt-same-length t c = search needs
 
-dealt-returns : (t : ℕ) → dealt-lts.Need-returns (
-  fan-reads.Asked,
-  fan-reads.Learnt,
-  weight-reads.Asked,
-  weight-reads.Learnt,
-  gain-below t,
-  gain.Post,
-  behind-reads.Asked,
-  behind-reads.Learnt,
-) (dealt-at t) dealt.Post dealt-Inv-loop dealt-μ-loop
-dealt-returns t c = valuing.along-stuck (now (c .before .before .before .before .before .before .before .before .before .before .before .before .before .before .args .profile)) (c .before .before .before .before .before .before .before .before .before .before .before .before .before .before .args .seat) (c .before .before .before .before .before .before .before .before .before .before .before .before .before .before .args .depth) (c .before .before .before .before .before .before .before .before .before .before .before .before .before .before .args .heads) (c .before .before .before .before .before .before .before .before .before .before .before .before .before .before .args .reach) (c .before .before .before .before .before .before .before .before .before .before .before .before .before .before .args .kept) (c .before .before .before .before .before .before .before .before .before .before .before .before .before .before .args .a) (c .before .before .before .before .before .before .before .before .before .before .before .before .before .before .args .end) (now (c .before .before .before .before .before .before .before .before .before .before .before .before .before .before .args .w)) (c .before .before .before .before .before .before .before .before .before .weight .result) (c .before .before .before .before .before .before .before .before .loop .w) (c .before .before .before .before .before .gain .last .0) (c .before .before .before .before .before .before .before .before .loop .at) (c .before .before .before .before .before .before .before .before .loop .sum) (c .before .before .before .before .before .gain .result) _ (c .before .behind .result) (c .before .before .before .before .before .before .before .before .loop .inv .0) (c .before .before .before .before .before .before .before .loop-test .taken) (c .before .before .before .before .before .gain .ensures) (c .before .behind .ensures) (c .if1 .taken)
+dealt-returns : (t : ℕ) → dealt-lts.Need-returns (dealt-callees t) (dealt-at t) dealt.Post dealt-Inv-loop dealt-μ-loop
+dealt-returns t c = let s0 = c .before .before .before .before .before .before .before .before .before .before .before .before .before .before in let s1 = c .before .before .before .before .before .before .before .before in let s2 = c .before .before .before .before .before in valuing.along-stuck (now (s0 .args .profile)) (s0 .args .seat) (s0 .args .depth) (s0 .args .heads) (s0 .args .reach) (s0 .args .kept) (s0 .args .a) (s0 .args .end) (now (s0 .args .w)) (c .before .before .before .before .before .before .before .before .before .weight .result) (s1 .loop .w) (s2 .gain .last .0) (s1 .loop .at) (s1 .loop .sum) (s2 .gain .result) _ (c .before .behind .result) (s1 .loop .inv .0) (c .before .before .before .before .before .before .before .loop-test .taken) (s2 .gain .ensures) (c .before .behind .ensures) (c .if1 .taken)
 
-dealt-loop-less : (t : ℕ) → dealt-lts.Need-loop-less (
-  fan-reads.Asked,
-  fan-reads.Learnt,
-  weight-reads.Asked,
-  weight-reads.Learnt,
-  gain-below t,
-  gain.Post,
-  behind-reads.Asked,
-  behind-reads.Learnt,
-) (dealt-at t) dealt.Post dealt-Inv-loop dealt-μ-loop
+dealt-loop-less : (t : ℕ) → dealt-lts.Need-loop-less (dealt-callees t) (dealt-at t) dealt.Post dealt-Inv-loop dealt-μ-loop
 dealt-loop-less t c = omega (arith, c .before .before .before .before .before .before .before .loop-test .taken, c .if1 .left)
 
-dealt-loop-again : (t : ℕ) → dealt-lts.Need-loop-again (
-  fan-reads.Asked,
-  fan-reads.Learnt,
-  weight-reads.Asked,
-  weight-reads.Learnt,
-  gain-below t,
-  gain.Post,
-  behind-reads.Asked,
-  behind-reads.Learnt,
-) (dealt-at t) dealt.Post dealt-Inv-loop dealt-μ-loop
-dealt-loop-again t c = (valuing.along-more (now (c .before .before .before .before .before .before .before .before .before .before .before .before .before .before .args .profile)) (c .before .before .before .before .before .before .before .before .before .before .before .before .before .before .args .seat) (c .before .before .before .before .before .before .before .before .before .before .before .before .before .before .args .depth) (c .before .before .before .before .before .before .before .before .before .before .before .before .before .before .args .heads) (c .before .before .before .before .before .before .before .before .before .before .before .before .before .before .args .reach) (c .before .before .before .before .before .before .before .before .before .before .before .before .before .before .args .kept) (c .before .before .before .before .before .before .before .before .before .before .before .before .before .before .args .a) (c .before .before .before .before .before .before .before .before .before .before .before .before .before .before .args .end) (now (c .before .before .before .before .before .before .before .before .before .before .before .before .before .before .args .w)) (c .before .before .before .before .before .before .before .before .before .weight .result) (c .before .before .before .before .before .before .before .before .loop .w) (c .before .before .before .before .before .gain .last .0) (c .before .before .before .before .before .before .before .before .loop .at) (c .before .before .before .before .before .before .before .before .loop .sum) (c .before .before .before .before .before .gain .result) _ (c .before .behind .result) (c .before .before .before .before .before .before .before .before .loop .inv .0) (c .before .before .before .before .before .before .before .loop-test .taken) (c .before .before .before .before .before .gain .ensures) refl (c .before .behind .ensures), omega (arith, c .before .behind .ensures .near, c .before .before .before .before .before .before .before .before .before .before .before .before .before .before .pre .1 .shallow), omega (arith, c .before .before .before .before .before .gain .kept .0, c .before .before .before .before .before .before .before .before .loop .inv .2))
+dealt-loop-again : (t : ℕ) → dealt-lts.Need-loop-again (dealt-callees t) (dealt-at t) dealt.Post dealt-Inv-loop dealt-μ-loop
+dealt-loop-again t c = let s0 = c .before .before .before .before .before .before .before .before .before .before .before .before .before .before in let s1 = c .before .before .before .before .before .before .before .before in let s2 = c .before .before .before .before .before in (valuing.along-more (now (s0 .args .profile)) (s0 .args .seat) (s0 .args .depth) (s0 .args .heads) (s0 .args .reach) (s0 .args .kept) (s0 .args .a) (s0 .args .end) (now (s0 .args .w)) (c .before .before .before .before .before .before .before .before .before .weight .result) (s1 .loop .w) (s2 .gain .last .0) (s1 .loop .at) (s1 .loop .sum) (s2 .gain .result) _ (c .before .behind .result) (s1 .loop .inv .0) (c .before .before .before .before .before .before .before .loop-test .taken) (s2 .gain .ensures) refl (c .before .behind .ensures), omega (arith, c .before .behind .ensures .near, s0 .pre .1 .shallow), omega (arith, s2 .gain .kept .0, s1 .loop .inv .2))
 
-dealt-same-length-2 : (t : ℕ) → dealt-lts.Need-same-length-2 (
-  fan-reads.Asked,
-  fan-reads.Learnt,
-  weight-reads.Asked,
-  weight-reads.Learnt,
-  gain-below t,
-  gain.Post,
-  behind-reads.Asked,
-  behind-reads.Learnt,
-) (dealt-at t) dealt.Post dealt-Inv-loop dealt-μ-loop
+dealt-same-length-2 : (t : ℕ) → dealt-lts.Need-same-length-2 (dealt-callees t) (dealt-at t) dealt.Post dealt-Inv-loop dealt-μ-loop
 dealt-same-length-2 t c = search needs
 
-dealt-returns-2 : (t : ℕ) → dealt-lts.Need-returns-2 (
-  fan-reads.Asked,
-  fan-reads.Learnt,
-  weight-reads.Asked,
-  weight-reads.Learnt,
-  gain-below t,
-  gain.Post,
-  behind-reads.Asked,
-  behind-reads.Learnt,
-) (dealt-at t) dealt.Post dealt-Inv-loop dealt-μ-loop
-dealt-returns-2 t c = valuing.along-end (now (c .before .before .before .before .before .before .before .args .profile)) (c .before .before .before .before .before .before .before .args .seat) (c .before .before .before .before .before .before .before .args .depth) (c .before .before .before .before .before .before .before .args .heads) (c .before .before .before .before .before .before .before .args .reach) (c .before .before .before .before .before .before .before .args .kept) (c .before .before .before .before .before .before .before .args .a) (c .before .before .before .before .before .before .before .args .end) (now (c .before .before .before .before .before .before .before .args .w)) (c .before .before .weight .result) (c .before .loop .w) (c .before .loop .at) (c .before .loop .sum) (c .before .loop .inv .0) (omega (arith, c .loop-test .left))
+dealt-returns-2 : (t : ℕ) → dealt-lts.Need-returns-2 (dealt-callees t) (dealt-at t) dealt.Post dealt-Inv-loop dealt-μ-loop
+dealt-returns-2 t c = let s0 = c .before .before .before .before .before .before .before in valuing.along-end (now (s0 .args .profile)) (s0 .args .seat) (s0 .args .depth) (s0 .args .heads) (s0 .args .reach) (s0 .args .kept) (s0 .args .a) (s0 .args .end) (now (s0 .args .w)) (c .before .before .weight .result) (c .before .loop .w) (c .before .loop .at) (c .before .loop .sum) (c .before .loop .inv .0) (omega (arith, c .loop-test .left))
 
-gain-word-requires : (t : ℕ) → gain-lts.Need-word-requires (
-  word-reads.Asked,
-  word-reads.Learnt,
-  kind-reads.Asked,
-  kind-reads.Learnt,
-  payoff-of-reads.Asked,
-  payoff-of-reads.Learnt,
-  value-below t,
-  value.Post,
-) (gain-at t) gain.Post
+gain-word-requires : (t : ℕ) → gain-lts.Need-word-requires (gain-callees t) (gain-at t) gain.Post
 gain-word-requires t c κs = search needs
 
-gain-kind-requires : (t : ℕ) → gain-lts.Need-kind-requires (
-  word-reads.Asked,
-  word-reads.Learnt,
-  kind-reads.Asked,
-  kind-reads.Learnt,
-  payoff-of-reads.Asked,
-  payoff-of-reads.Learnt,
-  value-below t,
-  value.Post,
-) (gain-at t) gain.Post
+gain-kind-requires : (t : ℕ) → gain-lts.Need-kind-requires (gain-callees t) (gain-at t) gain.Post
 gain-kind-requires t c κs = search needs
 
-gain-payoff-of-requires : (t : ℕ) → gain-lts.Need-payoff-of-requires (
-  word-reads.Asked,
-  word-reads.Learnt,
-  kind-reads.Asked,
-  kind-reads.Learnt,
-  payoff-of-reads.Asked,
-  payoff-of-reads.Learnt,
-  value-below t,
-  value.Post,
-) (gain-at t) gain.Post
+gain-payoff-of-requires : (t : ℕ) → gain-lts.Need-payoff-of-requires (gain-callees t) (gain-at t) gain.Post
 gain-payoff-of-requires t c κs = c .before .before .before .before .before .before .pre .1 .seat
 
-gain-same-length : (t : ℕ) → gain-lts.Need-same-length (
-  word-reads.Asked,
-  word-reads.Learnt,
-  kind-reads.Asked,
-  kind-reads.Learnt,
-  payoff-of-reads.Asked,
-  payoff-of-reads.Learnt,
-  value-below t,
-  value.Post,
-) (gain-at t) gain.Post
+gain-same-length : (t : ℕ) → gain-lts.Need-same-length (gain-callees t) (gain-at t) gain.Post
 gain-same-length t c = search needs
 
-gain-returns : (t : ℕ) → gain-lts.Need-returns (
-  word-reads.Asked,
-  word-reads.Learnt,
-  kind-reads.Asked,
-  kind-reads.Learnt,
-  payoff-of-reads.Asked,
-  payoff-of-reads.Learnt,
-  value-below t,
-  value.Post,
-) (gain-at t) gain.Post
-gain-returns t c = valuing.gain-end (now (c .before .before .before .before .before .before .before .args .profile)) (c .before .before .before .before .before .before .before .args .seat) (c .before .before .before .before .before .before .before .args .depth) (c .before .before .before .before .before .before .before .args .heads) (c .before .before .before .before .before .before .before .args .reach) (c .before .before .before .before .before .before .before .args .kept) (c .before .before .before .before .before .before .before .args .a) (now (c .before .before .before .before .before .before .before .args .w)) (c .before .before .before .word .result) (c .before .before .before .word .ensures) _ (sym (c .before .before .kind .ensures) ∙ c .before .if1 .taken) (ap (λ y. plus y nought) (c .payoff-of .ensures))
+gain-returns : (t : ℕ) → gain-lts.Need-returns (gain-callees t) (gain-at t) gain.Post
+gain-returns t c = let s0 = c .before .before .before .before .before .before .before in let s1 = c .before .before .before in valuing.gain-end (now (s0 .args .profile)) (s0 .args .seat) (s0 .args .depth) (s0 .args .heads) (s0 .args .reach) (s0 .args .kept) (s0 .args .a) (now (s0 .args .w)) (s1 .word .result) (s1 .word .ensures) _ (sym (c .before .before .kind .ensures) ∙ c .before .if1 .taken) (ap (λ y. plus y nought) (c .payoff-of .ensures))
 
-gain-value-requires : (t : ℕ) → gain-lts.Need-value-requires (
-  word-reads.Asked,
-  word-reads.Learnt,
-  kind-reads.Asked,
-  kind-reads.Learnt,
-  payoff-of-reads.Asked,
-  payoff-of-reads.Learnt,
-  value-below t,
-  value.Post,
-) (gain-at t) gain.Post
-gain-value-requires t c κs = (omega (arith, c .before .before .before .before .before .before .before .pre .0), c .before .before .before .before .before .before .before .pre .1)
+gain-value-requires : (t : ℕ) → gain-lts.Need-value-requires (gain-callees t) (gain-at t) gain.Post
+gain-value-requires t c κs = let s0 = c .before .before .before .before .before .before .before in (omega (arith, s0 .pre .0), s0 .pre .1)
 
-gain-same-length-2 : (t : ℕ) → gain-lts.Need-same-length-2 (
-  word-reads.Asked,
-  word-reads.Learnt,
-  kind-reads.Asked,
-  kind-reads.Learnt,
-  payoff-of-reads.Asked,
-  payoff-of-reads.Learnt,
-  value-below t,
-  value.Post,
-) (gain-at t) gain.Post
+gain-same-length-2 : (t : ℕ) → gain-lts.Need-same-length-2 (gain-callees t) (gain-at t) gain.Post
 gain-same-length-2 t c = search needs
 
-gain-returns-2 : (t : ℕ) → gain-lts.Need-returns-2 (
-  word-reads.Asked,
-  word-reads.Learnt,
-  kind-reads.Asked,
-  kind-reads.Learnt,
-  payoff-of-reads.Asked,
-  payoff-of-reads.Learnt,
-  value-below t,
-  value.Post,
-) (gain-at t) gain.Post
-gain-returns-2 t c = valuing.gain-more (now (c .before .before .before .before .before .before .before .before .before .before .args .profile)) (c .before .before .before .before .before .before .before .before .before .before .args .seat) (c .before .before .before .before .before .before .before .before .before .before .args .depth) (c .before .before .before .before .before .before .before .before .before .before .args .heads) (c .before .before .before .before .before .before .before .before .before .before .args .reach) (c .before .before .before .before .before .before .before .before .before .before .args .kept) (c .before .before .before .before .before .before .before .before .before .before .args .a) (now (c .before .before .before .before .before .before .before .before .before .before .args .w)) (c .before .before .before .before .before .before .word .result) (c .before .before .before .before .before .before .word .ensures) (c .before .before .value .last .0) (c .before .before .value .result) _ (λ q. c .before .before .before .before .if1 .left (c .before .before .before .before .before .kind .ensures ∙ q)) (c .before .before .value .ensures) refl
+gain-returns-2 : (t : ℕ) → gain-lts.Need-returns-2 (gain-callees t) (gain-at t) gain.Post
+gain-returns-2 t c = let s0 = c .before .before .before .before .before .before .before .before .before .before in let s1 = c .before .before .before .before .before .before in valuing.gain-more (now (s0 .args .profile)) (s0 .args .seat) (s0 .args .depth) (s0 .args .heads) (s0 .args .reach) (s0 .args .kept) (s0 .args .a) (now (s0 .args .w)) (s1 .word .result) (s1 .word .ensures) (c .before .before .value .last .0) (c .before .before .value .result) _ (λ q. c .before .before .before .before .if1 .left (c .before .before .before .before .before .kind .ensures ∙ q)) (c .before .before .value .ensures) refl
 
-own-set-requires : (t : ℕ) → own-lts.Need-set-requires (
-  set-reads.Asked,
-  set-reads.Learnt,
-  actions-reads.Asked,
-  actions-reads.Learnt,
-  choose-below t,
-  choose.Post,
-  child-reads.Asked,
-  child-reads.Learnt,
-  gain-below t,
-  gain.Post,
-) (own-at t) own.Post
+own-set-requires : (t : ℕ) → own-lts.Need-set-requires (own-callees t) (own-at t) own.Post
 own-set-requires t c κs = search needs
 
-own-actions-requires : (t : ℕ) → own-lts.Need-actions-requires (
-  set-reads.Asked,
-  set-reads.Learnt,
-  actions-reads.Asked,
-  actions-reads.Learnt,
-  choose-below t,
-  choose.Post,
-  child-reads.Asked,
-  child-reads.Learnt,
-  gain-below t,
-  gain.Post,
-) (own-at t) own.Post
+own-actions-requires : (t : ℕ) → own-lts.Need-actions-requires (own-callees t) (own-at t) own.Post
 own-actions-requires t c κs = search needs
 
-own-choose-requires : (t : ℕ) → own-lts.Need-choose-requires (
-  set-reads.Asked,
-  set-reads.Learnt,
-  actions-reads.Asked,
-  actions-reads.Learnt,
-  choose-below t,
-  choose.Post,
-  child-reads.Asked,
-  child-reads.Learnt,
-  gain-below t,
-  gain.Post,
-) (own-at t) own.Post
-own-choose-requires t c κs = (omega (arith, c .before .before .before .before .before .pre .0), valuing.walk-at (c .before .before .before .before .before .args .a + 1) (c .before .before .before .before .before .args .seat) (c .before .before .before .before .before .args .depth) (c .before .before .before .before .before .args .heads) (c .before .before .before .before .before .args .reach) (c .before .before .before .before .before .args .kept) (c .before .before .before .before .before .pre .1) (c .before .set .result) (c .before .before .before .before .before .args .depth) (omega arith) (omega (arith, c .before .set .ensures, c .before .before .before .before .before .pre .1 .shallow)))
+own-choose-requires : (t : ℕ) → own-lts.Need-choose-requires (own-callees t) (own-at t) own.Post
+own-choose-requires t c κs = let s0 = c .before .before .before .before .before in (omega (arith, s0 .pre .0), valuing.walk-at (s0 .args .a + 1) (s0 .args .seat) (s0 .args .depth) (s0 .args .heads) (s0 .args .reach) (s0 .args .kept) (s0 .pre .1) (c .before .set .result) (s0 .args .depth) (omega arith) (omega (arith, c .before .set .ensures, s0 .pre .1 .shallow)))
 
-own-child-requires : (t : ℕ) → own-lts.Need-child-requires (
-  set-reads.Asked,
-  set-reads.Learnt,
-  actions-reads.Asked,
-  actions-reads.Learnt,
-  choose-below t,
-  choose.Post,
-  child-reads.Asked,
-  child-reads.Learnt,
-  gain-below t,
-  gain.Post,
-) (own-at t) own.Post
+own-child-requires : (t : ℕ) → own-lts.Need-child-requires (own-callees t) (own-at t) own.Post
 own-child-requires t c κs = omega (arith, c .before .before .before .before .before .before .before .before .before .pre .1 .place)
 
-own-gain-requires : (t : ℕ) → own-lts.Need-gain-requires (
-  set-reads.Asked,
-  set-reads.Learnt,
-  actions-reads.Asked,
-  actions-reads.Learnt,
-  choose-below t,
-  choose.Post,
-  child-reads.Asked,
-  child-reads.Learnt,
-  gain-below t,
-  gain.Post,
-) (own-at t) own.Post
-own-gain-requires t c κs = (omega (arith, c .before .before .before .before .before .before .before .before .before .before .before .pre .0), valuing.walk-at (c .before .before .before .before .before .before .before .before .before .before .before .args .a + 1) (c .before .before .before .before .before .before .before .before .before .before .before .args .seat) (c .before .before .before .before .before .before .before .before .before .before .before .args .depth) (c .before .before .before .before .before .before .before .before .before .before .before .args .heads) (c .before .before .before .before .before .before .before .before .before .before .before .args .reach) (c .before .before .before .before .before .before .before .before .before .before .before .args .kept) (c .before .before .before .before .before .before .before .before .before .before .before .pre .1) (c .before .child .result) (c .before .before .before .before .before .before .before .before .before .before .before .args .depth) (omega arith) (omega (arith, c .before .child .ensures .near, c .before .before .before .before .before .before .before .before .before .before .before .pre .1 .shallow)))
+own-gain-requires : (t : ℕ) → own-lts.Need-gain-requires (own-callees t) (own-at t) own.Post
+own-gain-requires t c κs = let s0 = c .before .before .before .before .before .before .before .before .before .before .before in (omega (arith, s0 .pre .0), valuing.walk-at (s0 .args .a + 1) (s0 .args .seat) (s0 .args .depth) (s0 .args .heads) (s0 .args .reach) (s0 .args .kept) (s0 .pre .1) (c .before .child .result) (s0 .args .depth) (omega arith) (omega (arith, c .before .child .ensures .near, s0 .pre .1 .shallow)))
 
-own-same-length : (t : ℕ) → own-lts.Need-same-length (
-  set-reads.Asked,
-  set-reads.Learnt,
-  actions-reads.Asked,
-  actions-reads.Learnt,
-  choose-below t,
-  choose.Post,
-  child-reads.Asked,
-  child-reads.Learnt,
-  gain-below t,
-  gain.Post,
-) (own-at t) own.Post
+own-same-length : (t : ℕ) → own-lts.Need-same-length (own-callees t) (own-at t) own.Post
 own-same-length t c = search needs
 
-own-returns : (t : ℕ) → own-lts.Need-returns (
-  set-reads.Asked,
-  set-reads.Learnt,
-  actions-reads.Asked,
-  actions-reads.Learnt,
-  choose-below t,
-  choose.Post,
-  child-reads.Asked,
-  child-reads.Learnt,
-  gain-below t,
-  gain.Post,
-) (own-at t) own.Post
-own-returns t c = valuing.own-is (now (c .before .before .before .before .before .before .before .before .before .before .before .before .before .before .args .profile)) (c .before .before .before .before .before .before .before .before .before .before .before .before .before .before .args .seat) (c .before .before .before .before .before .before .before .before .before .before .before .before .before .before .args .depth) (c .before .before .before .before .before .before .before .before .before .before .before .before .before .before .args .heads) (c .before .before .before .before .before .before .before .before .before .before .before .before .before .before .args .reach) (c .before .before .before .before .before .before .before .before .before .before .before .before .before .before .args .kept) (c .before .before .before .before .before .before .before .before .before .before .before .before .before .before .args .a) (c .before .before .before .before .before .before .before .before .before .before .before .before .before .before .args .x) (now (c .before .before .before .before .before .before .before .before .before .before .before .before .before .before .args .w)) (c .before .before .before .before .before .before .before .before .choose .last .0) (c .before .before .gain .last .0) (c .before .before .before .before .before .before .before .before .choose .result) (c .before .before .before .before .child .result) (c .before .before .gain .result) (subst (λ e. Chosen (now (c .before .before .before .before .before .before .before .before .before .before .before .before .before .before .args .profile)) (c .before .before .before .before .before .before .before .before .before .before .before .before .before .before .args .seat) (c .before .before .before .before .before .before .before .before .before .before .before .before .before .before .args .depth) (c .before .before .before .before .before .before .before .before .before .before .before .before .before .before .args .heads) (c .before .before .before .before .before .before .before .before .before .before .before .before .before .before .args .reach) (c .before .before .before .before .before .before .before .before .before .before .before .before .before .before .args .kept) e (actionsOf (c .before .before .before .before .before .before .before .before .before .before .before .before .before .before .args .x)) (now (c .before .before .before .before .before .before .before .before .before .before .before .before .before .before .args .w)) (c .before .before .before .before .before .before .before .before .choose .last .0) (c .before .before .before .before .before .before .before .before .choose .result)) (c .before .before .before .before .before .before .before .before .before .before .set .ensures) (subst (λ n. Chosen (now (c .before .before .before .before .before .before .before .before .before .before .before .before .before .before .args .profile)) (c .before .before .before .before .before .before .before .before .before .before .before .before .before .before .args .seat) (c .before .before .before .before .before .before .before .before .before .before .before .before .before .before .args .depth) (c .before .before .before .before .before .before .before .before .before .before .before .before .before .before .args .heads) (c .before .before .before .before .before .before .before .before .before .before .before .before .before .before .args .reach) (c .before .before .before .before .before .before .before .before .before .before .before .before .before .before .args .kept) (c .before .before .before .before .before .before .before .before .before .before .set .result) n (now (c .before .before .before .before .before .before .before .before .before .before .before .before .before .before .args .w)) (c .before .before .before .before .before .before .before .before .choose .last .0) (c .before .before .before .before .before .before .before .before .choose .result)) (c .before .before .before .before .before .before .before .before .before .actions .ensures) (c .before .before .before .before .before .before .before .before .choose .ensures))) (c .before .before .before .before .child .ensures) (c .before .before .gain .ensures)
+own-returns : (t : ℕ) → own-lts.Need-returns (own-callees t) (own-at t) own.Post
+own-returns t c = let s0 = c .before .before .before .before .before .before .before .before .before .before .before .before .before .before in let s1 = c .before .before .before .before .before .before .before .before .before .before in let s2 = c .before .before .before .before .before .before .before .before in let s3 = c .before .before .before .before in valuing.own-is (now (s0 .args .profile)) (s0 .args .seat) (s0 .args .depth) (s0 .args .heads) (s0 .args .reach) (s0 .args .kept) (s0 .args .a) (s0 .args .x) (now (s0 .args .w)) (s2 .choose .last .0) (c .before .before .gain .last .0) (s2 .choose .result) (s3 .child .result) (c .before .before .gain .result) (subst (λ e. Chosen (now (s0 .args .profile)) (s0 .args .seat) (s0 .args .depth) (s0 .args .heads) (s0 .args .reach) (s0 .args .kept) e (actionsOf (s0 .args .x)) (now (s0 .args .w)) (s2 .choose .last .0) (s2 .choose .result)) (s1 .set .ensures) (subst (λ n. Chosen (now (s0 .args .profile)) (s0 .args .seat) (s0 .args .depth) (s0 .args .heads) (s0 .args .reach) (s0 .args .kept) (s1 .set .result) n (now (s0 .args .w)) (s2 .choose .last .0) (s2 .choose .result)) (c .before .before .before .before .before .before .before .before .before .actions .ensures) (s2 .choose .ensures))) (s3 .child .ensures) (c .before .before .gain .ensures)
 
 abbrev split-Inv-loop : split-lts.InvT-loop
 split-Inv-loop w₀ profile a x seat depth heads reach kept first end part sum₀ at₀ action₀ w sum at action = valuing.Halfway profile seat depth heads reach kept a x w₀ w at action sum × (at + depth < 8388608) × (length w ≡ length w₀)
@@ -700,243 +286,56 @@ split-Inv-loop w₀ profile a x seat depth heads reach kept first end part sum�
 abbrev split-μ-loop : split-lts.MeasureT-loop
 split-μ-loop w₀ profile a x seat depth heads reach kept first end part sum₀ at₀ action₀ w sum at action = length part - action
 
-split-set-requires : (t : ℕ) → split-lts.Need-set-requires (
-  set-reads.Asked,
-  set-reads.Learnt,
-  actions-reads.Asked,
-  actions-reads.Learnt,
-  gain-below t,
-  gain.Post,
-  weighed-reads.Asked,
-  weighed-reads.Learnt,
-  behind-reads.Asked,
-  behind-reads.Learnt,
-) (split-at t) split.Post split-Inv-loop split-μ-loop
+split-set-requires : (t : ℕ) → split-lts.Need-set-requires (split-callees t) (split-at t) split.Post split-Inv-loop split-μ-loop
 split-set-requires t c κs = search needs
 
-split-actions-requires : (t : ℕ) → split-lts.Need-actions-requires (
-  set-reads.Asked,
-  set-reads.Learnt,
-  actions-reads.Asked,
-  actions-reads.Learnt,
-  gain-below t,
-  gain.Post,
-  weighed-reads.Asked,
-  weighed-reads.Learnt,
-  behind-reads.Asked,
-  behind-reads.Learnt,
-) (split-at t) split.Post split-Inv-loop split-μ-loop
+split-actions-requires : (t : ℕ) → split-lts.Need-actions-requires (split-callees t) (split-at t) split.Post split-Inv-loop split-μ-loop
 split-actions-requires t c κs = search needs
 
-split-add-end : (t : ℕ) → split-lts.Need-add-end (
-  set-reads.Asked,
-  set-reads.Learnt,
-  actions-reads.Asked,
-  actions-reads.Learnt,
-  gain-below t,
-  gain.Post,
-  weighed-reads.Asked,
-  weighed-reads.Learnt,
-  behind-reads.Asked,
-  behind-reads.Learnt,
-) (split-at t) split.Post split-Inv-loop split-μ-loop
+split-add-end : (t : ℕ) → split-lts.Need-add-end (split-callees t) (split-at t) split.Post split-Inv-loop split-μ-loop
 split-add-end t c = record { fits = omega (arith, c .before .set .ensures, c .actions .ensures) }
 
-split-returns : (t : ℕ) → split-lts.Need-returns (
-  set-reads.Asked,
-  set-reads.Learnt,
-  actions-reads.Asked,
-  actions-reads.Learnt,
-  gain-below t,
-  gain.Post,
-  weighed-reads.Asked,
-  weighed-reads.Learnt,
-  behind-reads.Asked,
-  behind-reads.Learnt,
-) (split-at t) split.Post split-Inv-loop split-μ-loop
-split-returns t c = valuing.split-short (now (c .before .before .before .before .before .args .profile)) (c .before .before .before .before .before .args .seat) (c .before .before .before .before .before .args .depth) (c .before .before .before .before .before .args .heads) (c .before .before .before .before .before .args .reach) (c .before .before .before .before .before .args .kept) (c .before .before .before .before .before .args .a) (c .before .before .before .before .before .args .x) (now (c .before .before .before .before .before .args .w)) _ (omega (arith, c .if1 .taken, c .before .before .set .ensures, c .before .actions .ensures))
+split-returns : (t : ℕ) → split-lts.Need-returns (split-callees t) (split-at t) split.Post split-Inv-loop split-μ-loop
+split-returns t c = let s0 = c .before .before .before .before .before in valuing.split-short (now (s0 .args .profile)) (s0 .args .seat) (s0 .args .depth) (s0 .args .heads) (s0 .args .reach) (s0 .args .kept) (s0 .args .a) (s0 .args .x) (now (s0 .args .w)) _ (omega (arith, c .if1 .taken, c .before .before .set .ensures, c .before .actions .ensures))
 
-split-mul-part : (t : ℕ) → split-lts.Need-mul-part (
-  set-reads.Asked,
-  set-reads.Learnt,
-  actions-reads.Asked,
-  actions-reads.Learnt,
-  gain-below t,
-  gain.Post,
-  weighed-reads.Asked,
-  weighed-reads.Learnt,
-  behind-reads.Asked,
-  behind-reads.Learnt,
-) (split-at t) split.Post split-Inv-loop split-μ-loop
+split-mul-part : (t : ℕ) → split-lts.Need-mul-part (split-callees t) (split-at t) split.Post split-Inv-loop split-μ-loop
 split-mul-part t c = search needs
 
-split-sub-part : (t : ℕ) → split-lts.Need-sub-part (
-  set-reads.Asked,
-  set-reads.Learnt,
-  actions-reads.Asked,
-  actions-reads.Learnt,
-  gain-below t,
-  gain.Post,
-  weighed-reads.Asked,
-  weighed-reads.Learnt,
-  behind-reads.Asked,
-  behind-reads.Learnt,
-) (split-at t) split.Post split-Inv-loop split-μ-loop
+split-sub-part : (t : ℕ) → split-lts.Need-sub-part (split-callees t) (split-at t) split.Post split-Inv-loop split-μ-loop
 split-sub-part t c = search needs
 
-split-part-part-start : (t : ℕ) → split-lts.Need-part-part-start (
-  set-reads.Asked,
-  set-reads.Learnt,
-  actions-reads.Asked,
-  actions-reads.Learnt,
-  gain-below t,
-  gain.Post,
-  weighed-reads.Asked,
-  weighed-reads.Learnt,
-  behind-reads.Asked,
-  behind-reads.Learnt,
-) (split-at t) split.Post split-Inv-loop split-μ-loop
+split-part-part-start : (t : ℕ) → split-lts.Need-part-part-start (split-callees t) (split-at t) split.Post split-Inv-loop split-μ-loop
 split-part-part-start t c = search needs
 
-split-part-part-end : (t : ℕ) → split-lts.Need-part-part-end (
-  set-reads.Asked,
-  set-reads.Learnt,
-  actions-reads.Asked,
-  actions-reads.Learnt,
-  gain-below t,
-  gain.Post,
-  weighed-reads.Asked,
-  weighed-reads.Learnt,
-  behind-reads.Asked,
-  behind-reads.Learnt,
-) (split-at t) split.Post split-Inv-loop split-μ-loop
+split-part-part-end : (t : ℕ) → split-lts.Need-part-part-end (split-callees t) (split-at t) split.Post split-Inv-loop split-μ-loop
 split-part-part-end t c = search needs
 
-split-loop-holds : (t : ℕ) → split-lts.Need-loop-holds (
-  set-reads.Asked,
-  set-reads.Learnt,
-  actions-reads.Asked,
-  actions-reads.Learnt,
-  gain-below t,
-  gain.Post,
-  weighed-reads.Asked,
-  weighed-reads.Learnt,
-  behind-reads.Asked,
-  behind-reads.Learnt,
-) (split-at t) split.Post split-Inv-loop split-μ-loop
-split-loop-holds t c = (valuing.halfway-start (now (c .before .before .before .before .before .before .args .profile)) (c .before .before .before .before .before .before .args .seat) (c .before .before .before .before .before .before .args .depth) (c .before .before .before .before .before .before .args .heads) (c .before .before .before .before .before .before .args .reach) (c .before .before .before .before .before .before .args .kept) (c .before .before .before .before .before .before .args .a) (c .before .before .before .before .before .before .args .x) (now (c .before .before .before .before .before .before .args .w)), c .before .before .before .before .before .before .pre .1 .place, refl)
+split-loop-holds : (t : ℕ) → split-lts.Need-loop-holds (split-callees t) (split-at t) split.Post split-Inv-loop split-μ-loop
+split-loop-holds t c = let s0 = c .before .before .before .before .before .before in (valuing.halfway-start (now (s0 .args .profile)) (s0 .args .seat) (s0 .args .depth) (s0 .args .heads) (s0 .args .reach) (s0 .args .kept) (s0 .args .a) (s0 .args .x) (now (s0 .args .w)), s0 .pre .1 .place, refl)
 
-split-gain-requires : (t : ℕ) → split-lts.Need-gain-requires (
-  set-reads.Asked,
-  set-reads.Learnt,
-  actions-reads.Asked,
-  actions-reads.Learnt,
-  gain-below t,
-  gain.Post,
-  weighed-reads.Asked,
-  weighed-reads.Learnt,
-  behind-reads.Asked,
-  behind-reads.Learnt,
-) (split-at t) split.Post split-Inv-loop split-μ-loop
-split-gain-requires t c κs = (omega (arith, c .before .before .before .before .before .before .before .before .before .pre .0), valuing.walk-at (c .before .before .before .before .before .before .before .before .before .args .a) (c .before .before .before .before .before .before .before .before .before .args .seat) (c .before .before .before .before .before .before .before .before .before .args .depth) (c .before .before .before .before .before .before .before .before .before .args .heads) (c .before .before .before .before .before .before .before .before .before .args .reach) (c .before .before .before .before .before .before .before .before .before .args .kept) (c .before .before .before .before .before .before .before .before .before .pre .1) (c .before .before .loop .at) (c .before .before .before .before .before .before .before .before .before .args .depth) (omega arith) (c .before .before .loop .inv .1))
+split-gain-requires : (t : ℕ) → split-lts.Need-gain-requires (split-callees t) (split-at t) split.Post split-Inv-loop split-μ-loop
+split-gain-requires t c κs = let s0 = c .before .before .before .before .before .before .before .before .before in (omega (arith, s0 .pre .0), valuing.walk-at (s0 .args .a) (s0 .args .seat) (s0 .args .depth) (s0 .args .heads) (s0 .args .reach) (s0 .args .kept) (s0 .pre .1) (c .before .before .loop .at) (s0 .args .depth) (omega arith) (c .before .before .loop .inv .1))
 
-split-weighed-requires : (t : ℕ) → split-lts.Need-weighed-requires (
-  set-reads.Asked,
-  set-reads.Learnt,
-  actions-reads.Asked,
-  actions-reads.Learnt,
-  gain-below t,
-  gain.Post,
-  weighed-reads.Asked,
-  weighed-reads.Learnt,
-  behind-reads.Asked,
-  behind-reads.Learnt,
-) (split-at t) split.Post split-Inv-loop split-μ-loop
+split-weighed-requires : (t : ℕ) → split-lts.Need-weighed-requires (split-callees t) (split-at t) split.Post split-Inv-loop split-μ-loop
 split-weighed-requires t c κs = c .before .before .before .before .loop-test .taken
 
-split-behind-requires : (t : ℕ) → split-lts.Need-behind-requires (
-  set-reads.Asked,
-  set-reads.Learnt,
-  actions-reads.Asked,
-  actions-reads.Learnt,
-  gain-below t,
-  gain.Post,
-  weighed-reads.Asked,
-  weighed-reads.Learnt,
-  behind-reads.Asked,
-  behind-reads.Learnt,
-) (split-at t) split.Post split-Inv-loop split-μ-loop
+split-behind-requires : (t : ℕ) → split-lts.Need-behind-requires (split-callees t) (split-at t) split.Post split-Inv-loop split-μ-loop
 split-behind-requires t c κs = omega (arith, c .before .before .before .before .before .before .before .loop .inv .1)
 
-split-add-action : (t : ℕ) → split-lts.Need-add-action (
-  set-reads.Asked,
-  set-reads.Learnt,
-  actions-reads.Asked,
-  actions-reads.Learnt,
-  gain-below t,
-  gain.Post,
-  weighed-reads.Asked,
-  weighed-reads.Learnt,
-  behind-reads.Asked,
-  behind-reads.Learnt,
-) (split-at t) split.Post split-Inv-loop split-μ-loop
+split-add-action : (t : ℕ) → split-lts.Need-add-action (split-callees t) (split-at t) split.Post split-Inv-loop split-μ-loop
 split-add-action t c = record { fits = omega (arith, c .before .before .before .before .before .before .before .loop-test .taken) }
 
-split-loop-less : (t : ℕ) → split-lts.Need-loop-less (
-  set-reads.Asked,
-  set-reads.Learnt,
-  actions-reads.Asked,
-  actions-reads.Learnt,
-  gain-below t,
-  gain.Post,
-  weighed-reads.Asked,
-  weighed-reads.Learnt,
-  behind-reads.Asked,
-  behind-reads.Learnt,
-) (split-at t) split.Post split-Inv-loop split-μ-loop
+split-loop-less : (t : ℕ) → split-lts.Need-loop-less (split-callees t) (split-at t) split.Post split-Inv-loop split-μ-loop
 split-loop-less t c = omega (arith, c .before .before .before .before .before .before .before .loop-test .taken)
 
-split-loop-again : (t : ℕ) → split-lts.Need-loop-again (
-  set-reads.Asked,
-  set-reads.Learnt,
-  actions-reads.Asked,
-  actions-reads.Learnt,
-  gain-below t,
-  gain.Post,
-  weighed-reads.Asked,
-  weighed-reads.Learnt,
-  behind-reads.Asked,
-  behind-reads.Learnt,
-) (split-at t) split.Post split-Inv-loop split-μ-loop
-split-loop-again t c = (valuing.halfway-more (now (c .before .before .before .before .before .before .before .before .before .before .before .before .before .before .before .args .profile)) (c .before .before .before .before .before .before .before .before .before .before .before .before .before .before .before .args .seat) (c .before .before .before .before .before .before .before .before .before .before .before .before .before .before .before .args .depth) (c .before .before .before .before .before .before .before .before .before .before .before .before .before .before .before .args .heads) (c .before .before .before .before .before .before .before .before .before .before .before .before .before .before .before .args .reach) (c .before .before .before .before .before .before .before .before .before .before .before .before .before .before .before .args .kept) (c .before .before .before .before .before .before .before .before .before .before .before .before .before .before .before .args .a) (c .before .before .before .before .before .before .before .before .before .before .before .before .before .before .before .args .x) (now (c .before .before .before .before .before .before .before .before .before .before .before .before .before .before .before .args .w)) (c .before .before .before .before .before .before .before .before .before .before .before .before .set .result) (c .before .before .before .before .before .before .before .before .before .before .before .actions .result) (c .before .before .before .before .before .before .before .before .before .before .before .before .set .ensures) (c .before .before .before .before .before .before .before .before .before .before .before .actions .ensures) (c .before .before .before .before .before .before .before .before .before .before .if1 .left) (c .before .before .before .before .before .before .before .before .loop .w) (c .before .before .before .before .before .gain .last .0) (c .before .before .before .before .before .before .before .before .loop .at) (c .before .before .before .before .before .before .before .before .loop .action) (c .before .before .before .before .before .before .before .before .loop .sum) (c .before .before .before .before .before .gain .result) (c .before .before .weighed .result) (c .behind .result) (c .before .before .before .before .before .before .before .before .loop .inv .0) (c .before .before .before .before .before .before .before .loop-test .taken) (c .before .before .before .before .before .gain .ensures) (c .before .before .weighed .ensures) (c .behind .ensures), omega (arith, c .behind .ensures .near, c .before .before .before .before .before .before .before .before .before .before .before .before .before .before .before .pre .1 .shallow), omega (arith, c .before .before .before .before .before .gain .kept .0, c .before .before .before .before .before .before .before .before .loop .inv .2))
+split-loop-again : (t : ℕ) → split-lts.Need-loop-again (split-callees t) (split-at t) split.Post split-Inv-loop split-μ-loop
+split-loop-again t c = let s0 = c .before .before .before .before .before .before .before .before .before .before .before .before .before .before .before in let s1 = c .before .before .before .before .before .before .before .before .before .before .before .before in let s2 = c .before .before .before .before .before .before .before .before .before .before .before in let s3 = c .before .before .before .before .before .before .before .before in let s4 = c .before .before .before .before .before in (valuing.halfway-more (now (s0 .args .profile)) (s0 .args .seat) (s0 .args .depth) (s0 .args .heads) (s0 .args .reach) (s0 .args .kept) (s0 .args .a) (s0 .args .x) (now (s0 .args .w)) (s1 .set .result) (s2 .actions .result) (s1 .set .ensures) (s2 .actions .ensures) (c .before .before .before .before .before .before .before .before .before .before .if1 .left) (s3 .loop .w) (s4 .gain .last .0) (s3 .loop .at) (s3 .loop .action) (s3 .loop .sum) (s4 .gain .result) (c .before .before .weighed .result) (c .behind .result) (s3 .loop .inv .0) (c .before .before .before .before .before .before .before .loop-test .taken) (s4 .gain .ensures) (c .before .before .weighed .ensures) (c .behind .ensures), omega (arith, c .behind .ensures .near, s0 .pre .1 .shallow), omega (arith, s4 .gain .kept .0, s3 .loop .inv .2))
 
-split-same-length : (t : ℕ) → split-lts.Need-same-length (
-  set-reads.Asked,
-  set-reads.Learnt,
-  actions-reads.Asked,
-  actions-reads.Learnt,
-  gain-below t,
-  gain.Post,
-  weighed-reads.Asked,
-  weighed-reads.Learnt,
-  behind-reads.Asked,
-  behind-reads.Learnt,
-) (split-at t) split.Post split-Inv-loop split-μ-loop
+split-same-length : (t : ℕ) → split-lts.Need-same-length (split-callees t) (split-at t) split.Post split-Inv-loop split-μ-loop
 split-same-length t c = search needs
 
-split-returns-2 : (t : ℕ) → split-lts.Need-returns-2 (
-  set-reads.Asked,
-  set-reads.Learnt,
-  actions-reads.Asked,
-  actions-reads.Learnt,
-  gain-below t,
-  gain.Post,
-  weighed-reads.Asked,
-  weighed-reads.Learnt,
-  behind-reads.Asked,
-  behind-reads.Learnt,
-) (split-at t) split.Post split-Inv-loop split-μ-loop
-split-returns-2 t c = valuing.halfway-end (now (c .before .before .before .before .before .before .before .before .args .profile)) (c .before .before .before .before .before .before .before .before .args .seat) (c .before .before .before .before .before .before .before .before .args .depth) (c .before .before .before .before .before .before .before .before .args .heads) (c .before .before .before .before .before .before .before .before .args .reach) (c .before .before .before .before .before .before .before .before .args .kept) (c .before .before .before .before .before .before .before .before .args .a) (c .before .before .before .before .before .before .before .before .args .x) (now (c .before .before .before .before .before .before .before .before .args .w)) (c .before .before .before .before .before .set .result) (c .before .before .before .before .actions .result) (c .before .before .before .before .before .set .ensures) (c .before .before .before .before .actions .ensures) (c .before .before .before .if1 .left) (c .before .loop .w) (c .before .loop .at) (c .before .loop .action) (c .before .loop .sum) (c .before .loop .inv .0) (omega (arith, c .loop-test .left))
+split-returns-2 : (t : ℕ) → split-lts.Need-returns-2 (split-callees t) (split-at t) split.Post split-Inv-loop split-μ-loop
+split-returns-2 t c = let s0 = c .before .before .before .before .before .before .before .before in let s1 = c .before .before .before .before .before in let s2 = c .before .before .before .before in valuing.halfway-end (now (s0 .args .profile)) (s0 .args .seat) (s0 .args .depth) (s0 .args .heads) (s0 .args .reach) (s0 .args .kept) (s0 .args .a) (s0 .args .x) (now (s0 .args .w)) (s1 .set .result) (s2 .actions .result) (s1 .set .ensures) (s2 .actions .ensures) (c .before .before .before .if1 .left) (c .before .loop .w) (c .before .loop .at) (c .before .loop .action) (c .before .loop .sum) (c .before .loop .inv .0) (omega (arith, c .loop-test .left))
 
 abbrev total-Inv-loop : total-lts.InvT-loop
 total-Inv-loop w₀ profile first action seat depth heads reach kept sum₀ at₀ w sum at = choosing.Summed profile seat depth heads reach kept first action w₀ w at sum × (at < 2097152) × (length w ≡ length w₀)
@@ -944,609 +343,117 @@ total-Inv-loop w₀ profile first action seat depth heads reach kept sum₀ at�
 abbrev total-μ-loop : total-lts.MeasureT-loop
 total-μ-loop w₀ profile first action seat depth heads reach kept sum₀ at₀ w sum at = 2097152 - at
 
-total-add-word : (t : ℕ) → total-lts.Need-add-word (
-  word-reads.Asked,
-  word-reads.Learnt,
-  child-reads.Asked,
-  child-reads.Learnt,
-  gain-below t,
-  gain.Post,
-  reached-reads.Asked,
-  reached-reads.Learnt,
-  later-reads.Asked,
-  later-reads.Learnt,
-) (total-at t) total.Post total-Inv-loop total-μ-loop
-total-add-word t c = record { fits = omega (arith, c .before .before .before .pre .1 .heads, c .before .before .before .pre .1 .place) }
+total-add-word : (t : ℕ) → total-lts.Need-add-word (total-callees t) (total-at t) total.Post total-Inv-loop total-μ-loop
+total-add-word t c = let s0 = c .before .before .before in record { fits = omega (arith, s0 .pre .1 .heads, s0 .pre .1 .place) }
 
-total-word-requires : (t : ℕ) → total-lts.Need-word-requires (
-  word-reads.Asked,
-  word-reads.Learnt,
-  child-reads.Asked,
-  child-reads.Learnt,
-  gain-below t,
-  gain.Post,
-  reached-reads.Asked,
-  reached-reads.Learnt,
-  later-reads.Asked,
-  later-reads.Learnt,
-) (total-at t) total.Post total-Inv-loop total-μ-loop
+total-word-requires : (t : ℕ) → total-lts.Need-word-requires (total-callees t) (total-at t) total.Post total-Inv-loop total-μ-loop
 total-word-requires t c κs = search needs
 
-total-loop-holds : (t : ℕ) → total-lts.Need-loop-holds (
-  word-reads.Asked,
-  word-reads.Learnt,
-  child-reads.Asked,
-  child-reads.Learnt,
-  gain-below t,
-  gain.Post,
-  reached-reads.Asked,
-  reached-reads.Learnt,
-  later-reads.Asked,
-  later-reads.Learnt,
-) (total-at t) total.Post total-Inv-loop total-μ-loop
-total-loop-holds t c = (choosing.summed-start (now (c .before .before .before .before .args .profile)) (c .before .before .before .before .args .seat) (c .before .before .before .before .args .depth) (c .before .before .before .before .args .heads) (c .before .before .before .before .args .reach) (c .before .before .before .before .args .kept) (c .before .before .before .before .args .first) (c .before .before .before .before .args .action) (now (c .before .before .before .before .args .w)) _ (ap (λ j. j % 2097152) (c .word .ensures)), omega arith, refl)
+total-loop-holds : (t : ℕ) → total-lts.Need-loop-holds (total-callees t) (total-at t) total.Post total-Inv-loop total-μ-loop
+total-loop-holds t c = let s0 = c .before .before .before .before in (choosing.summed-start (now (s0 .args .profile)) (s0 .args .seat) (s0 .args .depth) (s0 .args .heads) (s0 .args .reach) (s0 .args .kept) (s0 .args .first) (s0 .args .action) (now (s0 .args .w)) _ (ap (λ j. j % 2097152) (c .word .ensures)), omega arith, refl)
 
-total-child-requires : (t : ℕ) → total-lts.Need-child-requires (
-  word-reads.Asked,
-  word-reads.Learnt,
-  child-reads.Asked,
-  child-reads.Learnt,
-  gain-below t,
-  gain.Post,
-  reached-reads.Asked,
-  reached-reads.Learnt,
-  later-reads.Asked,
-  later-reads.Learnt,
-) (total-at t) total.Post total-Inv-loop total-μ-loop
+total-child-requires : (t : ℕ) → total-lts.Need-child-requires (total-callees t) (total-at t) total.Post total-Inv-loop total-μ-loop
 total-child-requires t c κs = omega (arith, c .before .before .loop .inv .1)
 
-total-gain-requires : (t : ℕ) → total-lts.Need-gain-requires (
-  word-reads.Asked,
-  word-reads.Learnt,
-  child-reads.Asked,
-  child-reads.Learnt,
-  gain-below t,
-  gain.Post,
-  reached-reads.Asked,
-  reached-reads.Learnt,
-  later-reads.Asked,
-  later-reads.Learnt,
-) (total-at t) total.Post total-Inv-loop total-μ-loop
-total-gain-requires t c κs = (omega (arith, c .before .before .before .before .before .before .before .before .before .pre .0), valuing.walk-at (c .before .before .before .before .before .before .before .before .before .args .first) (c .before .before .before .before .before .before .before .before .before .args .seat) (c .before .before .before .before .before .before .before .before .before .args .depth) (c .before .before .before .before .before .before .before .before .before .args .heads) (c .before .before .before .before .before .before .before .before .before .args .reach) (c .before .before .before .before .before .before .before .before .before .args .kept) (c .before .before .before .before .before .before .before .before .before .pre .1) (c .before .child .result) (c .before .before .before .before .before .before .before .before .before .args .depth) (omega arith) (omega (arith, c .before .child .ensures .near, c .before .before .before .before .before .before .before .before .before .pre .1 .shallow)))
+total-gain-requires : (t : ℕ) → total-lts.Need-gain-requires (total-callees t) (total-at t) total.Post total-Inv-loop total-μ-loop
+total-gain-requires t c κs = let s0 = c .before .before .before .before .before .before .before .before .before in (omega (arith, s0 .pre .0), valuing.walk-at (s0 .args .first) (s0 .args .seat) (s0 .args .depth) (s0 .args .heads) (s0 .args .reach) (s0 .args .kept) (s0 .pre .1) (c .before .child .result) (s0 .args .depth) (omega arith) (omega (arith, c .before .child .ensures .near, s0 .pre .1 .shallow)))
 
-total-add-reached : (t : ℕ) → total-lts.Need-add-reached (
-  word-reads.Asked,
-  word-reads.Learnt,
-  child-reads.Asked,
-  child-reads.Learnt,
-  gain-below t,
-  gain.Post,
-  reached-reads.Asked,
-  reached-reads.Learnt,
-  later-reads.Asked,
-  later-reads.Learnt,
-) (total-at t) total.Post total-Inv-loop total-μ-loop
+total-add-reached : (t : ℕ) → total-lts.Need-add-reached (total-callees t) (total-at t) total.Post total-Inv-loop total-μ-loop
 total-add-reached t c = record { fits = omega (arith, c .before .before .before .before .before .before .before .before .before .before .before .before .before .pre .1 .reach, c .before .before .before .before .before .before .before .before .loop .inv .1) }
 
-total-reached-requires : (t : ℕ) → total-lts.Need-reached-requires (
-  word-reads.Asked,
-  word-reads.Learnt,
-  child-reads.Asked,
-  child-reads.Learnt,
-  gain-below t,
-  gain.Post,
-  reached-reads.Asked,
-  reached-reads.Learnt,
-  later-reads.Asked,
-  later-reads.Learnt,
-) (total-at t) total.Post total-Inv-loop total-μ-loop
+total-reached-requires : (t : ℕ) → total-lts.Need-reached-requires (total-callees t) (total-at t) total.Post total-Inv-loop total-μ-loop
 total-reached-requires t c κs = search needs
 
-total-word-requires-2 : (t : ℕ) → total-lts.Need-word-requires-2 (
-  word-reads.Asked,
-  word-reads.Learnt,
-  child-reads.Asked,
-  child-reads.Learnt,
-  gain-below t,
-  gain.Post,
-  reached-reads.Asked,
-  reached-reads.Learnt,
-  later-reads.Asked,
-  later-reads.Learnt,
-) (total-at t) total.Post total-Inv-loop total-μ-loop
+total-word-requires-2 : (t : ℕ) → total-lts.Need-word-requires-2 (total-callees t) (total-at t) total.Post total-Inv-loop total-μ-loop
 total-word-requires-2 t c κs = search needs
 
-total-later-requires : (t : ℕ) → total-lts.Need-later-requires (
-  word-reads.Asked,
-  word-reads.Learnt,
-  child-reads.Asked,
-  child-reads.Learnt,
-  gain-below t,
-  gain.Post,
-  reached-reads.Asked,
-  reached-reads.Learnt,
-  later-reads.Asked,
-  later-reads.Learnt,
-) (total-at t) total.Post total-Inv-loop total-μ-loop
+total-later-requires : (t : ℕ) → total-lts.Need-later-requires (total-callees t) (total-at t) total.Post total-Inv-loop total-μ-loop
 total-later-requires t c κs = search needs
 
-total-same-length : (t : ℕ) → total-lts.Need-same-length (
-  word-reads.Asked,
-  word-reads.Learnt,
-  child-reads.Asked,
-  child-reads.Learnt,
-  gain-below t,
-  gain.Post,
-  reached-reads.Asked,
-  reached-reads.Learnt,
-  later-reads.Asked,
-  later-reads.Learnt,
-) (total-at t) total.Post total-Inv-loop total-μ-loop
+total-same-length : (t : ℕ) → total-lts.Need-same-length (total-callees t) (total-at t) total.Post total-Inv-loop total-μ-loop
 total-same-length t c = search needs
 
-total-returns : (t : ℕ) → total-lts.Need-returns (
-  word-reads.Asked,
-  word-reads.Learnt,
-  child-reads.Asked,
-  child-reads.Learnt,
-  gain-below t,
-  gain.Post,
-  reached-reads.Asked,
-  reached-reads.Learnt,
-  later-reads.Asked,
-  later-reads.Learnt,
-) (total-at t) total.Post total-Inv-loop total-μ-loop
-total-returns t c = choosing.summed-stuck (now (c .before .before .before .before .before .before .before .before .before .before .before .before .before .before .before .before .before .before .args .profile)) (c .before .before .before .before .before .before .before .before .before .before .before .before .before .before .before .before .before .before .args .seat) (c .before .before .before .before .before .before .before .before .before .before .before .before .before .before .before .before .before .before .args .depth) (c .before .before .before .before .before .before .before .before .before .before .before .before .before .before .before .before .before .before .args .heads) (c .before .before .before .before .before .before .before .before .before .before .before .before .before .before .before .before .before .before .args .reach) (c .before .before .before .before .before .before .before .before .before .before .before .before .before .before .before .before .before .before .args .kept) (c .before .before .before .before .before .before .before .before .before .before .before .before .before .before .before .before .before .before .args .first) (c .before .before .before .before .before .before .before .before .before .before .before .before .before .before .before .before .before .before .args .action) (now (c .before .before .before .before .before .before .before .before .before .before .before .before .before .before .before .before .before .before .args .w)) (c .before .before .before .before .before .before .before .before .before .before .before .before .before .loop .w) (c .before .before .before .before .before .before .before .before .gain .last .0) (c .before .before .before .before .before .before .before .before .before .before .before .before .before .loop .at) (c .before .before .before .before .before .before .before .before .before .before .before .before .before .loop .sum) (c .before .before .before .before .before .before .before .before .before .before .child .result) (c .before .before .before .before .before .before .before .before .gain .result) _ (c .before .later .result) (c .before .before .before .before .before .before .before .before .before .before .before .before .before .loop .inv .0) (c .before .before .before .before .before .before .before .before .before .before .before .before .loop-test .taken) (c .before .before .before .before .before .before .before .before .before .before .child .ensures) (c .before .before .before .before .before .before .before .before .gain .ensures) (c .before .before .before .before .reached .ensures) (c .before .later .ensures ∙ ap laterOf (c .before .before .word2 .ensures)) (c .if1 .taken)
+total-returns : (t : ℕ) → total-lts.Need-returns (total-callees t) (total-at t) total.Post total-Inv-loop total-μ-loop
+total-returns t c = let s0 = c .before .before .before .before .before .before .before .before .before .before .before .before .before .before .before .before .before .before in let s1 = c .before .before .before .before .before .before .before .before .before .before .before .before .before in let s2 = c .before .before .before .before .before .before .before .before .before .before in let s3 = c .before .before .before .before .before .before .before .before in choosing.summed-stuck (now (s0 .args .profile)) (s0 .args .seat) (s0 .args .depth) (s0 .args .heads) (s0 .args .reach) (s0 .args .kept) (s0 .args .first) (s0 .args .action) (now (s0 .args .w)) (s1 .loop .w) (s3 .gain .last .0) (s1 .loop .at) (s1 .loop .sum) (s2 .child .result) (s3 .gain .result) _ (c .before .later .result) (s1 .loop .inv .0) (c .before .before .before .before .before .before .before .before .before .before .before .before .loop-test .taken) (s2 .child .ensures) (s3 .gain .ensures) (c .before .before .before .before .reached .ensures) (c .before .later .ensures ∙ ap laterOf (c .before .before .word2 .ensures)) (c .if1 .taken)
 
-total-loop-less : (t : ℕ) → total-lts.Need-loop-less (
-  word-reads.Asked,
-  word-reads.Learnt,
-  child-reads.Asked,
-  child-reads.Learnt,
-  gain-below t,
-  gain.Post,
-  reached-reads.Asked,
-  reached-reads.Learnt,
-  later-reads.Asked,
-  later-reads.Learnt,
-) (total-at t) total.Post total-Inv-loop total-μ-loop
+total-loop-less : (t : ℕ) → total-lts.Need-loop-less (total-callees t) (total-at t) total.Post total-Inv-loop total-μ-loop
 total-loop-less t c = omega (arith, c .if1 .left, c .before .before .before .before .before .before .before .before .before .before .before .before .before .loop .inv .1)
 
-total-loop-again : (t : ℕ) → total-lts.Need-loop-again (
-  word-reads.Asked,
-  word-reads.Learnt,
-  child-reads.Asked,
-  child-reads.Learnt,
-  gain-below t,
-  gain.Post,
-  reached-reads.Asked,
-  reached-reads.Learnt,
-  later-reads.Asked,
-  later-reads.Learnt,
-) (total-at t) total.Post total-Inv-loop total-μ-loop
-total-loop-again t c = (choosing.summed-more (now (c .before .before .before .before .before .before .before .before .before .before .before .before .before .before .before .before .before .before .args .profile)) (c .before .before .before .before .before .before .before .before .before .before .before .before .before .before .before .before .before .before .args .seat) (c .before .before .before .before .before .before .before .before .before .before .before .before .before .before .before .before .before .before .args .depth) (c .before .before .before .before .before .before .before .before .before .before .before .before .before .before .before .before .before .before .args .heads) (c .before .before .before .before .before .before .before .before .before .before .before .before .before .before .before .before .before .before .args .reach) (c .before .before .before .before .before .before .before .before .before .before .before .before .before .before .before .before .before .before .args .kept) (c .before .before .before .before .before .before .before .before .before .before .before .before .before .before .before .before .before .before .args .first) (c .before .before .before .before .before .before .before .before .before .before .before .before .before .before .before .before .before .before .args .action) (now (c .before .before .before .before .before .before .before .before .before .before .before .before .before .before .before .before .before .before .args .w)) (c .before .before .before .before .before .before .before .before .before .before .before .before .before .loop .w) (c .before .before .before .before .before .before .before .before .gain .last .0) (c .before .before .before .before .before .before .before .before .before .before .before .before .before .loop .at) (c .before .before .before .before .before .before .before .before .before .before .before .before .before .loop .sum) (c .before .before .before .before .before .before .before .before .before .before .child .result) (c .before .before .before .before .before .before .before .before .gain .result) _ (c .before .later .result) (c .before .before .before .before .before .before .before .before .before .before .before .before .before .loop .inv .0) (c .before .before .before .before .before .before .before .before .before .before .before .before .loop-test .taken) (c .before .before .before .before .before .before .before .before .before .before .child .ensures) (c .before .before .before .before .before .before .before .before .gain .ensures) (c .before .before .before .before .reached .ensures) (c .before .later .ensures ∙ ap laterOf (c .before .before .word2 .ensures)), omega (arith, c .before .later .ensures), omega (arith, c .before .before .before .before .before .before .before .before .gain .kept .0, c .before .before .before .before .before .before .before .before .before .before .before .before .before .loop .inv .2))
+total-loop-again : (t : ℕ) → total-lts.Need-loop-again (total-callees t) (total-at t) total.Post total-Inv-loop total-μ-loop
+total-loop-again t c = let s0 = c .before .before .before .before .before .before .before .before .before .before .before .before .before .before .before .before .before .before in let s1 = c .before .before .before .before .before .before .before .before .before .before .before .before .before in let s2 = c .before .before .before .before .before .before .before .before .before .before in let s3 = c .before .before .before .before .before .before .before .before in (choosing.summed-more (now (s0 .args .profile)) (s0 .args .seat) (s0 .args .depth) (s0 .args .heads) (s0 .args .reach) (s0 .args .kept) (s0 .args .first) (s0 .args .action) (now (s0 .args .w)) (s1 .loop .w) (s3 .gain .last .0) (s1 .loop .at) (s1 .loop .sum) (s2 .child .result) (s3 .gain .result) _ (c .before .later .result) (s1 .loop .inv .0) (c .before .before .before .before .before .before .before .before .before .before .before .before .loop-test .taken) (s2 .child .ensures) (s3 .gain .ensures) (c .before .before .before .before .reached .ensures) (c .before .later .ensures ∙ ap laterOf (c .before .before .word2 .ensures)), omega (arith, c .before .later .ensures), omega (arith, s3 .gain .kept .0, s1 .loop .inv .2))
 
-total-same-length-2 : (t : ℕ) → total-lts.Need-same-length-2 (
-  word-reads.Asked,
-  word-reads.Learnt,
-  child-reads.Asked,
-  child-reads.Learnt,
-  gain-below t,
-  gain.Post,
-  reached-reads.Asked,
-  reached-reads.Learnt,
-  later-reads.Asked,
-  later-reads.Learnt,
-) (total-at t) total.Post total-Inv-loop total-μ-loop
+total-same-length-2 : (t : ℕ) → total-lts.Need-same-length-2 (total-callees t) (total-at t) total.Post total-Inv-loop total-μ-loop
 total-same-length-2 t c = search needs
 
-total-returns-2 : (t : ℕ) → total-lts.Need-returns-2 (
-  word-reads.Asked,
-  word-reads.Learnt,
-  child-reads.Asked,
-  child-reads.Learnt,
-  gain-below t,
-  gain.Post,
-  reached-reads.Asked,
-  reached-reads.Learnt,
-  later-reads.Asked,
-  later-reads.Learnt,
-) (total-at t) total.Post total-Inv-loop total-μ-loop
-total-returns-2 t c = choosing.summed-end (now (c .before .before .before .before .before .before .args .profile)) (c .before .before .before .before .before .before .args .seat) (c .before .before .before .before .before .before .args .depth) (c .before .before .before .before .before .before .args .heads) (c .before .before .before .before .before .before .args .reach) (c .before .before .before .before .before .before .args .kept) (c .before .before .before .before .before .before .args .first) (c .before .before .before .before .before .before .args .action) (now (c .before .before .before .before .before .before .args .w)) (c .before .loop .w) (c .before .loop .at) (c .before .loop .sum) (c .before .loop .inv .0) (λ l. omega (arith, l, c .loop-test .left))
+total-returns-2 : (t : ℕ) → total-lts.Need-returns-2 (total-callees t) (total-at t) total.Post total-Inv-loop total-μ-loop
+total-returns-2 t c = let s0 = c .before .before .before .before .before .before in choosing.summed-end (now (s0 .args .profile)) (s0 .args .seat) (s0 .args .depth) (s0 .args .heads) (s0 .args .reach) (s0 .args .kept) (s0 .args .first) (s0 .args .action) (now (s0 .args .w)) (c .before .loop .w) (c .before .loop .at) (c .before .loop .sum) (c .before .loop .inv .0) (λ l. omega (arith, l, c .loop-test .left))
 
-value-returns : (t : ℕ) → value-lts.Need-returns (
-  word-reads.Asked,
-  word-reads.Learnt,
-  kind-reads.Asked,
-  kind-reads.Learnt,
-  next-reads.Asked,
-  next-reads.Learnt,
-  dealt-below t,
-  dealt.Post,
-  actor-reads.Asked,
-  actor-reads.Learnt,
-  own-below t,
-  own.Post,
-  split-below t,
-  split.Post,
-) (value-at t) value.Post
-value-returns t c = valuing.value-none (now (c .before .before .before .args .profile)) (c .before .before .before .args .seat) (c .before .before .before .args .depth) (c .before .before .before .args .heads) (c .before .before .before .args .reach) (c .before .before .before .args .kept) (c .before .before .before .args .a) (now (c .before .before .before .args .w)) _ (c .if1 .taken)
+value-returns : (t : ℕ) → value-lts.Need-returns (value-callees t) (value-at t) value.Post
+value-returns t c = let s0 = c .before .before .before in valuing.value-none (now (s0 .args .profile)) (s0 .args .seat) (s0 .args .depth) (s0 .args .heads) (s0 .args .reach) (s0 .args .kept) (s0 .args .a) (now (s0 .args .w)) _ (c .if1 .taken)
 
-value-word-requires : (t : ℕ) → value-lts.Need-word-requires (
-  word-reads.Asked,
-  word-reads.Learnt,
-  kind-reads.Asked,
-  kind-reads.Learnt,
-  next-reads.Asked,
-  next-reads.Learnt,
-  dealt-below t,
-  dealt.Post,
-  actor-reads.Asked,
-  actor-reads.Learnt,
-  own-below t,
-  own.Post,
-  split-below t,
-  split.Post,
-) (value-at t) value.Post
+value-word-requires : (t : ℕ) → value-lts.Need-word-requires (value-callees t) (value-at t) value.Post
 value-word-requires t c κs = search needs
 
-value-kind-requires : (t : ℕ) → value-lts.Need-kind-requires (
-  word-reads.Asked,
-  word-reads.Learnt,
-  kind-reads.Asked,
-  kind-reads.Learnt,
-  next-reads.Asked,
-  next-reads.Learnt,
-  dealt-below t,
-  dealt.Post,
-  actor-reads.Asked,
-  actor-reads.Learnt,
-  own-below t,
-  own.Post,
-  split-below t,
-  split.Post,
-) (value-at t) value.Post
+value-kind-requires : (t : ℕ) → value-lts.Need-kind-requires (value-callees t) (value-at t) value.Post
 value-kind-requires t c κs = search needs
 
-value-same-length : (t : ℕ) → value-lts.Need-same-length (
-  word-reads.Asked,
-  word-reads.Learnt,
-  kind-reads.Asked,
-  kind-reads.Learnt,
-  next-reads.Asked,
-  next-reads.Learnt,
-  dealt-below t,
-  dealt.Post,
-  actor-reads.Asked,
-  actor-reads.Learnt,
-  own-below t,
-  own.Post,
-  split-below t,
-  split.Post,
-) (value-at t) value.Post
+value-same-length : (t : ℕ) → value-lts.Need-same-length (value-callees t) (value-at t) value.Post
 value-same-length t c = search needs
 
-value-returns-2 : (t : ℕ) → value-lts.Need-returns-2 (
-  word-reads.Asked,
-  word-reads.Learnt,
-  kind-reads.Asked,
-  kind-reads.Learnt,
-  next-reads.Asked,
-  next-reads.Learnt,
-  dealt-below t,
-  dealt.Post,
-  actor-reads.Asked,
-  actor-reads.Learnt,
-  own-below t,
-  own.Post,
-  split-below t,
-  split.Post,
-) (value-at t) value.Post
-value-returns-2 t c = valuing.value-end (now (c .before .before .before .before .before .before .before .args .profile)) (c .before .before .before .before .before .before .before .args .seat) (c .before .before .before .before .before .before .before .args .depth) (c .before .before .before .before .before .before .before .args .heads) (c .before .before .before .before .before .before .before .args .reach) (c .before .before .before .before .before .before .before .args .kept) (c .before .before .before .before .before .before .before .args .a) (now (c .before .before .before .before .before .before .before .args .w)) (c .before .before .word .result) (c .before .before .word .ensures) (sym (c .before .kind .ensures) ∙ c .if2 .taken)
+value-returns-2 : (t : ℕ) → value-lts.Need-returns-2 (value-callees t) (value-at t) value.Post
+value-returns-2 t c = let s0 = c .before .before .before .before .before .before .before in valuing.value-end (now (s0 .args .profile)) (s0 .args .seat) (s0 .args .depth) (s0 .args .heads) (s0 .args .reach) (s0 .args .kept) (s0 .args .a) (now (s0 .args .w)) (c .before .before .word .result) (c .before .before .word .ensures) (sym (c .before .kind .ensures) ∙ c .if2 .taken)
 
-value-add-dealt : (t : ℕ) → value-lts.Need-add-dealt (
-  word-reads.Asked,
-  word-reads.Learnt,
-  kind-reads.Asked,
-  kind-reads.Learnt,
-  next-reads.Asked,
-  next-reads.Learnt,
-  dealt-below t,
-  dealt.Post,
-  actor-reads.Asked,
-  actor-reads.Learnt,
-  own-below t,
-  own.Post,
-  split-below t,
-  split.Post,
-) (value-at t) value.Post
+value-add-dealt : (t : ℕ) → value-lts.Need-add-dealt (value-callees t) (value-at t) value.Post
 value-add-dealt t c = record { fits = omega (arith, c .before .before .before .before .before .before .before .before .before .pre .1 .place) }
 
-value-next-requires : (t : ℕ) → value-lts.Need-next-requires (
-  word-reads.Asked,
-  word-reads.Learnt,
-  kind-reads.Asked,
-  kind-reads.Learnt,
-  next-reads.Asked,
-  next-reads.Learnt,
-  dealt-below t,
-  dealt.Post,
-  actor-reads.Asked,
-  actor-reads.Learnt,
-  own-below t,
-  own.Post,
-  split-below t,
-  split.Post,
-) (value-at t) value.Post
+value-next-requires : (t : ℕ) → value-lts.Need-next-requires (value-callees t) (value-at t) value.Post
 value-next-requires t c κs = search needs
 
-value-sub-dealt : (t : ℕ) → value-lts.Need-sub-dealt (
-  word-reads.Asked,
-  word-reads.Learnt,
-  kind-reads.Asked,
-  kind-reads.Learnt,
-  next-reads.Asked,
-  next-reads.Learnt,
-  dealt-below t,
-  dealt.Post,
-  actor-reads.Asked,
-  actor-reads.Learnt,
-  own-below t,
-  own.Post,
-  split-below t,
-  split.Post,
-) (value-at t) value.Post
+value-sub-dealt : (t : ℕ) → value-lts.Need-sub-dealt (value-callees t) (value-at t) value.Post
 value-sub-dealt t c = omega (arith, c .before .before .before .before .before .before .before .if1 .left)
 
-value-dealt-requires : (t : ℕ) → value-lts.Need-dealt-requires (
-  word-reads.Asked,
-  word-reads.Learnt,
-  kind-reads.Asked,
-  kind-reads.Learnt,
-  next-reads.Asked,
-  next-reads.Learnt,
-  dealt-below t,
-  dealt.Post,
-  actor-reads.Asked,
-  actor-reads.Learnt,
-  own-below t,
-  own.Post,
-  split-below t,
-  split.Post,
-) (value-at t) value.Post
-value-dealt-requires t c κs = (omega (arith, c .before .before .before .before .before .before .before .before .before .before .pre .0, c .before .before .before .before .before .before .before .if1 .left), valuing.walk-at (c .before .before .before .before .before .before .before .before .before .before .args .a) (c .before .before .before .before .before .before .before .before .before .before .args .seat) (c .before .before .before .before .before .before .before .before .before .before .args .depth) (c .before .before .before .before .before .before .before .before .before .before .args .heads) (c .before .before .before .before .before .before .before .before .before .before .args .reach) (c .before .before .before .before .before .before .before .before .before .before .args .kept) (c .before .before .before .before .before .before .before .before .before .before .pre .1) (c .before .before .before .before .before .before .before .before .before .before .args .a + 1) (c .before .before .before .before .before .before .before .before .before .before .args .depth - 1) (omega arith) (omega (arith, c .before .before .before .before .before .before .before .before .before .before .pre .1 .place, c .before .before .before .before .before .before .before .if1 .left)))
+value-dealt-requires : (t : ℕ) → value-lts.Need-dealt-requires (value-callees t) (value-at t) value.Post
+value-dealt-requires t c κs = let s0 = c .before .before .before .before .before .before .before .before .before .before in let s1 = c .before .before .before .before .before .before .before in (omega (arith, s0 .pre .0, s1 .if1 .left), valuing.walk-at (s0 .args .a) (s0 .args .seat) (s0 .args .depth) (s0 .args .heads) (s0 .args .reach) (s0 .args .kept) (s0 .pre .1) (s0 .args .a + 1) (s0 .args .depth - 1) (omega arith) (omega (arith, s0 .pre .1 .place, s1 .if1 .left)))
 
-value-same-length-2 : (t : ℕ) → value-lts.Need-same-length-2 (
-  word-reads.Asked,
-  word-reads.Learnt,
-  kind-reads.Asked,
-  kind-reads.Learnt,
-  next-reads.Asked,
-  next-reads.Learnt,
-  dealt-below t,
-  dealt.Post,
-  actor-reads.Asked,
-  actor-reads.Learnt,
-  own-below t,
-  own.Post,
-  split-below t,
-  split.Post,
-) (value-at t) value.Post
+value-same-length-2 : (t : ℕ) → value-lts.Need-same-length-2 (value-callees t) (value-at t) value.Post
 value-same-length-2 t c = search needs
 
-value-returns-3 : (t : ℕ) → value-lts.Need-returns-3 (
-  word-reads.Asked,
-  word-reads.Learnt,
-  kind-reads.Asked,
-  kind-reads.Learnt,
-  next-reads.Asked,
-  next-reads.Learnt,
-  dealt-below t,
-  dealt.Post,
-  actor-reads.Asked,
-  actor-reads.Learnt,
-  own-below t,
-  own.Post,
-  split-below t,
-  split.Post,
-) (value-at t) value.Post
-value-returns-3 t c = valuing.value-chance (now (c .before .before .before .before .before .before .before .before .before .before .before .before .before .args .profile)) (c .before .before .before .before .before .before .before .before .before .before .before .before .before .args .seat) (c .before .before .before .before .before .before .before .before .before .before .before .before .before .args .depth) (c .before .before .before .before .before .before .before .before .before .before .before .before .before .args .heads) (c .before .before .before .before .before .before .before .before .before .before .before .before .before .args .reach) (c .before .before .before .before .before .before .before .before .before .before .before .before .before .args .kept) (c .before .before .before .before .before .before .before .before .before .before .before .before .before .args .a) (now (c .before .before .before .before .before .before .before .before .before .before .before .before .before .args .w)) (c .before .before .before .before .before .before .before .before .word .result) (c .before .before .before .before .before .before .before .before .word .ensures) (c .before .before .dealt .last .0) (c .before .before .dealt .result) (sym (c .before .before .before .before .before .before .before .kind .ensures) ∙ c .before .before .before .before .before .if3 .taken) (subst (λ z. Dealt (now (c .before .before .before .before .before .before .before .before .before .before .before .before .before .args .profile)) (c .before .before .before .before .before .before .before .before .before .before .before .before .before .args .seat) (c .before .before .before .before .before .before .before .before .before .before .before .before .before .args .depth - 1) (c .before .before .before .before .before .before .before .before .before .before .before .before .before .args .heads) (c .before .before .before .before .before .before .before .before .before .before .before .before .before .args .reach) (c .before .before .before .before .before .before .before .before .before .before .before .before .before .args .kept) (c .before .before .before .before .before .before .before .before .before .before .before .before .before .args .a + 1) z (now (c .before .before .before .before .before .before .before .before .before .before .before .before .before .args .w)) (c .before .before .dealt .last .0) (c .before .before .dealt .result)) (c .before .before .before .next .ensures) (c .before .before .dealt .ensures))
+value-returns-3 : (t : ℕ) → value-lts.Need-returns-3 (value-callees t) (value-at t) value.Post
+value-returns-3 t c = let s0 = c .before .before .before .before .before .before .before .before .before .before .before .before .before in let s1 = c .before .before .before .before .before .before .before .before in valuing.value-chance (now (s0 .args .profile)) (s0 .args .seat) (s0 .args .depth) (s0 .args .heads) (s0 .args .reach) (s0 .args .kept) (s0 .args .a) (now (s0 .args .w)) (s1 .word .result) (s1 .word .ensures) (c .before .before .dealt .last .0) (c .before .before .dealt .result) (sym (c .before .before .before .before .before .before .before .kind .ensures) ∙ c .before .before .before .before .before .if3 .taken) (subst (λ z. Dealt (now (s0 .args .profile)) (s0 .args .seat) (s0 .args .depth - 1) (s0 .args .heads) (s0 .args .reach) (s0 .args .kept) (s0 .args .a + 1) z (now (s0 .args .w)) (c .before .before .dealt .last .0) (c .before .before .dealt .result)) (c .before .before .before .next .ensures) (c .before .before .dealt .ensures))
 
-value-actor-requires : (t : ℕ) → value-lts.Need-actor-requires (
-  word-reads.Asked,
-  word-reads.Learnt,
-  kind-reads.Asked,
-  kind-reads.Learnt,
-  next-reads.Asked,
-  next-reads.Learnt,
-  dealt-below t,
-  dealt.Post,
-  actor-reads.Asked,
-  actor-reads.Learnt,
-  own-below t,
-  own.Post,
-  split-below t,
-  split.Post,
-) (value-at t) value.Post
+value-actor-requires : (t : ℕ) → value-lts.Need-actor-requires (value-callees t) (value-at t) value.Post
 value-actor-requires t c κs = search needs
 
-value-sub-own : (t : ℕ) → value-lts.Need-sub-own (
-  word-reads.Asked,
-  word-reads.Learnt,
-  kind-reads.Asked,
-  kind-reads.Learnt,
-  next-reads.Asked,
-  next-reads.Learnt,
-  dealt-below t,
-  dealt.Post,
-  actor-reads.Asked,
-  actor-reads.Learnt,
-  own-below t,
-  own.Post,
-  split-below t,
-  split.Post,
-) (value-at t) value.Post
+value-sub-own : (t : ℕ) → value-lts.Need-sub-own (value-callees t) (value-at t) value.Post
 value-sub-own t c = omega (arith, c .before .before .before .before .before .before .before .before .if1 .left)
 
-value-own-requires : (t : ℕ) → value-lts.Need-own-requires (
-  word-reads.Asked,
-  word-reads.Learnt,
-  kind-reads.Asked,
-  kind-reads.Learnt,
-  next-reads.Asked,
-  next-reads.Learnt,
-  dealt-below t,
-  dealt.Post,
-  actor-reads.Asked,
-  actor-reads.Learnt,
-  own-below t,
-  own.Post,
-  split-below t,
-  split.Post,
-) (value-at t) value.Post
-value-own-requires t c κs = (omega (arith, c .before .before .before .before .before .before .before .before .before .before .before .pre .0, c .before .before .before .before .before .before .before .before .if1 .left), valuing.walk-at (c .before .before .before .before .before .before .before .before .before .before .before .args .a) (c .before .before .before .before .before .before .before .before .before .before .before .args .seat) (c .before .before .before .before .before .before .before .before .before .before .before .args .depth) (c .before .before .before .before .before .before .before .before .before .before .before .args .heads) (c .before .before .before .before .before .before .before .before .before .before .before .args .reach) (c .before .before .before .before .before .before .before .before .before .before .before .args .kept) (c .before .before .before .before .before .before .before .before .before .before .before .pre .1) (c .before .before .before .before .before .before .before .before .before .before .before .args .a + 1) (c .before .before .before .before .before .before .before .before .before .before .before .args .depth - 1) (omega arith) (omega (arith, c .before .before .before .before .before .before .before .before .before .before .before .pre .1 .place, c .before .before .before .before .before .before .before .before .if1 .left)))
+value-own-requires : (t : ℕ) → value-lts.Need-own-requires (value-callees t) (value-at t) value.Post
+value-own-requires t c κs = let s0 = c .before .before .before .before .before .before .before .before .before .before .before in let s1 = c .before .before .before .before .before .before .before .before in (omega (arith, s0 .pre .0, s1 .if1 .left), valuing.walk-at (s0 .args .a) (s0 .args .seat) (s0 .args .depth) (s0 .args .heads) (s0 .args .reach) (s0 .args .kept) (s0 .pre .1) (s0 .args .a + 1) (s0 .args .depth - 1) (omega arith) (omega (arith, s0 .pre .1 .place, s1 .if1 .left)))
 
-value-same-length-3 : (t : ℕ) → value-lts.Need-same-length-3 (
-  word-reads.Asked,
-  word-reads.Learnt,
-  kind-reads.Asked,
-  kind-reads.Learnt,
-  next-reads.Asked,
-  next-reads.Learnt,
-  dealt-below t,
-  dealt.Post,
-  actor-reads.Asked,
-  actor-reads.Learnt,
-  own-below t,
-  own.Post,
-  split-below t,
-  split.Post,
-) (value-at t) value.Post
+value-same-length-3 : (t : ℕ) → value-lts.Need-same-length-3 (value-callees t) (value-at t) value.Post
 value-same-length-3 t c = search needs
 
-value-returns-4 : (t : ℕ) → value-lts.Need-returns-4 (
-  word-reads.Asked,
-  word-reads.Learnt,
-  kind-reads.Asked,
-  kind-reads.Learnt,
-  next-reads.Asked,
-  next-reads.Learnt,
-  dealt-below t,
-  dealt.Post,
-  actor-reads.Asked,
-  actor-reads.Learnt,
-  own-below t,
-  own.Post,
-  split-below t,
-  split.Post,
-) (value-at t) value.Post
-value-returns-4 t c = valuing.value-own (now (c .before .before .before .before .before .before .before .before .before .before .before .before .before .before .args .profile)) (c .before .before .before .before .before .before .before .before .before .before .before .before .before .before .args .seat) (c .before .before .before .before .before .before .before .before .before .before .before .before .before .before .args .depth) (c .before .before .before .before .before .before .before .before .before .before .before .before .before .before .args .heads) (c .before .before .before .before .before .before .before .before .before .before .before .before .before .before .args .reach) (c .before .before .before .before .before .before .before .before .before .before .before .before .before .before .args .kept) (c .before .before .before .before .before .before .before .before .before .before .before .before .before .before .args .a) (now (c .before .before .before .before .before .before .before .before .before .before .before .before .before .before .args .w)) (c .before .before .before .before .before .before .before .before .before .word .result) (c .before .before .before .before .before .before .before .before .before .word .ensures) (c .before .before .own .last .0) (c .before .before .own .result) (λ q. c .before .before .before .before .before .before .before .if2 .left (c .before .before .before .before .before .before .before .before .kind .ensures ∙ q)) (λ q. c .before .before .before .before .before .before .if3 .left (c .before .before .before .before .before .before .before .before .kind .ensures ∙ q)) (sym (c .before .before .before .before .before .actor .ensures) ∙ c .before .before .before .before .if4 .taken) (c .before .before .own .ensures)
+value-returns-4 : (t : ℕ) → value-lts.Need-returns-4 (value-callees t) (value-at t) value.Post
+value-returns-4 t c = let s0 = c .before .before .before .before .before .before .before .before .before .before .before .before .before .before in let s1 = c .before .before .before .before .before .before .before .before .before in let s2 = c .before .before .before .before .before .before .before .before in valuing.value-own (now (s0 .args .profile)) (s0 .args .seat) (s0 .args .depth) (s0 .args .heads) (s0 .args .reach) (s0 .args .kept) (s0 .args .a) (now (s0 .args .w)) (s1 .word .result) (s1 .word .ensures) (c .before .before .own .last .0) (c .before .before .own .result) (λ q. c .before .before .before .before .before .before .before .if2 .left (s2 .kind .ensures ∙ q)) (λ q. c .before .before .before .before .before .before .if3 .left (s2 .kind .ensures ∙ q)) (sym (c .before .before .before .before .before .actor .ensures) ∙ c .before .before .before .before .if4 .taken) (c .before .before .own .ensures)
 
-value-add-split : (t : ℕ) → value-lts.Need-add-split (
-  word-reads.Asked,
-  word-reads.Learnt,
-  kind-reads.Asked,
-  kind-reads.Learnt,
-  next-reads.Asked,
-  next-reads.Learnt,
-  dealt-below t,
-  dealt.Post,
-  actor-reads.Asked,
-  actor-reads.Learnt,
-  own-below t,
-  own.Post,
-  split-below t,
-  split.Post,
-) (value-at t) value.Post
+value-add-split : (t : ℕ) → value-lts.Need-add-split (value-callees t) (value-at t) value.Post
 value-add-split t c = record { fits = omega (arith, c .before .before .before .before .before .before .before .before .before .before .before .pre .1 .place) }
 
-value-sub-split : (t : ℕ) → value-lts.Need-sub-split (
-  word-reads.Asked,
-  word-reads.Learnt,
-  kind-reads.Asked,
-  kind-reads.Learnt,
-  next-reads.Asked,
-  next-reads.Learnt,
-  dealt-below t,
-  dealt.Post,
-  actor-reads.Asked,
-  actor-reads.Learnt,
-  own-below t,
-  own.Post,
-  split-below t,
-  split.Post,
-) (value-at t) value.Post
+value-sub-split : (t : ℕ) → value-lts.Need-sub-split (value-callees t) (value-at t) value.Post
 value-sub-split t c = omega (arith, c .before .before .before .before .before .before .before .before .if1 .left)
 
-value-split-requires : (t : ℕ) → value-lts.Need-split-requires (
-  word-reads.Asked,
-  word-reads.Learnt,
-  kind-reads.Asked,
-  kind-reads.Learnt,
-  next-reads.Asked,
-  next-reads.Learnt,
-  dealt-below t,
-  dealt.Post,
-  actor-reads.Asked,
-  actor-reads.Learnt,
-  own-below t,
-  own.Post,
-  split-below t,
-  split.Post,
-) (value-at t) value.Post
-value-split-requires t c κs = (omega (arith, c .before .before .before .before .before .before .before .before .before .before .before .pre .0, c .before .before .before .before .before .before .before .before .if1 .left), valuing.walk-at (c .before .before .before .before .before .before .before .before .before .before .before .args .a) (c .before .before .before .before .before .before .before .before .before .before .before .args .seat) (c .before .before .before .before .before .before .before .before .before .before .before .args .depth) (c .before .before .before .before .before .before .before .before .before .before .before .args .heads) (c .before .before .before .before .before .before .before .before .before .before .before .args .reach) (c .before .before .before .before .before .before .before .before .before .before .before .args .kept) (c .before .before .before .before .before .before .before .before .before .before .before .pre .1) (c .before .before .before .before .before .before .before .before .before .before .before .args .a + 1) (c .before .before .before .before .before .before .before .before .before .before .before .args .depth - 1) (omega arith) (omega (arith, c .before .before .before .before .before .before .before .before .before .before .before .pre .1 .place, c .before .before .before .before .before .before .before .before .if1 .left)))
+value-split-requires : (t : ℕ) → value-lts.Need-split-requires (value-callees t) (value-at t) value.Post
+value-split-requires t c κs = let s0 = c .before .before .before .before .before .before .before .before .before .before .before in let s1 = c .before .before .before .before .before .before .before .before in (omega (arith, s0 .pre .0, s1 .if1 .left), valuing.walk-at (s0 .args .a) (s0 .args .seat) (s0 .args .depth) (s0 .args .heads) (s0 .args .reach) (s0 .args .kept) (s0 .pre .1) (s0 .args .a + 1) (s0 .args .depth - 1) (omega arith) (omega (arith, s0 .pre .1 .place, s1 .if1 .left)))
 
-value-same-length-4 : (t : ℕ) → value-lts.Need-same-length-4 (
-  word-reads.Asked,
-  word-reads.Learnt,
-  kind-reads.Asked,
-  kind-reads.Learnt,
-  next-reads.Asked,
-  next-reads.Learnt,
-  dealt-below t,
-  dealt.Post,
-  actor-reads.Asked,
-  actor-reads.Learnt,
-  own-below t,
-  own.Post,
-  split-below t,
-  split.Post,
-) (value-at t) value.Post
+value-same-length-4 : (t : ℕ) → value-lts.Need-same-length-4 (value-callees t) (value-at t) value.Post
 value-same-length-4 t c = search needs
 
-value-returns-5 : (t : ℕ) → value-lts.Need-returns-5 (
-  word-reads.Asked,
-  word-reads.Learnt,
-  kind-reads.Asked,
-  kind-reads.Learnt,
-  next-reads.Asked,
-  next-reads.Learnt,
-  dealt-below t,
-  dealt.Post,
-  actor-reads.Asked,
-  actor-reads.Learnt,
-  own-below t,
-  own.Post,
-  split-below t,
-  split.Post,
-) (value-at t) value.Post
-value-returns-5 t c = valuing.value-other (now (c .before .before .before .before .before .before .before .before .before .before .before .before .before .before .args .profile)) (c .before .before .before .before .before .before .before .before .before .before .before .before .before .before .args .seat) (c .before .before .before .before .before .before .before .before .before .before .before .before .before .before .args .depth) (c .before .before .before .before .before .before .before .before .before .before .before .before .before .before .args .heads) (c .before .before .before .before .before .before .before .before .before .before .before .before .before .before .args .reach) (c .before .before .before .before .before .before .before .before .before .before .before .before .before .before .args .kept) (c .before .before .before .before .before .before .before .before .before .before .before .before .before .before .args .a) (now (c .before .before .before .before .before .before .before .before .before .before .before .before .before .before .args .w)) (c .before .before .before .before .before .before .before .before .before .word .result) (c .before .before .before .before .before .before .before .before .before .word .ensures) (c .before .before .split .last .0) (c .before .before .split .result) (λ q. c .before .before .before .before .before .before .before .if2 .left (c .before .before .before .before .before .before .before .before .kind .ensures ∙ q)) (λ q. c .before .before .before .before .before .before .if3 .left (c .before .before .before .before .before .before .before .before .kind .ensures ∙ q)) (λ q. c .before .before .before .before .if4 .left (c .before .before .before .before .before .actor .ensures ∙ q)) (c .before .before .split .ensures)
+value-returns-5 : (t : ℕ) → value-lts.Need-returns-5 (value-callees t) (value-at t) value.Post
+value-returns-5 t c = let s0 = c .before .before .before .before .before .before .before .before .before .before .before .before .before .before in let s1 = c .before .before .before .before .before .before .before .before .before in let s2 = c .before .before .before .before .before .before .before .before in valuing.value-other (now (s0 .args .profile)) (s0 .args .seat) (s0 .args .depth) (s0 .args .heads) (s0 .args .reach) (s0 .args .kept) (s0 .args .a) (now (s0 .args .w)) (s1 .word .result) (s1 .word .ensures) (c .before .before .split .last .0) (c .before .before .split .result) (λ q. c .before .before .before .before .before .before .before .if2 .left (s2 .kind .ensures ∙ q)) (λ q. c .before .before .before .before .before .before .if3 .left (s2 .kind .ensures ∙ q)) (λ q. c .before .before .before .before .if4 .left (c .before .before .before .before .before .actor .ensures ∙ q)) (c .before .before .split .ensures)
 
 pub +choose+dealt+gain+own+split+total+value-spec : {M : Type 1} → statement M
 +choose+dealt+gain+own+split+total+value-spec =
-    close μ-choose μ-dealt μ-gain μ-own μ-split μ-total μ-value (λ t. choose-lts.spec (
-      word-reads.Asked,
-      word-reads.Learnt,
-      start-reads.Asked,
-      start-reads.Learnt,
-      total-below t,
-      total.Post,
-      past-reads.Asked,
-      past-reads.Learnt,
-      put-reads.Asked,
-      put-reads.Learnt,
-    )
-    (choose-at t)
+    close μ-choose μ-dealt μ-gain μ-own μ-split μ-total μ-value (λ t. choose-lts.spec (choose-callees t) (choose-at t)
     choose.Post
     choose-Inv-loop
     choose-μ-loop
@@ -1567,17 +474,7 @@ pub +choose+dealt+gain+own+split+total+value-spec : {M : Type 1} → statement M
     (choose-put-requires t)
     (choose-same-length-2 t)
     (choose-returns-2 t))
-    (λ t. dealt-lts.spec (
-      fan-reads.Asked,
-      fan-reads.Learnt,
-      weight-reads.Asked,
-      weight-reads.Learnt,
-      gain-below t,
-      gain.Post,
-      behind-reads.Asked,
-      behind-reads.Learnt,
-    )
-    (dealt-at t)
+    (λ t. dealt-lts.spec (dealt-callees t) (dealt-at t)
     dealt.Post
     dealt-Inv-loop
     dealt-μ-loop
@@ -1592,17 +489,7 @@ pub +choose+dealt+gain+own+split+total+value-spec : {M : Type 1} → statement M
     (dealt-loop-again t)
     (dealt-same-length-2 t)
     (dealt-returns-2 t))
-    (λ t. gain-lts.spec (
-      word-reads.Asked,
-      word-reads.Learnt,
-      kind-reads.Asked,
-      kind-reads.Learnt,
-      payoff-of-reads.Asked,
-      payoff-of-reads.Learnt,
-      value-below t,
-      value.Post,
-    )
-    (gain-at t)
+    (λ t. gain-lts.spec (gain-callees t) (gain-at t)
     gain.Post
     (gain-word-requires t)
     (gain-kind-requires t)
@@ -1612,19 +499,7 @@ pub +choose+dealt+gain+own+split+total+value-spec : {M : Type 1} → statement M
     (gain-value-requires t)
     (gain-same-length-2 t)
     (gain-returns-2 t))
-    (λ t. own-lts.spec (
-      set-reads.Asked,
-      set-reads.Learnt,
-      actions-reads.Asked,
-      actions-reads.Learnt,
-      choose-below t,
-      choose.Post,
-      child-reads.Asked,
-      child-reads.Learnt,
-      gain-below t,
-      gain.Post,
-    )
-    (own-at t)
+    (λ t. own-lts.spec (own-callees t) (own-at t)
     own.Post
     (own-set-requires t)
     (own-actions-requires t)
@@ -1633,19 +508,7 @@ pub +choose+dealt+gain+own+split+total+value-spec : {M : Type 1} → statement M
     (own-gain-requires t)
     (own-same-length t)
     (own-returns t))
-    (λ t. split-lts.spec (
-      set-reads.Asked,
-      set-reads.Learnt,
-      actions-reads.Asked,
-      actions-reads.Learnt,
-      gain-below t,
-      gain.Post,
-      weighed-reads.Asked,
-      weighed-reads.Learnt,
-      behind-reads.Asked,
-      behind-reads.Learnt,
-    )
-    (split-at t)
+    (λ t. split-lts.spec (split-callees t) (split-at t)
     split.Post
     split-Inv-loop
     split-μ-loop
@@ -1666,19 +529,7 @@ pub +choose+dealt+gain+own+split+total+value-spec : {M : Type 1} → statement M
     (split-loop-again t)
     (split-same-length t)
     (split-returns-2 t))
-    (λ t. total-lts.spec (
-      word-reads.Asked,
-      word-reads.Learnt,
-      child-reads.Asked,
-      child-reads.Learnt,
-      gain-below t,
-      gain.Post,
-      reached-reads.Asked,
-      reached-reads.Learnt,
-      later-reads.Asked,
-      later-reads.Learnt,
-    )
-    (total-at t)
+    (λ t. total-lts.spec (total-callees t) (total-at t)
     total.Post
     total-Inv-loop
     total-μ-loop
@@ -1697,23 +548,7 @@ pub +choose+dealt+gain+own+split+total+value-spec : {M : Type 1} → statement M
     (total-loop-again t)
     (total-same-length-2 t)
     (total-returns-2 t))
-    λ t. value-lts.spec (
-      word-reads.Asked,
-      word-reads.Learnt,
-      kind-reads.Asked,
-      kind-reads.Learnt,
-      next-reads.Asked,
-      next-reads.Learnt,
-      dealt-below t,
-      dealt.Post,
-      actor-reads.Asked,
-      actor-reads.Learnt,
-      own-below t,
-      own.Post,
-      split-below t,
-      split.Post,
-    )
-    (value-at t)
+    λ t. value-lts.spec (value-callees t) (value-at t)
     value.Post
     (value-returns t)
     (value-word-requires t)

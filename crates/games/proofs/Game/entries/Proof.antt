@@ -11,7 +11,7 @@ sets-requires : tie.Need-sets-requires
 sets-requires c κs = search needs
 
 mul-result : tie.Need-mul-result
-mul-result c = omega (arith, c .sets .ensures, sets-at-most (c .before .before .before .args .self) (c .before .if1 .taken) (c .before .before .before .pre))
+mul-result c = let s0 = c .before .before .before in omega (arith, c .sets .ensures, sets-at-most (s0 .args .self) (c .before .if1 .taken) (s0 .pre))
 
 returns : tie.Need-returns
 returns c = ap (λ k. 2 * k) (c .sets .ensures) ∙ kuhn-entries (c .before .before .before .args .self) (c .before .if1 .taken)

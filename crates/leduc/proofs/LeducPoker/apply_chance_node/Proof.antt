@@ -25,7 +25,7 @@ card-due-requires c κs =
     (w .dealt-short, w .first-short, w .second-short)
 
 returns-2 : tie.Need-returns-2
-returns-2 c = rw (deal-idle (c .before .before .before .before .args .state) (sym (c .before .before .before .is-reachable .ensures) ∙ not-false _ (c .before .before .if1 .left)) (c .before .before .before .before .args .outcome) (sym (c .before .card-due .ensures) ∙ not-true _ (c .if2 .taken)))
+returns-2 c = let s0 = c .before .before .before .before in rw (deal-idle (s0 .args .state) (sym (c .before .before .before .is-reachable .ensures) ∙ not-false _ (c .before .before .if1 .left)) (s0 .args .outcome) (sym (c .before .card-due .ensures) ∙ not-true _ (c .if2 .taken)))
 
 next-card-requires : tie.Need-next-card-requires
 next-card-requires c κs = reachable-short (c .before .before .before .before .args .state) (sym (c .before .before .before .is-reachable .ensures) ∙ not-false _ (c .before .before .if1 .left)) .dealt-short

@@ -16,10 +16,10 @@ end-mark-requires : tie.Need-end-mark-requires
 end-mark-requires c κs = saved-short (c .before .before .args .state) (sym (c .before .saved-refusal .ensures) ∙ c .if1 .left)
 
 returns-2 : tie.Need-returns-2
-returns-2 c = rw (saved-mark-wrong (c .before .before .before .before .args .state) (c .before .before .before .before .args .done) (sym (c .before .before .before .saved-refusal .ensures) ∙ c .before .before .if1 .left) (λ e. c .if2 .taken (e ∙ sym (c .before .end-mark .ensures))))
+returns-2 c = let s0 = c .before .before .before .before in rw (saved-mark-wrong (s0 .args .state) (s0 .args .done) (sym (c .before .before .before .saved-refusal .ensures) ∙ c .before .before .if1 .left) (λ e. c .if2 .taken (e ∙ sym (c .before .end-mark .ensures))))
 
 returns-3 : tie.Need-returns-3
-returns-3 c = rw (saved-accepted (c .before .before .before .before .args .state) (c .before .before .before .before .args .done) (sym (c .before .before .before .saved-refusal .ensures) ∙ c .before .before .if1 .left) (c .if2 .left ∙ c .before .end-mark .ensures))
+returns-3 c = let s0 = c .before .before .before .before in rw (saved-accepted (s0 .args .state) (s0 .args .done) (sym (c .before .before .before .saved-refusal .ensures) ∙ c .before .before .if1 .left) (c .if2 .left ∙ c .before .end-mark .ensures))
 
 pub validate-decoded-state-spec : {M : Type 1} → statement M
 validate-decoded-state-spec =

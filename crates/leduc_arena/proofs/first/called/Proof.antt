@@ -16,14 +16,14 @@ public-requires c κs = ((c .before .before .pre .0 .0, c .before .before .pre .
 
 raised-requires : tie.Need-raised-requires
 unfolding calledTree IsLe
-raised-requires c κs = ((c .before .before .before .before .before .before .pre .0 .0, c .before .before .before .before .before .before .pre .0 .1, le-by-compare 1 2 tt, le-by-compare 4620 4620 tt, le-by-compare 3 3 tt), room-two _ _ _ _ _ (c .before .before .before .public .ensures) (c .before .before .before .before .before .before .pre .1))
+raised-requires c κs = let s0 = c .before .before .before .before .before .before in ((s0 .pre .0 .0, s0 .pre .0 .1, le-by-compare 1 2 tt, le-by-compare 4620 4620 tt, le-by-compare 3 3 tt), room-two _ _ _ _ _ (c .before .before .before .public .ensures) (s0 .pre .1))
 
 add-choose : tie.Need-add-choose
 add-choose c = search needs
 
 choose-requires : tie.Need-choose-requires
 unfolding calledTree IsLe
-choose-requires c κs = ((le-by-compare 2 2 tt, le-by-compare 3 4 tt, card-few (c .before .before .before .before .before .before .before .before .before .before .pre .0 .0), card-few (c .before .before .before .before .before .before .before .before .before .before .pre .0 .1), le-by-compare 498 4656 tt), two-fit _ _ (c .before .before .before .before .before .before .before .public .ensures) (c .before .before .before .raised .ensures) (c .before .before .before .before .before .before .before .before .before .before .pre .1))
+choose-requires c κs = let s0 = c .before .before .before .before .before .before .before .before .before .before in ((le-by-compare 2 2 tt, le-by-compare 3 4 tt, card-few (s0 .pre .0 .0), card-few (s0 .pre .0 .1), le-by-compare 498 4656 tt), two-fit _ _ (c .before .before .before .before .before .before .before .public .ensures) (c .before .before .before .raised .ensures) (s0 .pre .1))
 
 same-length : tie.Need-same-length
 same-length c = search needs

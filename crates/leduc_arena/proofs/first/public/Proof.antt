@@ -25,7 +25,7 @@ loop-holds c = (row-start _ _ _ _, omega arith)
 
 shown-requires : tie.Need-shown-requires Inv-loop μ-loop
 unfolding publicTree size
-shown-requires c κs = ((c .before .before .before .before .pre .0 .0, c .before .before .before .before .pre .0 .1, c .before .before .before .before .pre .0 .2, c .before .before .before .before .pre .0 .3, c .before .loop-test .taken), child-room _ _ _ _ _ _ _ (c .before .before .loop .inv .0) (first-room (c .before .before .before .before .pre .1) _ (NatL.le-refl _)) (c .before .loop-test .taken))
+shown-requires c κs = let s0 = c .before .before .before .before in ((s0 .pre .0 .0, s0 .pre .0 .1, s0 .pre .0 .2, s0 .pre .0 .3, c .before .loop-test .taken), child-room _ _ _ _ _ _ _ (c .before .before .loop .inv .0) (first-room (s0 .pre .1) _ (NatL.le-refl _)) (c .before .loop-test .taken))
 
 add-p : tie.Need-add-p Inv-loop μ-loop
 add-p c = omega (arith, c .before .before .before .before .loop-test .taken)
@@ -42,14 +42,14 @@ chance-requires c κs = row-fits (c .before .before .before .before .pre .1) (ro
 
 write-requires : tie.Need-write-requires Inv-loop μ-loop
 unfolding publicTree size
-write-requires c κs = row-fits (c .before .before .before .before .before .pre .1) (row-done _ _ _ _ _ _ _ (c .before .before .before .loop .inv .0) (c .before .before .before .loop .inv .1) (c .before .before .loop-test .left)) refl .1
+write-requires c κs = let s0 = c .before .before .before in row-fits (c .before .before .before .before .before .pre .1) (row-done _ _ _ _ _ _ _ (s0 .loop .inv .0) (s0 .loop .inv .1) (c .before .before .loop-test .left)) refl .1
 
 same-length : tie.Need-same-length Inv-loop μ-loop
 same-length c = search needs
 
 returns : tie.Need-returns Inv-loop μ-loop
 unfolding publicTree size
-returns c = lays-chance (c .before .before .before .before .before .before .before .before .pre .1) (row-done _ _ _ _ _ _ _ (c .before .before .before .before .before .before .loop .inv .0) (c .before .before .before .before .before .before .loop .inv .1) (c .before .before .before .before .before .loop-test .left)) refl (c .before .before .before .chance .ensures) (c .before .before .write .ensures)
+returns c = let s0 = c .before .before .before .before .before .before in lays-chance (c .before .before .before .before .before .before .before .before .pre .1) (row-done _ _ _ _ _ _ _ (s0 .loop .inv .0) (s0 .loop .inv .1) (c .before .before .before .before .before .loop-test .left)) refl (c .before .before .before .chance .ensures) (c .before .before .write .ensures)
 
 pub public-spec : {M : Type 1} → statement M
 public-spec = tie.close (tie.spec Inv-loop μ-loop add-next loop-holds shown-requires add-p loop-less loop-again chance-requires write-requires same-length returns)

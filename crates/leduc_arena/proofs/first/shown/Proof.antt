@@ -33,7 +33,7 @@ showdown-requires c κs = search needs
 
 round-requires : tie.Need-round-requires
 unfolding secondTree
-round-requires c κs = let kept : other (c .before .before .before .before .before .args .c) (c .before .before .before .before .before .args .d) (c .before .before .before .before .before .args .p) ≡ true = rw (ne-eqb _ _ (c .before .before .before .if1 .left), ne-eqb _ _ (c .before .before .if2 .left)) refl in
+round-requires c κs = let s0 = c .before .before .before .before .before in let kept : other (s0 .args .c) (s0 .args .d) (s0 .args .p) ≡ true = rw (ne-eqb _ _ (c .before .before .before .if1 .left), ne-eqb _ _ (c .before .before .if2 .left)) refl in
     ((omega arith, omega arith, c .showdown .ensures .1, c .before .before .before .before .before .pre .0 .3), rw (c .showdown .ensures .0) (kept-room _ _ _ _ _ kept (c .before .before .before .before .before .pre .1)))
 
 same-length : tie.Need-same-length
@@ -41,7 +41,7 @@ same-length c = search needs
 
 returns-3 : tie.Need-returns-3
 unfolding secondTree
-returns-3 c = let kept : other (c .before .before .before .before .before .before .before .before .args .c) (c .before .before .before .before .before .before .before .before .args .d) (c .before .before .before .before .before .before .before .before .args .p) ≡ true = rw (ne-eqb _ _ (c .before .before .before .before .before .before .if1 .left), ne-eqb _ _ (c .before .before .before .before .before .if2 .left)) refl in
+returns-3 c = let s0 = c .before .before .before .before .before .before .before .before in let kept : other (s0 .args .c) (s0 .args .d) (s0 .args .p) ≡ true = rw (ne-eqb _ _ (c .before .before .before .before .before .before .if1 .left), ne-eqb _ _ (c .before .before .before .before .before .if2 .left)) refl in
     keeps _ _ _ _ _ kept (rw (c .before .before .before .showdown .ensures .0) at (c .before .before .round .ensures))
 
 pub shown-spec : {M : Type 1} → statement M

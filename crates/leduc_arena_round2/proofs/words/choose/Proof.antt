@@ -12,7 +12,7 @@ add-code : tie.Need-add-code
 add-code c = record { fits = omega (arith, c .own .ensures .1) }
 
 decision-requires : tie.Need-decision-requires
-decision-requires c κs = (omega arith, c .before .before .before .pre .0 .1, omega (arith, c .before .own .ensures .1), c .before .before .before .pre .1 .0, omega arith)
+decision-requires c κs = let s0 = c .before .before .before in (omega arith, s0 .pre .0 .1, omega (arith, c .before .own .ensures .1), s0 .pre .1 .0, omega arith)
 
 write-requires : tie.Need-write-requires
 write-requires c κs = search needs
@@ -21,7 +21,7 @@ same-length : tie.Need-same-length
 same-length c = search needs
 
 returns : tie.Need-returns
-returns c = let few : c .before .before .before .before .before .own .result + c .before .before .before .before .before .before .before .args .number < 16384 = omega (arith, c .before .before .before .before .before .own .ensures .1) in
+returns c = let s0 = c .before .before .before .before .before in let few : s0 .own .result + c .before .before .before .before .before .before .before .args .number < 16384 = omega (arith, s0 .own .ensures .1) in
     record { seat = c .before .before .before .before .before .before .before .pre .0 .0; few = c .before .before .before .before .before .before .before .pre .0 .1; word = rw (c .before .before .before .decision .ensures, c .before .before .before .before .before .own .ensures .0) at (c .before .before .write .ensures); small = rw (c .before .before .before .before .before .own .ensures .0) at few }
 
 pub choose-spec : {M : Type 1} → statement M

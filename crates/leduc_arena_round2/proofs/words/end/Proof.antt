@@ -37,7 +37,7 @@ same-length c = search needs
 
 returns : tie.Need-returns
 unfolding endTree size
-returns c = lays-end _ _ _ _ _ _ _ (c .before .before .before .before .before .before .before .pre .2) (c .before .before .before .before .byte .ensures .0) (c .before .before .before .before .byte .ensures .1) (c .before .before .before .byte2 .ensures .0) (c .before .before .before .byte2 .ensures .1) (c .before .before .write .ensures)
+returns c = let s0 = c .before .before .before .before in let s1 = c .before .before .before in lays-end _ _ _ _ _ _ _ (c .before .before .before .before .before .before .before .pre .2) (s0 .byte .ensures .0) (s0 .byte .ensures .1) (s1 .byte2 .ensures .0) (s1 .byte2 .ensures .1) (c .before .before .write .ensures)
 
 pub end-spec : {M : Type 1} → statement M
 end-spec = tie.close (tie.spec byte-requires mul-write sub-byte byte-requires-2 mul-write-2 add-write write-requires add-result same-length returns)

@@ -35,7 +35,7 @@ contains-requires c κs = search needs
 
 returns : tie.Need-returns Inv-loop μ-loop
 unfolding twice
-returns c = sym (some-here _ _ (c .before .before .before .before .before .before .loop .i) (omega arith) (ap (λ x. has x (take (c .before .before .before .before .before .before .loop .i) (c .before .before .before .before .before .before .before .before .args .cards .now))) (sym (c .before .before .wide .ensures)) ∙ sym (c .before .contains .ensures) ∙ c .if1 .taken))
+returns c = let s0 = c .before .before .before .before .before .before in sym (some-here _ _ (s0 .loop .i) (omega arith) (ap (λ x. has x (take (s0 .loop .i) (c .before .before .before .before .before .before .before .before .args .cards .now))) (sym (c .before .before .wide .ensures)) ∙ sym (c .before .contains .ensures) ∙ c .if1 .taken))
 
 add-i : tie.Need-add-i Inv-loop μ-loop
 add-i c = search needs

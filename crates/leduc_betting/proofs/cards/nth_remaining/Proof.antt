@@ -28,7 +28,7 @@ add-if1 c = omega (arith, c .one-if-left .ensures, at-most-one (left (c .before 
 
 returns : tie.Need-returns Inv-loop μ-loop
 unfolding remaining
-returns c = sym (nth-hit (left (c .before .before .before .before .before .args .cards .now)) 6 (c .before .before .before .loop .c) (c .before .before .before .before .before .args .outcome) 6 (omega arith) (omega arith) (omega (arith, c .before .one-if-left .ensures)))
+returns c = let s0 = c .before .before .before .before .before in sym (nth-hit (left (s0 .args .cards .now)) 6 (c .before .before .before .loop .c) (s0 .args .outcome) 6 (omega arith) (omega arith) (omega (arith, c .before .one-if-left .ensures)))
 
 add-passed : tie.Need-add-passed Inv-loop μ-loop
 add-passed c = omega (arith, c .before .one-if-left .ensures, at-most-one (left (c .before .before .before .before .before .args .cards .now) (c .before .before .before .loop .c)))

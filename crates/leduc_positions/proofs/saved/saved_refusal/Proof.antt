@@ -15,13 +15,13 @@ cards-refusal-requires : tie.Need-cards-refusal-requires
 cards-refusal-requires c κs = search needs
 
 returns-2 : tie.Need-returns-2
-returns-2 c = c .before .cards-refusal .ensures ∙ sym (cards-there (c .before .before .before .before .before .args .state) (c .before .before .before .if1 .left) ∙ cards-stop (seen (take 2 (c .before .before .before .before .before .args .state .cards)) (c .before .before .before .before .before .args .state .public)) (rounds-checks (c .before .before .before .before .before .args .state)) (λ e. c .if2 .taken (c .before .cards-refusal .ensures ∙ e)))
+returns-2 c = let s0 = c .before .before .before .before .before in c .before .cards-refusal .ensures ∙ sym (cards-there (s0 .args .state) (c .before .before .before .if1 .left) ∙ cards-stop (seen (take 2 (s0 .args .state .cards)) (s0 .args .state .public)) (rounds-checks (s0 .args .state)) (λ e. c .if2 .taken (c .before .cards-refusal .ensures ∙ e)))
 
 rounds-refusal-requires : tie.Need-rounds-refusal-requires
 rounds-refusal-requires c κs = search needs
 
 returns-3 : tie.Need-returns-3
-returns-3 c = c .rounds-refusal .ensures ∙ sym (cards-there (c .before .before .before .before .before .before .args .state) (c .before .before .before .before .if1 .left) ∙ cards-pass (seen (take 2 (c .before .before .before .before .before .before .args .state .cards)) (c .before .before .before .before .before .before .args .state .public)) (rounds-checks (c .before .before .before .before .before .before .args .state)) (sym (c .before .before .cards-refusal .ensures) ∙ c .before .if2 .left))
+returns-3 c = let s0 = c .before .before .before .before .before .before in c .rounds-refusal .ensures ∙ sym (cards-there (s0 .args .state) (c .before .before .before .before .if1 .left) ∙ cards-pass (seen (take 2 (s0 .args .state .cards)) (s0 .args .state .public)) (rounds-checks (s0 .args .state)) (sym (c .before .before .cards-refusal .ensures) ∙ c .before .if2 .left))
 
 pub saved-refusal-spec : {M : Type 1} → statement M
 saved-refusal-spec =

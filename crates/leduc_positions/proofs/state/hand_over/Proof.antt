@@ -34,7 +34,7 @@ is-terminal-requires : tie.Need-is-terminal-requires
 is-terminal-requires c κs = search needs
 
 returns : tie.Need-returns
-returns c = c .is-terminal .ensures ∙ ap (ended (roundOne (c .before .before .before .before .before .args .state))) (second-part (c .before .before .before .before .before .args .state .acted2) (c .before .before .before .before .before .args .state .history))
+returns c = let s0 = c .before .before .before .before .before in c .is-terminal .ensures ∙ ap (ended (roundOne (s0 .args .state))) (second-part (s0 .args .state .acted2) (s0 .args .state .history))
 
 pub hand-over-spec : {M : Type 1} → statement M
 hand-over-spec =

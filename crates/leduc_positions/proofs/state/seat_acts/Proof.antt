@@ -42,7 +42,7 @@ is-live-requires : tie.Need-is-live-requires
 is-live-requires c κs = search needs
 
 returns : tie.Need-returns
-returns c = c .is-live .ensures ∙ ap (live (cardsOf (c .before .before .before .before .before .before .before .args .state)) (c .before .before .before .before .before .before .before .args .state .public) (roundOne (c .before .before .before .before .before .before .before .args .state))) (second-part (c .before .before .before .before .before .before .before .args .state .acted2) (c .before .before .before .before .before .before .before .args .state .history))
+returns c = let s0 = c .before .before .before .before .before .before .before in c .is-live .ensures ∙ ap (live (cardsOf (s0 .args .state)) (s0 .args .state .public) (roundOne (s0 .args .state))) (second-part (s0 .args .state .acted2) (s0 .args .state .history))
 
 pub seat-acts-spec : {M : Type 1} → statement M
 seat-acts-spec =

@@ -37,7 +37,7 @@ action-made-requires c κs = search needs
 
 returns : tie.Need-returns
 unfolding in-play
-returns c = rw (sym (c .before .before .before .round-over .ensures) ∙ c .before .before .if1 .taken) (c .action-made .ensures ∙ ap (λ h. counted h (c .before .before .before .before .before .before .before .args .action)) (second-part (c .before .before .before .before .before .before .before .args .state .acted2) (c .before .before .before .before .before .before .before .args .state .history)))
+returns c = let s0 = c .before .before .before .before .before .before .before in rw (sym (c .before .before .before .round-over .ensures) ∙ c .before .before .if1 .taken) (c .action-made .ensures ∙ ap (λ h. counted h (s0 .args .action)) (second-part (s0 .args .state .acted2) (s0 .args .state .history)))
 
 slice-aggregate-action-made : tie.Need-slice-aggregate-action-made
 slice-aggregate-action-made c = front-length (c .before .before .before .before .before .before .args .state .history) _ 8 (search needs) (omega arith)

@@ -28,7 +28,7 @@ is-terminal-requires c κs = search needs
 
 returns-3 : tie.Need-returns-3
 unfolding public-due and
-returns-3 c = rw (sym (c .before .before .before .before .is-hidden .ensures) ∙ not-false (c .before .before .before .before .is-hidden .result) (c .before .before .before .if1 .left), sym (c .before .before .round-over .ensures) ∙ not-false (c .before .before .round-over .result) (c .before .if2 .left)) (ap not (c .is-terminal .ensures))
+returns-3 c = let s0 = c .before .before .before .before in rw (sym (s0 .is-hidden .ensures) ∙ not-false (s0 .is-hidden .result) (c .before .before .before .if1 .left), sym (c .before .before .round-over .ensures) ∙ not-false (c .before .before .round-over .result) (c .before .if2 .left)) (ap not (c .is-terminal .ensures))
 
 pub is-public-due-spec : {M : Type 1} → statement M
 is-public-due-spec =

@@ -17,16 +17,16 @@ returns : tie.Need-returns
 returns c = search needs
 
 mul-if2 : tie.Need-mul-if2
-mul-if2 c = record { fits = omega (arith, even-few (c .before .before .before .before .args .u) (c .before .before .before .before .args .each) (c .before .before .before .before .args .d) (c .before .before .before .before .pre .1) (c .before .before .before .before .pre .4), c .before .before .before .before .pre .1) }
+mul-if2 c = let s0 = c .before .before .before .before in record { fits = omega (arith, even-few (s0 .args .u) (s0 .args .each) (s0 .args .d) (s0 .pre .1) (s0 .pre .4), s0 .pre .1) }
 
 mul-result : tie.Need-mul-result
-mul-result c = record { fits = omega (arith, even-part (c .before .before .before .before .before .args .u) (c .before .before .before .before .before .args .each) (c .before .before .wide .result) (c .before .before .before .before .before .args .d) (c .before .before .before .before .before .pre .1) (omega (arith, c .before .if1 .left)) (c .if2 .taken)) }
+mul-result c = let s0 = c .before .before .before .before .before in record { fits = omega (arith, even-part (s0 .args .u) (s0 .args .each) (c .before .before .wide .result) (s0 .args .d) (s0 .pre .1) (omega (arith, c .before .if1 .left)) (c .if2 .taken)) }
 
 returns-2 : tie.Need-returns-2
-returns-2 c = (even-part (c .before .before .before .before .before .args .u) (c .before .before .before .before .before .args .each) (c .before .before .wide .result) (c .before .before .before .before .before .args .d) (c .before .before .before .before .before .pre .1) (omega (arith, c .before .if1 .left)) (c .if2 .taken), λ q. even-share (c .before .before .before .before .before .args .u) (c .before .before .before .before .before .args .each) (c .before .before .wide .result) (c .before .before .before .before .before .args .d) (c .before .before .before .before .before .pre .2) (c .if2 .taken) ∙ ap (λ x. c .before .before .before .before .before .args .u * x / c .before .before .before .before .before .args .d) (c .before .before .wide .ensures))
+returns-2 c = let s0 = c .before .before .before .before .before in (even-part (s0 .args .u) (s0 .args .each) (c .before .before .wide .result) (s0 .args .d) (s0 .pre .1) (omega (arith, c .before .if1 .left)) (c .if2 .taken), λ q. even-share (s0 .args .u) (s0 .args .each) (c .before .before .wide .result) (s0 .args .d) (s0 .pre .2) (c .if2 .taken) ∙ ap (λ x. s0 .args .u * x / s0 .args .d) (c .before .before .wide .ensures))
 
 decision-share-requires : tie.Need-decision-share-requires
-decision-share-requires c κs = (omega (arith, c .before .before .before .before .before .pre .2), product-few (c .before .before .before .before .before .args .u) (c .before .before .wide .result) (c .before .before .before .before .before .args .d) (c .before .before .before .before .before .pre .1) (omega (arith, c .before .if1 .left)) (c .before .before .before .before .before .pre .3))
+decision-share-requires c κs = let s0 = c .before .before .before .before .before in (omega (arith, s0 .pre .2), product-few (s0 .args .u) (c .before .before .wide .result) (s0 .args .d) (s0 .pre .1) (omega (arith, c .before .if1 .left)) (s0 .pre .3))
 
 returns-3 : tie.Need-returns-3
 returns-3 c =

@@ -58,7 +58,7 @@ array-write-z-6 : tie.Need-array-write-z-6
 array-write-z-6 c = search needs
 
 returns : tie.Need-returns
-returns c = six _ _ _ _ _ _ _ (product _ _ _ (c .before .before .before .before .before .before .pre) (c .before .before .before .before .before .lifted .ensures)) (product _ _ _ (c .before .before .before .before .before .before .pre) (c .before .before .before .before .lifted2 .ensures)) (product _ _ _ (c .before .before .before .before .before .before .pre) (c .before .before .before .lifted3 .ensures)) (product _ _ _ (c .before .before .before .before .before .before .pre) (c .before .before .lifted4 .ensures)) (product _ _ _ (c .before .before .before .before .before .before .pre) (c .before .lifted5 .ensures)) (product _ _ _ (c .before .before .before .before .before .before .pre) (c .lifted6 .ensures))
+returns c = let s0 = c .before .before .before .before .before .before in six _ _ _ _ _ _ _ (product _ _ _ (s0 .pre) (c .before .before .before .before .before .lifted .ensures)) (product _ _ _ (s0 .pre) (c .before .before .before .before .lifted2 .ensures)) (product _ _ _ (s0 .pre) (c .before .before .before .lifted3 .ensures)) (product _ _ _ (s0 .pre) (c .before .before .lifted4 .ensures)) (product _ _ _ (s0 .pre) (c .before .lifted5 .ensures)) (product _ _ _ (s0 .pre) (c .lifted6 .ensures))
 
 pub earned-spec : {M : Type 1} → statement M
 earned-spec =

@@ -18,7 +18,7 @@ add-requires : tie.Need-add-requires
 add-requires c κs = search needs
 
 returns-2 : tie.Need-returns-2
-returns-2 c = λ f h. with-end (c .before .before .before .before .args .x) (c .before .before .before .before .args .y) f (c .before .before .before .before .args .sums .of) h _ _ (sym (c .before .before .before .kind .ensures) ∙ c .before .before .if1 .left) (c .before .earned .ensures) (c .add .ensures)
+returns-2 c = let s0 = c .before .before .before .before in λ f h. with-end (s0 .args .x) (s0 .args .y) f (s0 .args .sums .of) h _ _ (sym (c .before .before .before .kind .ensures) ∙ c .before .before .if1 .left) (c .before .earned .ensures) (c .add .ensures)
 
 pub with-node-spec : {M : Type 1} → statement M
 with-node-spec = tie.close (tie.spec kind-requires returns earned-requires add-requires returns-2)

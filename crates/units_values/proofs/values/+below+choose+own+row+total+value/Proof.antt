@@ -102,100 +102,46 @@ value-at t = and 1 value-kinds.ps (is 1 value-kinds.ps μ-value t) value.Pre
 abbrev value-below : ℕ → In 1 value-kinds.ps
 value-below t = and 1 value-kinds.ps (falls 1 value-kinds.ps _<_ μ-value t) value.Pre
 
-below-word-requires : (t : ℕ) → below-lts.Need-word-requires (
-  word-reads.Asked,
-  word-reads.Learnt,
-  kind-reads.Asked,
-  kind-reads.Learnt,
-  ended-reads.Asked,
-  ended-reads.Learnt,
-  value-below t,
-  value.Post,
-) (below-at t) below.Post
+abbrev below-callees : ℕ → below-lts.Claims
+below-callees t = (word-reads.Asked, word-reads.Learnt, kind-reads.Asked, kind-reads.Learnt, ended-reads.Asked, ended-reads.Learnt, value-below t, value.Post)
+
+abbrev choose-callees : ℕ → choose-lts.Claims
+choose-callees t = (word-reads.Asked, word-reads.Learnt, start-reads.Asked, start-reads.Learnt, total-below t, total.Post, past-reads.Asked, past-reads.Learnt, put-reads.Asked, put-reads.Learnt)
+
+abbrev own-callees : ℕ → own-lts.Claims
+own-callees t = (set-reads.Asked, set-reads.Learnt, actions-reads.Asked, actions-reads.Learnt, choose-below t, choose.Post, child-reads.Asked, child-reads.Learnt, below-below t, below.Post)
+
+abbrev row-callees : ℕ → row-lts.Claims
+row-callees t = (below-below t, below.Post, wrapping-add-u64-reads.Asked, wrapping-add-u64-reads.Learnt, behind-reads.Asked, behind-reads.Learnt)
+
+abbrev total-callees : ℕ → total-lts.Claims
+total-callees t = (word-reads.Asked, word-reads.Learnt, child-reads.Asked, child-reads.Learnt, below-below t, below.Post, wrapping-add-u64-reads.Asked, wrapping-add-u64-reads.Learnt, later-reads.Asked, later-reads.Learnt)
+
+abbrev value-callees : ℕ → value-lts.Claims
+value-callees t = (word-reads.Asked, word-reads.Learnt, kind-reads.Asked, kind-reads.Learnt, ended-reads.Asked, ended-reads.Learnt, next-reads.Asked, next-reads.Learnt, row-below t, row.Post, actor-reads.Asked, actor-reads.Learnt, own-below t, own.Post)
+
+below-word-requires : (t : ℕ) → below-lts.Need-word-requires (below-callees t) (below-at t) below.Post
 below-word-requires t c κs = search needs
 
-below-kind-requires : (t : ℕ) → below-lts.Need-kind-requires (
-  word-reads.Asked,
-  word-reads.Learnt,
-  kind-reads.Asked,
-  kind-reads.Learnt,
-  ended-reads.Asked,
-  ended-reads.Learnt,
-  value-below t,
-  value.Post,
-) (below-at t) below.Post
+below-kind-requires : (t : ℕ) → below-lts.Need-kind-requires (below-callees t) (below-at t) below.Post
 below-kind-requires t c κs = search needs
 
-below-ended-requires : (t : ℕ) → below-lts.Need-ended-requires (
-  word-reads.Asked,
-  word-reads.Learnt,
-  kind-reads.Asked,
-  kind-reads.Learnt,
-  ended-reads.Asked,
-  ended-reads.Learnt,
-  value-below t,
-  value.Post,
-) (below-at t) below.Post
-below-ended-requires t c κs = (c .before .before .before .before .before .before .pre .1 .seat, omega (arith, c .before .before .before .before .before .before .pre .1 .place, c .before .before .before .before .before .before .pre .1 .units))
+below-ended-requires : (t : ℕ) → below-lts.Need-ended-requires (below-callees t) (below-at t) below.Post
+below-ended-requires t c κs = let s0 = c .before .before .before .before .before .before in (s0 .pre .1 .seat, omega (arith, s0 .pre .1 .place, s0 .pre .1 .units))
 
-below-same-length : (t : ℕ) → below-lts.Need-same-length (
-  word-reads.Asked,
-  word-reads.Learnt,
-  kind-reads.Asked,
-  kind-reads.Learnt,
-  ended-reads.Asked,
-  ended-reads.Learnt,
-  value-below t,
-  value.Post,
-) (below-at t) below.Post
+below-same-length : (t : ℕ) → below-lts.Need-same-length (below-callees t) (below-at t) below.Post
 below-same-length t c = search needs
 
-below-returns : (t : ℕ) → below-lts.Need-returns (
-  word-reads.Asked,
-  word-reads.Learnt,
-  kind-reads.Asked,
-  kind-reads.Learnt,
-  ended-reads.Asked,
-  ended-reads.Learnt,
-  value-below t,
-  value.Post,
-) (below-at t) below.Post
-below-returns t c = valuing.value-ended (c .before .before .before .before .before .before .before .args .seat) (c .before .before .before .before .before .before .before .args .depth) (c .before .before .before .before .before .before .before .args .heads) (c .before .before .before .before .before .before .before .args .units) (c .before .before .before .before .before .before .before .args .kept) (c .before .before .before .before .before .before .before .args .a) (now (c .before .before .before .before .before .before .before .args .w)) (c .before .before .before .before .word .result) (c .before .before .before .before .word .ensures) _ (sym (c .before .before .before .kind .ensures) ∙ c .before .before .if1 .taken) (c .ended .ensures)
+below-returns : (t : ℕ) → below-lts.Need-returns (below-callees t) (below-at t) below.Post
+below-returns t c = let s0 = c .before .before .before .before .before .before .before in let s1 = c .before .before .before .before in valuing.value-ended (s0 .args .seat) (s0 .args .depth) (s0 .args .heads) (s0 .args .units) (s0 .args .kept) (s0 .args .a) (now (s0 .args .w)) (s1 .word .result) (s1 .word .ensures) _ (sym (c .before .before .before .kind .ensures) ∙ c .before .before .if1 .taken) (c .ended .ensures)
 
-below-value-requires : (t : ℕ) → below-lts.Need-value-requires (
-  word-reads.Asked,
-  word-reads.Learnt,
-  kind-reads.Asked,
-  kind-reads.Learnt,
-  ended-reads.Asked,
-  ended-reads.Learnt,
-  value-below t,
-  value.Post,
-) (below-at t) below.Post
-below-value-requires t c κs = (omega (arith, c .before .before .before .before .before .before .pre .0), c .before .before .before .before .before .before .pre .1)
+below-value-requires : (t : ℕ) → below-lts.Need-value-requires (below-callees t) (below-at t) below.Post
+below-value-requires t c κs = let s0 = c .before .before .before .before .before .before in (omega (arith, s0 .pre .0), s0 .pre .1)
 
-below-same-length-2 : (t : ℕ) → below-lts.Need-same-length-2 (
-  word-reads.Asked,
-  word-reads.Learnt,
-  kind-reads.Asked,
-  kind-reads.Learnt,
-  ended-reads.Asked,
-  ended-reads.Learnt,
-  value-below t,
-  value.Post,
-) (below-at t) below.Post
+below-same-length-2 : (t : ℕ) → below-lts.Need-same-length-2 (below-callees t) (below-at t) below.Post
 below-same-length-2 t c = search needs
 
-below-returns-2 : (t : ℕ) → below-lts.Need-returns-2 (
-  word-reads.Asked,
-  word-reads.Learnt,
-  kind-reads.Asked,
-  kind-reads.Learnt,
-  ended-reads.Asked,
-  ended-reads.Learnt,
-  value-below t,
-  value.Post,
-) (below-at t) below.Post
+below-returns-2 : (t : ℕ) → below-lts.Need-returns-2 (below-callees t) (below-at t) below.Post
 below-returns-2 t c = c .before .before .value .ensures
 
 abbrev choose-Inv-loop : choose-lts.InvT-loop
@@ -204,341 +150,77 @@ choose-Inv-loop w₀ first count seat depth heads units kept known top₀ action
 abbrev choose-μ-loop : choose-lts.MeasureT-loop
 choose-μ-loop w₀ first count seat depth heads units kept known top₀ action₀ w top action = count - action
 
-choose-add-word : (t : ℕ) → choose-lts.Need-add-word (
-  word-reads.Asked,
-  word-reads.Learnt,
-  start-reads.Asked,
-  start-reads.Learnt,
-  total-below t,
-  total.Post,
-  past-reads.Asked,
-  past-reads.Learnt,
-  put-reads.Asked,
-  put-reads.Learnt,
-) (choose-at t) choose.Post choose-Inv-loop choose-μ-loop
+choose-add-word : (t : ℕ) → choose-lts.Need-add-word (choose-callees t) (choose-at t) choose.Post choose-Inv-loop choose-μ-loop
 choose-add-word t c = record { fits = omega (arith, c .before .before .pre .1 .kept, c .before .before .pre .1 .place) }
 
-choose-word-requires : (t : ℕ) → choose-lts.Need-word-requires (
-  word-reads.Asked,
-  word-reads.Learnt,
-  start-reads.Asked,
-  start-reads.Learnt,
-  total-below t,
-  total.Post,
-  past-reads.Asked,
-  past-reads.Learnt,
-  put-reads.Asked,
-  put-reads.Learnt,
-) (choose-at t) choose.Post choose-Inv-loop choose-μ-loop
+choose-word-requires : (t : ℕ) → choose-lts.Need-word-requires (choose-callees t) (choose-at t) choose.Post choose-Inv-loop choose-μ-loop
 choose-word-requires t c κs = search needs
 
-choose-sub-result : (t : ℕ) → choose-lts.Need-sub-result (
-  word-reads.Asked,
-  word-reads.Learnt,
-  start-reads.Asked,
-  start-reads.Learnt,
-  total-below t,
-  total.Post,
-  past-reads.Asked,
-  past-reads.Learnt,
-  put-reads.Asked,
-  put-reads.Learnt,
-) (choose-at t) choose.Post choose-Inv-loop choose-μ-loop
+choose-sub-result : (t : ℕ) → choose-lts.Need-sub-result (choose-callees t) (choose-at t) choose.Post choose-Inv-loop choose-μ-loop
 choose-sub-result t c = omega (arith, c .if1 .taken)
 
-choose-same-length : (t : ℕ) → choose-lts.Need-same-length (
-  word-reads.Asked,
-  word-reads.Learnt,
-  start-reads.Asked,
-  start-reads.Learnt,
-  total-below t,
-  total.Post,
-  past-reads.Asked,
-  past-reads.Learnt,
-  put-reads.Asked,
-  put-reads.Learnt,
-) (choose-at t) choose.Post choose-Inv-loop choose-μ-loop
+choose-same-length : (t : ℕ) → choose-lts.Need-same-length (choose-callees t) (choose-at t) choose.Post choose-Inv-loop choose-μ-loop
 choose-same-length t c = search needs
 
-choose-returns : (t : ℕ) → choose-lts.Need-returns (
-  word-reads.Asked,
-  word-reads.Learnt,
-  start-reads.Asked,
-  start-reads.Learnt,
-  total-below t,
-  total.Post,
-  past-reads.Asked,
-  past-reads.Learnt,
-  put-reads.Asked,
-  put-reads.Learnt,
-) (choose-at t) choose.Post choose-Inv-loop choose-μ-loop
-choose-returns t c = choosing.chosen-known (c .before .before .before .before .args .seat) (c .before .before .before .before .args .depth) (c .before .before .before .before .args .heads) (c .before .before .before .before .args .units) (c .before .before .before .before .args .kept) (c .before .before .before .before .args .first) (c .before .before .before .before .args .count) (now (c .before .before .before .before .args .w)) (c .before .word .result) _ (c .before .word .ensures) (c .if1 .taken) refl
+choose-returns : (t : ℕ) → choose-lts.Need-returns (choose-callees t) (choose-at t) choose.Post choose-Inv-loop choose-μ-loop
+choose-returns t c = let s0 = c .before .before .before .before in choosing.chosen-known (s0 .args .seat) (s0 .args .depth) (s0 .args .heads) (s0 .args .units) (s0 .args .kept) (s0 .args .first) (s0 .args .count) (now (s0 .args .w)) (c .before .word .result) _ (c .before .word .ensures) (c .if1 .taken) refl
 
-choose-start-requires : (t : ℕ) → choose-lts.Need-start-requires (
-  word-reads.Asked,
-  word-reads.Learnt,
-  start-reads.Asked,
-  start-reads.Learnt,
-  total-below t,
-  total.Post,
-  past-reads.Asked,
-  past-reads.Learnt,
-  put-reads.Asked,
-  put-reads.Learnt,
-) (choose-at t) choose.Post choose-Inv-loop choose-μ-loop
+choose-start-requires : (t : ℕ) → choose-lts.Need-start-requires (choose-callees t) (choose-at t) choose.Post choose-Inv-loop choose-μ-loop
 choose-start-requires t c κs = search needs
 
-choose-loop-holds : (t : ℕ) → choose-lts.Need-loop-holds (
-  word-reads.Asked,
-  word-reads.Learnt,
-  start-reads.Asked,
-  start-reads.Learnt,
-  total-below t,
-  total.Post,
-  past-reads.Asked,
-  past-reads.Learnt,
-  put-reads.Asked,
-  put-reads.Learnt,
-) (choose-at t) choose.Post choose-Inv-loop choose-μ-loop
-choose-loop-holds t c = (choosing.led-start (c .before .before .before .before .before .args .seat) (c .before .before .before .before .before .args .depth) (c .before .before .before .before .before .args .heads) (c .before .before .before .before .before .args .units) (c .before .before .before .before .before .args .kept) (c .before .before .before .before .before .args .first) (c .before .before .before .before .before .args .count) (now (c .before .before .before .before .before .args .w)) _ _ (c .start .ensures .0) (c .start .ensures .1), omega (arith, c .start .ensures .0), omega arith, refl)
+choose-loop-holds : (t : ℕ) → choose-lts.Need-loop-holds (choose-callees t) (choose-at t) choose.Post choose-Inv-loop choose-μ-loop
+choose-loop-holds t c = let s0 = c .before .before .before .before .before in (choosing.led-start (s0 .args .seat) (s0 .args .depth) (s0 .args .heads) (s0 .args .units) (s0 .args .kept) (s0 .args .first) (s0 .args .count) (now (s0 .args .w)) _ _ (c .start .ensures .0) (c .start .ensures .1), omega (arith, c .start .ensures .0), omega arith, refl)
 
-choose-total-requires : (t : ℕ) → choose-lts.Need-total-requires (
-  word-reads.Asked,
-  word-reads.Learnt,
-  start-reads.Asked,
-  start-reads.Learnt,
-  total-below t,
-  total.Post,
-  past-reads.Asked,
-  past-reads.Learnt,
-  put-reads.Asked,
-  put-reads.Learnt,
-) (choose-at t) choose.Post choose-Inv-loop choose-μ-loop
-choose-total-requires t c κs = (omega (arith, c .before .before .before .before .before .before .before .before .pre .0), c .before .before .before .before .before .before .before .before .pre .1)
+choose-total-requires : (t : ℕ) → choose-lts.Need-total-requires (choose-callees t) (choose-at t) choose.Post choose-Inv-loop choose-μ-loop
+choose-total-requires t c κs = let s0 = c .before .before .before .before .before .before .before .before in (omega (arith, s0 .pre .0), s0 .pre .1)
 
-choose-past-requires : (t : ℕ) → choose-lts.Need-past-requires (
-  word-reads.Asked,
-  word-reads.Learnt,
-  start-reads.Asked,
-  start-reads.Learnt,
-  total-below t,
-  total.Post,
-  past-reads.Asked,
-  past-reads.Learnt,
-  put-reads.Asked,
-  put-reads.Learnt,
-) (choose-at t) choose.Post choose-Inv-loop choose-μ-loop
+choose-past-requires : (t : ℕ) → choose-lts.Need-past-requires (choose-callees t) (choose-at t) choose.Post choose-Inv-loop choose-μ-loop
 choose-past-requires t c κs = search needs
 
-choose-add-action : (t : ℕ) → choose-lts.Need-add-action (
-  word-reads.Asked,
-  word-reads.Learnt,
-  start-reads.Asked,
-  start-reads.Learnt,
-  total-below t,
-  total.Post,
-  past-reads.Asked,
-  past-reads.Learnt,
-  put-reads.Asked,
-  put-reads.Learnt,
-) (choose-at t) choose.Post choose-Inv-loop choose-μ-loop
+choose-add-action : (t : ℕ) → choose-lts.Need-add-action (choose-callees t) (choose-at t) choose.Post choose-Inv-loop choose-μ-loop
 choose-add-action t c = record { fits = omega (arith, c .before .before .before .before .before .loop-test .taken) }
 
-choose-loop-less : (t : ℕ) → choose-lts.Need-loop-less (
-  word-reads.Asked,
-  word-reads.Learnt,
-  start-reads.Asked,
-  start-reads.Learnt,
-  total-below t,
-  total.Post,
-  past-reads.Asked,
-  past-reads.Learnt,
-  put-reads.Asked,
-  put-reads.Learnt,
-) (choose-at t) choose.Post choose-Inv-loop choose-μ-loop
+choose-loop-less : (t : ℕ) → choose-lts.Need-loop-less (choose-callees t) (choose-at t) choose.Post choose-Inv-loop choose-μ-loop
 choose-loop-less t c = omega (arith, c .before .before .before .before .before .loop-test .taken)
 
-choose-loop-again : (t : ℕ) → choose-lts.Need-loop-again (
-  word-reads.Asked,
-  word-reads.Learnt,
-  start-reads.Asked,
-  start-reads.Learnt,
-  total-below t,
-  total.Post,
-  past-reads.Asked,
-  past-reads.Learnt,
-  put-reads.Asked,
-  put-reads.Learnt,
-) (choose-at t) choose.Post choose-Inv-loop choose-μ-loop
-choose-loop-again t c = (choosing.led-more (c .before .before .before .before .before .before .before .before .before .before .before .before .args .seat) (c .before .before .before .before .before .before .before .before .before .before .before .before .args .depth) (c .before .before .before .before .before .before .before .before .before .before .before .before .args .heads) (c .before .before .before .before .before .before .before .before .before .before .before .before .args .units) (c .before .before .before .before .before .before .before .before .before .before .before .before .args .kept) (c .before .before .before .before .before .before .before .before .before .before .before .before .args .first) (c .before .before .before .before .before .before .before .before .before .before .before .before .args .count) (now (c .before .before .before .before .before .before .before .before .before .before .before .before .args .w)) (c .before .before .before .before .before .before .loop .w) (c .before .before .before .total .last .0) (c .before .before .before .before .before .before .loop .top .action) (c .before .before .before .before .before .before .loop .top .sum) (c .before .before .before .before .before .before .loop .action) (c .before .before .before .total .result) (c .past .result .action) (c .past .result .sum) (c .before .before .before .before .before .before .loop .inv .0) (c .before .before .before .before .before .loop-test .taken) (c .before .before .before .total .ensures) (c .past .ensures .0) (c .past .ensures .1), omega (arith, c .past .ensures .0, past-few (ltb (c .before .before .before .before .before .before .loop .top .sum) (c .before .before .before .total .result)) (c .before .before .before .before .before .before .loop .action) (c .before .before .before .before .before .before .loop .top .action) (c .before .before .before .before .before .before .loop .inv .1)), omega (arith, c .before .before .before .before .before .loop-test .taken), omega (arith, c .before .before .before .total .kept .0, c .before .before .before .before .before .before .loop .inv .3))
+choose-loop-again : (t : ℕ) → choose-lts.Need-loop-again (choose-callees t) (choose-at t) choose.Post choose-Inv-loop choose-μ-loop
+choose-loop-again t c = let s0 = c .before .before .before .before .before .before .before .before .before .before .before .before in let s1 = c .before .before .before .before .before .before in let s2 = c .before .before .before .before .before in let s3 = c .before .before .before in (choosing.led-more (s0 .args .seat) (s0 .args .depth) (s0 .args .heads) (s0 .args .units) (s0 .args .kept) (s0 .args .first) (s0 .args .count) (now (s0 .args .w)) (s1 .loop .w) (s3 .total .last .0) (s1 .loop .top .action) (s1 .loop .top .sum) (s1 .loop .action) (s3 .total .result) (c .past .result .action) (c .past .result .sum) (s1 .loop .inv .0) (s2 .loop-test .taken) (s3 .total .ensures) (c .past .ensures .0) (c .past .ensures .1), omega (arith, c .past .ensures .0, past-few (ltb (s1 .loop .top .sum) (s3 .total .result)) (s1 .loop .action) (s1 .loop .top .action) (s1 .loop .inv .1)), omega (arith, s2 .loop-test .taken), omega (arith, s3 .total .kept .0, s1 .loop .inv .3))
 
-choose-add-put : (t : ℕ) → choose-lts.Need-add-put (
-  word-reads.Asked,
-  word-reads.Learnt,
-  start-reads.Asked,
-  start-reads.Learnt,
-  total-below t,
-  total.Post,
-  past-reads.Asked,
-  past-reads.Learnt,
-  put-reads.Asked,
-  put-reads.Learnt,
-) (choose-at t) choose.Post choose-Inv-loop choose-μ-loop
-choose-add-put t c = record { fits = omega (arith, c .before .before .before .before .before .before .before .before .pre .1 .kept, c .before .before .before .before .before .before .before .before .pre .1 .place) }
+choose-add-put : (t : ℕ) → choose-lts.Need-add-put (choose-callees t) (choose-at t) choose.Post choose-Inv-loop choose-μ-loop
+choose-add-put t c = let s0 = c .before .before .before .before .before .before .before .before in record { fits = omega (arith, s0 .pre .1 .kept, s0 .pre .1 .place) }
 
-choose-add-put-2 : (t : ℕ) → choose-lts.Need-add-put-2 (
-  word-reads.Asked,
-  word-reads.Learnt,
-  start-reads.Asked,
-  start-reads.Learnt,
-  total-below t,
-  total.Post,
-  past-reads.Asked,
-  past-reads.Learnt,
-  put-reads.Asked,
-  put-reads.Learnt,
-) (choose-at t) choose.Post choose-Inv-loop choose-μ-loop
+choose-add-put-2 : (t : ℕ) → choose-lts.Need-add-put-2 (choose-callees t) (choose-at t) choose.Post choose-Inv-loop choose-μ-loop
 choose-add-put-2 t c = record { fits = omega (arith, c .before .before .loop .inv .1, c .before .before .loop .inv .2, c .before .loop-test .left) }
 
-choose-put-requires : (t : ℕ) → choose-lts.Need-put-requires (
-  word-reads.Asked,
-  word-reads.Learnt,
-  start-reads.Asked,
-  start-reads.Learnt,
-  total-below t,
-  total.Post,
-  past-reads.Asked,
-  past-reads.Learnt,
-  put-reads.Asked,
-  put-reads.Learnt,
-) (choose-at t) choose.Post choose-Inv-loop choose-μ-loop
+choose-put-requires : (t : ℕ) → choose-lts.Need-put-requires (choose-callees t) (choose-at t) choose.Post choose-Inv-loop choose-μ-loop
 choose-put-requires t c κs = search needs
 
-choose-same-length-2 : (t : ℕ) → choose-lts.Need-same-length-2 (
-  word-reads.Asked,
-  word-reads.Learnt,
-  start-reads.Asked,
-  start-reads.Learnt,
-  total-below t,
-  total.Post,
-  past-reads.Asked,
-  past-reads.Learnt,
-  put-reads.Asked,
-  put-reads.Learnt,
-) (choose-at t) choose.Post choose-Inv-loop choose-μ-loop
+choose-same-length-2 : (t : ℕ) → choose-lts.Need-same-length-2 (choose-callees t) (choose-at t) choose.Post choose-Inv-loop choose-μ-loop
 choose-same-length-2 t c = search needs
 
-choose-returns-2 : (t : ℕ) → choose-lts.Need-returns-2 (
-  word-reads.Asked,
-  word-reads.Learnt,
-  start-reads.Asked,
-  start-reads.Learnt,
-  total-below t,
-  total.Post,
-  past-reads.Asked,
-  past-reads.Learnt,
-  put-reads.Asked,
-  put-reads.Learnt,
-) (choose-at t) choose.Post choose-Inv-loop choose-μ-loop
-choose-returns-2 t c = choosing.led-end (c .before .before .before .before .before .before .before .before .before .before .before .args .seat) (c .before .before .before .before .before .before .before .before .before .before .before .args .depth) (c .before .before .before .before .before .before .before .before .before .before .before .args .heads) (c .before .before .before .before .before .before .before .before .before .before .before .args .units) (c .before .before .before .before .before .before .before .before .before .before .before .args .kept) (c .before .before .before .before .before .before .before .before .before .before .before .args .first) (c .before .before .before .before .before .before .before .before .before .before .before .args .count) (now (c .before .before .before .before .before .before .before .before .before .before .before .args .w)) (c .before .before .before .before .before .loop .w) (c .before .before .put .last .0) (c .before .before .before .before .before .loop .top .action) (c .before .before .before .before .before .loop .top .sum) (c .before .before .before .before .before .loop .action) (c .before .before .before .before .before .loop .inv .0) (omega (arith, c .before .before .before .before .loop-test .left)) (c .before .before .put .ensures)
+choose-returns-2 : (t : ℕ) → choose-lts.Need-returns-2 (choose-callees t) (choose-at t) choose.Post choose-Inv-loop choose-μ-loop
+choose-returns-2 t c = let s0 = c .before .before .before .before .before .before .before .before .before .before .before in let s1 = c .before .before .before .before .before in choosing.led-end (s0 .args .seat) (s0 .args .depth) (s0 .args .heads) (s0 .args .units) (s0 .args .kept) (s0 .args .first) (s0 .args .count) (now (s0 .args .w)) (s1 .loop .w) (c .before .before .put .last .0) (s1 .loop .top .action) (s1 .loop .top .sum) (s1 .loop .action) (s1 .loop .inv .0) (omega (arith, c .before .before .before .before .loop-test .left)) (c .before .before .put .ensures)
 
-own-set-requires : (t : ℕ) → own-lts.Need-set-requires (
-  set-reads.Asked,
-  set-reads.Learnt,
-  actions-reads.Asked,
-  actions-reads.Learnt,
-  choose-below t,
-  choose.Post,
-  child-reads.Asked,
-  child-reads.Learnt,
-  below-below t,
-  below.Post,
-) (own-at t) own.Post
+own-set-requires : (t : ℕ) → own-lts.Need-set-requires (own-callees t) (own-at t) own.Post
 own-set-requires t c κs = search needs
 
-own-actions-requires : (t : ℕ) → own-lts.Need-actions-requires (
-  set-reads.Asked,
-  set-reads.Learnt,
-  actions-reads.Asked,
-  actions-reads.Learnt,
-  choose-below t,
-  choose.Post,
-  child-reads.Asked,
-  child-reads.Learnt,
-  below-below t,
-  below.Post,
-) (own-at t) own.Post
+own-actions-requires : (t : ℕ) → own-lts.Need-actions-requires (own-callees t) (own-at t) own.Post
 own-actions-requires t c κs = search needs
 
-own-choose-requires : (t : ℕ) → own-lts.Need-choose-requires (
-  set-reads.Asked,
-  set-reads.Learnt,
-  actions-reads.Asked,
-  actions-reads.Learnt,
-  choose-below t,
-  choose.Post,
-  child-reads.Asked,
-  child-reads.Learnt,
-  below-below t,
-  below.Post,
-) (own-at t) own.Post
-own-choose-requires t c κs = (omega (arith, c .before .before .before .before .pre .0), valuing.walk-at (c .before .before .before .before .args .a + 1) (c .before .before .before .before .args .seat) (c .before .before .before .before .args .depth) (c .before .before .before .before .args .heads) (c .before .before .before .before .args .units) (c .before .before .before .before .args .kept) (c .before .before .before .before .pre .1) (c .before .set .result) (c .before .before .before .before .args .depth) (omega arith) (omega (arith, c .before .set .ensures, c .before .before .before .before .pre .1 .shallow)))
+own-choose-requires : (t : ℕ) → own-lts.Need-choose-requires (own-callees t) (own-at t) own.Post
+own-choose-requires t c κs = let s0 = c .before .before .before .before in (omega (arith, s0 .pre .0), valuing.walk-at (s0 .args .a + 1) (s0 .args .seat) (s0 .args .depth) (s0 .args .heads) (s0 .args .units) (s0 .args .kept) (s0 .pre .1) (c .before .set .result) (s0 .args .depth) (omega arith) (omega (arith, c .before .set .ensures, s0 .pre .1 .shallow)))
 
-own-child-requires : (t : ℕ) → own-lts.Need-child-requires (
-  set-reads.Asked,
-  set-reads.Learnt,
-  actions-reads.Asked,
-  actions-reads.Learnt,
-  choose-below t,
-  choose.Post,
-  child-reads.Asked,
-  child-reads.Learnt,
-  below-below t,
-  below.Post,
-) (own-at t) own.Post
+own-child-requires : (t : ℕ) → own-lts.Need-child-requires (own-callees t) (own-at t) own.Post
 own-child-requires t c κs = omega (arith, c .before .before .before .before .before .before .before .before .pre .1 .place)
 
-own-below-requires : (t : ℕ) → own-lts.Need-below-requires (
-  set-reads.Asked,
-  set-reads.Learnt,
-  actions-reads.Asked,
-  actions-reads.Learnt,
-  choose-below t,
-  choose.Post,
-  child-reads.Asked,
-  child-reads.Learnt,
-  below-below t,
-  below.Post,
-) (own-at t) own.Post
-own-below-requires t c κs = (omega (arith, c .before .before .before .before .before .before .before .before .before .before .pre .0), valuing.walk-at (c .before .before .before .before .before .before .before .before .before .before .args .a + 1) (c .before .before .before .before .before .before .before .before .before .before .args .seat) (c .before .before .before .before .before .before .before .before .before .before .args .depth) (c .before .before .before .before .before .before .before .before .before .before .args .heads) (c .before .before .before .before .before .before .before .before .before .before .args .units) (c .before .before .before .before .before .before .before .before .before .before .args .kept) (c .before .before .before .before .before .before .before .before .before .before .pre .1) (c .before .child .result) (c .before .before .before .before .before .before .before .before .before .before .args .depth) (omega arith) (omega (arith, c .before .child .ensures .near, c .before .before .before .before .before .before .before .before .before .before .pre .1 .shallow)))
+own-below-requires : (t : ℕ) → own-lts.Need-below-requires (own-callees t) (own-at t) own.Post
+own-below-requires t c κs = let s0 = c .before .before .before .before .before .before .before .before .before .before in (omega (arith, s0 .pre .0), valuing.walk-at (s0 .args .a + 1) (s0 .args .seat) (s0 .args .depth) (s0 .args .heads) (s0 .args .units) (s0 .args .kept) (s0 .pre .1) (c .before .child .result) (s0 .args .depth) (omega arith) (omega (arith, c .before .child .ensures .near, s0 .pre .1 .shallow)))
 
-own-same-length : (t : ℕ) → own-lts.Need-same-length (
-  set-reads.Asked,
-  set-reads.Learnt,
-  actions-reads.Asked,
-  actions-reads.Learnt,
-  choose-below t,
-  choose.Post,
-  child-reads.Asked,
-  child-reads.Learnt,
-  below-below t,
-  below.Post,
-) (own-at t) own.Post
+own-same-length : (t : ℕ) → own-lts.Need-same-length (own-callees t) (own-at t) own.Post
 own-same-length t c = search needs
 
-own-returns : (t : ℕ) → own-lts.Need-returns (
-  set-reads.Asked,
-  set-reads.Learnt,
-  actions-reads.Asked,
-  actions-reads.Learnt,
-  choose-below t,
-  choose.Post,
-  child-reads.Asked,
-  child-reads.Learnt,
-  below-below t,
-  below.Post,
-) (own-at t) own.Post
-own-returns t c = valuing.own-is (c .before .before .before .before .before .before .before .before .before .before .before .before .before .args .seat) (c .before .before .before .before .before .before .before .before .before .before .before .before .before .args .depth) (c .before .before .before .before .before .before .before .before .before .before .before .before .before .args .heads) (c .before .before .before .before .before .before .before .before .before .before .before .before .before .args .units) (c .before .before .before .before .before .before .before .before .before .before .before .before .before .args .kept) (c .before .before .before .before .before .before .before .before .before .before .before .before .before .args .a) (c .before .before .before .before .before .before .before .before .before .before .before .before .before .args .x) (now (c .before .before .before .before .before .before .before .before .before .before .before .before .before .args .w)) (c .before .before .before .before .before .before .before .before .choose .last .0) (c .before .before .below .last .0) (c .before .before .before .before .before .before .before .before .choose .result) (c .before .before .before .before .child .result) (c .before .before .below .result) (subst (λ e. Chosen (c .before .before .before .before .before .before .before .before .before .before .before .before .before .args .seat) (c .before .before .before .before .before .before .before .before .before .before .before .before .before .args .depth) (c .before .before .before .before .before .before .before .before .before .before .before .before .before .args .heads) (c .before .before .before .before .before .before .before .before .before .before .before .before .before .args .units) (c .before .before .before .before .before .before .before .before .before .before .before .before .before .args .kept) e (actionsOf (c .before .before .before .before .before .before .before .before .before .before .before .before .before .args .x)) (now (c .before .before .before .before .before .before .before .before .before .before .before .before .before .args .w)) (c .before .before .before .before .before .before .before .before .choose .last .0) (c .before .before .before .before .before .before .before .before .choose .result)) (c .before .before .before .before .before .before .before .before .before .before .set .ensures) (subst (λ n. Chosen (c .before .before .before .before .before .before .before .before .before .before .before .before .before .args .seat) (c .before .before .before .before .before .before .before .before .before .before .before .before .before .args .depth) (c .before .before .before .before .before .before .before .before .before .before .before .before .before .args .heads) (c .before .before .before .before .before .before .before .before .before .before .before .before .before .args .units) (c .before .before .before .before .before .before .before .before .before .before .before .before .before .args .kept) (c .before .before .before .before .before .before .before .before .before .before .set .result) n (now (c .before .before .before .before .before .before .before .before .before .before .before .before .before .args .w)) (c .before .before .before .before .before .before .before .before .choose .last .0) (c .before .before .before .before .before .before .before .before .choose .result)) (c .before .before .before .before .before .before .before .before .before .actions .ensures) (c .before .before .before .before .before .before .before .before .choose .ensures))) (c .before .before .before .before .child .ensures) (c .before .before .below .ensures)
+own-returns : (t : ℕ) → own-lts.Need-returns (own-callees t) (own-at t) own.Post
+own-returns t c = let s0 = c .before .before .before .before .before .before .before .before .before .before .before .before .before in let s1 = c .before .before .before .before .before .before .before .before .before .before in let s2 = c .before .before .before .before .before .before .before .before in let s3 = c .before .before .before .before in valuing.own-is (s0 .args .seat) (s0 .args .depth) (s0 .args .heads) (s0 .args .units) (s0 .args .kept) (s0 .args .a) (s0 .args .x) (now (s0 .args .w)) (s2 .choose .last .0) (c .before .before .below .last .0) (s2 .choose .result) (s3 .child .result) (c .before .before .below .result) (subst (λ e. Chosen (s0 .args .seat) (s0 .args .depth) (s0 .args .heads) (s0 .args .units) (s0 .args .kept) e (actionsOf (s0 .args .x)) (now (s0 .args .w)) (s2 .choose .last .0) (s2 .choose .result)) (s1 .set .ensures) (subst (λ n. Chosen (s0 .args .seat) (s0 .args .depth) (s0 .args .heads) (s0 .args .units) (s0 .args .kept) (s1 .set .result) n (now (s0 .args .w)) (s2 .choose .last .0) (s2 .choose .result)) (c .before .before .before .before .before .before .before .before .before .actions .ensures) (s2 .choose .ensures))) (s3 .child .ensures) (c .before .before .below .ensures)
 
 abbrev row-Inv-loop : row-lts.InvT-loop
 row-Inv-loop w₀ a end seat depth heads units kept sum₀ at₀ w sum at = valuing.Along seat depth heads units kept a end w₀ w at sum × (at + depth < 8388608) × (length w ≡ length w₀)
@@ -546,105 +228,35 @@ row-Inv-loop w₀ a end seat depth heads units kept sum₀ at₀ w sum at = valu
 abbrev row-μ-loop : row-lts.MeasureT-loop
 row-μ-loop w₀ a end seat depth heads units kept sum₀ at₀ w sum at = end - at
 
-row-loop-holds : (t : ℕ) → row-lts.Need-loop-holds (
-  below-below t,
-  below.Post,
-  wrapping-add-u64-reads.Asked,
-  wrapping-add-u64-reads.Learnt,
-  behind-reads.Asked,
-  behind-reads.Learnt,
-) (row-at t) row.Post row-Inv-loop row-μ-loop
+row-loop-holds : (t : ℕ) → row-lts.Need-loop-holds (row-callees t) (row-at t) row.Post row-Inv-loop row-μ-loop
 row-loop-holds t c = (valuing.along-start (c .before .args .seat) (c .before .args .depth) (c .before .args .heads) (c .before .args .units) (c .before .args .kept) (c .before .args .a) (c .before .args .end) (now (c .before .args .w)), c .before .pre .1 .place, refl)
 
-row-below-requires : (t : ℕ) → row-lts.Need-below-requires (
-  below-below t,
-  below.Post,
-  wrapping-add-u64-reads.Asked,
-  wrapping-add-u64-reads.Learnt,
-  behind-reads.Asked,
-  behind-reads.Learnt,
-) (row-at t) row.Post row-Inv-loop row-μ-loop
-row-below-requires t c κs = (omega (arith, c .before .before .before .before .pre .0), valuing.walk-at (c .before .before .before .before .args .a) (c .before .before .before .before .args .seat) (c .before .before .before .before .args .depth) (c .before .before .before .before .args .heads) (c .before .before .before .before .args .units) (c .before .before .before .before .args .kept) (c .before .before .before .before .pre .1) (c .before .before .loop .at) (c .before .before .before .before .args .depth) (omega arith) (c .before .before .loop .inv .1))
+row-below-requires : (t : ℕ) → row-lts.Need-below-requires (row-callees t) (row-at t) row.Post row-Inv-loop row-μ-loop
+row-below-requires t c κs = let s0 = c .before .before .before .before in (omega (arith, s0 .pre .0), valuing.walk-at (s0 .args .a) (s0 .args .seat) (s0 .args .depth) (s0 .args .heads) (s0 .args .units) (s0 .args .kept) (s0 .pre .1) (c .before .before .loop .at) (s0 .args .depth) (omega arith) (c .before .before .loop .inv .1))
 
-row-wrapping-add-u64-requires : (t : ℕ) → row-lts.Need-wrapping-add-u64-requires (
-  below-below t,
-  below.Post,
-  wrapping-add-u64-reads.Asked,
-  wrapping-add-u64-reads.Learnt,
-  behind-reads.Asked,
-  behind-reads.Learnt,
-) (row-at t) row.Post row-Inv-loop row-μ-loop
+row-wrapping-add-u64-requires : (t : ℕ) → row-lts.Need-wrapping-add-u64-requires (row-callees t) (row-at t) row.Post row-Inv-loop row-μ-loop
 row-wrapping-add-u64-requires t c κs = search needs
 
-row-behind-requires : (t : ℕ) → row-lts.Need-behind-requires (
-  below-below t,
-  below.Post,
-  wrapping-add-u64-reads.Asked,
-  wrapping-add-u64-reads.Learnt,
-  behind-reads.Asked,
-  behind-reads.Learnt,
-) (row-at t) row.Post row-Inv-loop row-μ-loop
+row-behind-requires : (t : ℕ) → row-lts.Need-behind-requires (row-callees t) (row-at t) row.Post row-Inv-loop row-μ-loop
 row-behind-requires t c κs = omega (arith, c .before .before .before .before .before .before .before .loop .inv .1)
 
-row-same-length : (t : ℕ) → row-lts.Need-same-length (
-  below-below t,
-  below.Post,
-  wrapping-add-u64-reads.Asked,
-  wrapping-add-u64-reads.Learnt,
-  behind-reads.Asked,
-  behind-reads.Learnt,
-) (row-at t) row.Post row-Inv-loop row-μ-loop
+row-same-length : (t : ℕ) → row-lts.Need-same-length (row-callees t) (row-at t) row.Post row-Inv-loop row-μ-loop
 row-same-length t c = search needs
 
-row-returns : (t : ℕ) → row-lts.Need-returns (
-  below-below t,
-  below.Post,
-  wrapping-add-u64-reads.Asked,
-  wrapping-add-u64-reads.Learnt,
-  behind-reads.Asked,
-  behind-reads.Learnt,
-) (row-at t) row.Post row-Inv-loop row-μ-loop
-row-returns t c = valuing.along-stuck (c .before .before .before .before .before .before .before .before .before .before .before .args .seat) (c .before .before .before .before .before .before .before .before .before .before .before .args .depth) (c .before .before .before .before .before .before .before .before .before .before .before .args .heads) (c .before .before .before .before .before .before .before .before .before .before .before .args .units) (c .before .before .before .before .before .before .before .before .before .before .before .args .kept) (c .before .before .before .before .before .before .before .before .before .before .before .args .a) (c .before .before .before .before .before .before .before .before .before .before .before .args .end) (now (c .before .before .before .before .before .before .before .before .before .before .before .args .w)) (c .before .before .before .before .before .before .before .before .before .loop .w) (c .before .before .before .before .before .before .below .last .0) (c .before .before .before .before .before .before .before .before .before .loop .at) (c .before .before .before .before .before .before .before .before .before .loop .sum) (c .before .before .before .before .before .before .below .result) (c .before .before .before .wrapping-add-u64 .result) (c .before .behind .result) (c .before .before .before .before .before .before .before .before .before .loop .inv .0) (c .before .before .before .before .before .before .before .before .loop-test .taken) (c .before .before .before .before .before .before .below .ensures) (c .before .behind .ensures) (c .if1 .taken)
+row-returns : (t : ℕ) → row-lts.Need-returns (row-callees t) (row-at t) row.Post row-Inv-loop row-μ-loop
+row-returns t c = let s0 = c .before .before .before .before .before .before .before .before .before .before .before in let s1 = c .before .before .before .before .before .before .before .before .before in let s2 = c .before .before .before .before .before .before in valuing.along-stuck (s0 .args .seat) (s0 .args .depth) (s0 .args .heads) (s0 .args .units) (s0 .args .kept) (s0 .args .a) (s0 .args .end) (now (s0 .args .w)) (s1 .loop .w) (s2 .below .last .0) (s1 .loop .at) (s1 .loop .sum) (s2 .below .result) (c .before .before .before .wrapping-add-u64 .result) (c .before .behind .result) (s1 .loop .inv .0) (c .before .before .before .before .before .before .before .before .loop-test .taken) (s2 .below .ensures) (c .before .behind .ensures) (c .if1 .taken)
 
-row-loop-less : (t : ℕ) → row-lts.Need-loop-less (
-  below-below t,
-  below.Post,
-  wrapping-add-u64-reads.Asked,
-  wrapping-add-u64-reads.Learnt,
-  behind-reads.Asked,
-  behind-reads.Learnt,
-) (row-at t) row.Post row-Inv-loop row-μ-loop
+row-loop-less : (t : ℕ) → row-lts.Need-loop-less (row-callees t) (row-at t) row.Post row-Inv-loop row-μ-loop
 row-loop-less t c = omega (arith, c .before .before .before .before .before .before .before .before .loop-test .taken, c .if1 .left)
 
-row-loop-again : (t : ℕ) → row-lts.Need-loop-again (
-  below-below t,
-  below.Post,
-  wrapping-add-u64-reads.Asked,
-  wrapping-add-u64-reads.Learnt,
-  behind-reads.Asked,
-  behind-reads.Learnt,
-) (row-at t) row.Post row-Inv-loop row-μ-loop
-row-loop-again t c = (valuing.along-more (c .before .before .before .before .before .before .before .before .before .before .before .args .seat) (c .before .before .before .before .before .before .before .before .before .before .before .args .depth) (c .before .before .before .before .before .before .before .before .before .before .before .args .heads) (c .before .before .before .before .before .before .before .before .before .before .before .args .units) (c .before .before .before .before .before .before .before .before .before .before .before .args .kept) (c .before .before .before .before .before .before .before .before .before .before .before .args .a) (c .before .before .before .before .before .before .before .before .before .before .before .args .end) (now (c .before .before .before .before .before .before .before .before .before .before .before .args .w)) (c .before .before .before .before .before .before .before .before .before .loop .w) (c .before .before .before .before .before .before .below .last .0) (c .before .before .before .before .before .before .before .before .before .loop .at) (c .before .before .before .before .before .before .before .before .before .loop .sum) (c .before .before .before .before .before .before .below .result) (c .before .before .before .wrapping-add-u64 .result) (c .before .behind .result) (c .before .before .before .before .before .before .before .before .before .loop .inv .0) (c .before .before .before .before .before .before .before .before .loop-test .taken) (c .before .before .before .before .before .before .below .ensures) (c .before .before .before .wrapping-add-u64 .ensures) (c .before .behind .ensures), omega (arith, c .before .behind .ensures .near, c .before .before .before .before .before .before .before .before .before .before .before .pre .1 .shallow), omega (arith, c .before .before .before .before .before .before .below .kept .0, c .before .before .before .before .before .before .before .before .before .loop .inv .2))
+row-loop-again : (t : ℕ) → row-lts.Need-loop-again (row-callees t) (row-at t) row.Post row-Inv-loop row-μ-loop
+row-loop-again t c = let s0 = c .before .before .before .before .before .before .before .before .before .before .before in let s1 = c .before .before .before .before .before .before .before .before .before in let s2 = c .before .before .before .before .before .before in let s3 = c .before .before .before in (valuing.along-more (s0 .args .seat) (s0 .args .depth) (s0 .args .heads) (s0 .args .units) (s0 .args .kept) (s0 .args .a) (s0 .args .end) (now (s0 .args .w)) (s1 .loop .w) (s2 .below .last .0) (s1 .loop .at) (s1 .loop .sum) (s2 .below .result) (s3 .wrapping-add-u64 .result) (c .before .behind .result) (s1 .loop .inv .0) (c .before .before .before .before .before .before .before .before .loop-test .taken) (s2 .below .ensures) (s3 .wrapping-add-u64 .ensures) (c .before .behind .ensures), omega (arith, c .before .behind .ensures .near, s0 .pre .1 .shallow), omega (arith, s2 .below .kept .0, s1 .loop .inv .2))
 
-row-same-length-2 : (t : ℕ) → row-lts.Need-same-length-2 (
-  below-below t,
-  below.Post,
-  wrapping-add-u64-reads.Asked,
-  wrapping-add-u64-reads.Learnt,
-  behind-reads.Asked,
-  behind-reads.Learnt,
-) (row-at t) row.Post row-Inv-loop row-μ-loop
+row-same-length-2 : (t : ℕ) → row-lts.Need-same-length-2 (row-callees t) (row-at t) row.Post row-Inv-loop row-μ-loop
 row-same-length-2 t c = search needs
 
-row-returns-2 : (t : ℕ) → row-lts.Need-returns-2 (
-  below-below t,
-  below.Post,
-  wrapping-add-u64-reads.Asked,
-  wrapping-add-u64-reads.Learnt,
-  behind-reads.Asked,
-  behind-reads.Learnt,
-) (row-at t) row.Post row-Inv-loop row-μ-loop
-row-returns-2 t c = valuing.along-end (c .before .before .before .args .seat) (c .before .before .before .args .depth) (c .before .before .before .args .heads) (c .before .before .before .args .units) (c .before .before .before .args .kept) (c .before .before .before .args .a) (c .before .before .before .args .end) (now (c .before .before .before .args .w)) (c .before .loop .w) (c .before .loop .at) (c .before .loop .sum) (c .before .loop .inv .0) (omega (arith, c .loop-test .left))
+row-returns-2 : (t : ℕ) → row-lts.Need-returns-2 (row-callees t) (row-at t) row.Post row-Inv-loop row-μ-loop
+row-returns-2 t c = let s0 = c .before .before .before in valuing.along-end (s0 .args .seat) (s0 .args .depth) (s0 .args .heads) (s0 .args .units) (s0 .args .kept) (s0 .args .a) (s0 .args .end) (now (s0 .args .w)) (c .before .loop .w) (c .before .loop .at) (c .before .loop .sum) (c .before .loop .inv .0) (omega (arith, c .loop-test .left))
 
 abbrev total-Inv-loop : total-lts.InvT-loop
 total-Inv-loop w₀ first action seat depth heads units kept sum₀ at₀ w sum at = choosing.Summed seat depth heads units kept first action w₀ w at sum × (at < 2097152) × (length w ≡ length w₀)
@@ -652,629 +264,120 @@ total-Inv-loop w₀ first action seat depth heads units kept sum₀ at₀ w sum 
 abbrev total-μ-loop : total-lts.MeasureT-loop
 total-μ-loop w₀ first action seat depth heads units kept sum₀ at₀ w sum at = 2097152 - at
 
-total-add-word : (t : ℕ) → total-lts.Need-add-word (
-  word-reads.Asked,
-  word-reads.Learnt,
-  child-reads.Asked,
-  child-reads.Learnt,
-  below-below t,
-  below.Post,
-  wrapping-add-u64-reads.Asked,
-  wrapping-add-u64-reads.Learnt,
-  later-reads.Asked,
-  later-reads.Learnt,
-) (total-at t) total.Post total-Inv-loop total-μ-loop
+total-add-word : (t : ℕ) → total-lts.Need-add-word (total-callees t) (total-at t) total.Post total-Inv-loop total-μ-loop
 total-add-word t c = record { fits = omega (arith, c .before .before .pre .1 .heads, c .before .before .pre .1 .place) }
 
-total-word-requires : (t : ℕ) → total-lts.Need-word-requires (
-  word-reads.Asked,
-  word-reads.Learnt,
-  child-reads.Asked,
-  child-reads.Learnt,
-  below-below t,
-  below.Post,
-  wrapping-add-u64-reads.Asked,
-  wrapping-add-u64-reads.Learnt,
-  later-reads.Asked,
-  later-reads.Learnt,
-) (total-at t) total.Post total-Inv-loop total-μ-loop
+total-word-requires : (t : ℕ) → total-lts.Need-word-requires (total-callees t) (total-at t) total.Post total-Inv-loop total-μ-loop
 total-word-requires t c κs = search needs
 
-total-loop-holds : (t : ℕ) → total-lts.Need-loop-holds (
-  word-reads.Asked,
-  word-reads.Learnt,
-  child-reads.Asked,
-  child-reads.Learnt,
-  below-below t,
-  below.Post,
-  wrapping-add-u64-reads.Asked,
-  wrapping-add-u64-reads.Learnt,
-  later-reads.Asked,
-  later-reads.Learnt,
-) (total-at t) total.Post total-Inv-loop total-μ-loop
-total-loop-holds t c = (choosing.summed-start (c .before .before .before .args .seat) (c .before .before .before .args .depth) (c .before .before .before .args .heads) (c .before .before .before .args .units) (c .before .before .before .args .kept) (c .before .before .before .args .first) (c .before .before .before .args .action) (now (c .before .before .before .args .w)) _ (ap (λ j. j % 2097152) (c .word .ensures)), omega arith, refl)
+total-loop-holds : (t : ℕ) → total-lts.Need-loop-holds (total-callees t) (total-at t) total.Post total-Inv-loop total-μ-loop
+total-loop-holds t c = let s0 = c .before .before .before in (choosing.summed-start (s0 .args .seat) (s0 .args .depth) (s0 .args .heads) (s0 .args .units) (s0 .args .kept) (s0 .args .first) (s0 .args .action) (now (s0 .args .w)) _ (ap (λ j. j % 2097152) (c .word .ensures)), omega arith, refl)
 
-total-child-requires : (t : ℕ) → total-lts.Need-child-requires (
-  word-reads.Asked,
-  word-reads.Learnt,
-  child-reads.Asked,
-  child-reads.Learnt,
-  below-below t,
-  below.Post,
-  wrapping-add-u64-reads.Asked,
-  wrapping-add-u64-reads.Learnt,
-  later-reads.Asked,
-  later-reads.Learnt,
-) (total-at t) total.Post total-Inv-loop total-μ-loop
+total-child-requires : (t : ℕ) → total-lts.Need-child-requires (total-callees t) (total-at t) total.Post total-Inv-loop total-μ-loop
 total-child-requires t c κs = omega (arith, c .before .before .loop .inv .1)
 
-total-below-requires : (t : ℕ) → total-lts.Need-below-requires (
-  word-reads.Asked,
-  word-reads.Learnt,
-  child-reads.Asked,
-  child-reads.Learnt,
-  below-below t,
-  below.Post,
-  wrapping-add-u64-reads.Asked,
-  wrapping-add-u64-reads.Learnt,
-  later-reads.Asked,
-  later-reads.Learnt,
-) (total-at t) total.Post total-Inv-loop total-μ-loop
-total-below-requires t c κs = (omega (arith, c .before .before .before .before .before .before .before .before .pre .0), valuing.walk-at (c .before .before .before .before .before .before .before .before .args .first) (c .before .before .before .before .before .before .before .before .args .seat) (c .before .before .before .before .before .before .before .before .args .depth) (c .before .before .before .before .before .before .before .before .args .heads) (c .before .before .before .before .before .before .before .before .args .units) (c .before .before .before .before .before .before .before .before .args .kept) (c .before .before .before .before .before .before .before .before .pre .1) (c .before .child .result) (c .before .before .before .before .before .before .before .before .args .depth) (omega arith) (omega (arith, c .before .child .ensures .near, c .before .before .before .before .before .before .before .before .pre .1 .shallow)))
+total-below-requires : (t : ℕ) → total-lts.Need-below-requires (total-callees t) (total-at t) total.Post total-Inv-loop total-μ-loop
+total-below-requires t c κs = let s0 = c .before .before .before .before .before .before .before .before in (omega (arith, s0 .pre .0), valuing.walk-at (s0 .args .first) (s0 .args .seat) (s0 .args .depth) (s0 .args .heads) (s0 .args .units) (s0 .args .kept) (s0 .pre .1) (c .before .child .result) (s0 .args .depth) (omega arith) (omega (arith, c .before .child .ensures .near, s0 .pre .1 .shallow)))
 
-total-wrapping-add-u64-requires : (t : ℕ) → total-lts.Need-wrapping-add-u64-requires (
-  word-reads.Asked,
-  word-reads.Learnt,
-  child-reads.Asked,
-  child-reads.Learnt,
-  below-below t,
-  below.Post,
-  wrapping-add-u64-reads.Asked,
-  wrapping-add-u64-reads.Learnt,
-  later-reads.Asked,
-  later-reads.Learnt,
-) (total-at t) total.Post total-Inv-loop total-μ-loop
+total-wrapping-add-u64-requires : (t : ℕ) → total-lts.Need-wrapping-add-u64-requires (total-callees t) (total-at t) total.Post total-Inv-loop total-μ-loop
 total-wrapping-add-u64-requires t c κs = search needs
 
-total-word-requires-2 : (t : ℕ) → total-lts.Need-word-requires-2 (
-  word-reads.Asked,
-  word-reads.Learnt,
-  child-reads.Asked,
-  child-reads.Learnt,
-  below-below t,
-  below.Post,
-  wrapping-add-u64-reads.Asked,
-  wrapping-add-u64-reads.Learnt,
-  later-reads.Asked,
-  later-reads.Learnt,
-) (total-at t) total.Post total-Inv-loop total-μ-loop
+total-word-requires-2 : (t : ℕ) → total-lts.Need-word-requires-2 (total-callees t) (total-at t) total.Post total-Inv-loop total-μ-loop
 total-word-requires-2 t c κs = search needs
 
-total-later-requires : (t : ℕ) → total-lts.Need-later-requires (
-  word-reads.Asked,
-  word-reads.Learnt,
-  child-reads.Asked,
-  child-reads.Learnt,
-  below-below t,
-  below.Post,
-  wrapping-add-u64-reads.Asked,
-  wrapping-add-u64-reads.Learnt,
-  later-reads.Asked,
-  later-reads.Learnt,
-) (total-at t) total.Post total-Inv-loop total-μ-loop
+total-later-requires : (t : ℕ) → total-lts.Need-later-requires (total-callees t) (total-at t) total.Post total-Inv-loop total-μ-loop
 total-later-requires t c κs = search needs
 
-total-same-length : (t : ℕ) → total-lts.Need-same-length (
-  word-reads.Asked,
-  word-reads.Learnt,
-  child-reads.Asked,
-  child-reads.Learnt,
-  below-below t,
-  below.Post,
-  wrapping-add-u64-reads.Asked,
-  wrapping-add-u64-reads.Learnt,
-  later-reads.Asked,
-  later-reads.Learnt,
-) (total-at t) total.Post total-Inv-loop total-μ-loop
+total-same-length : (t : ℕ) → total-lts.Need-same-length (total-callees t) (total-at t) total.Post total-Inv-loop total-μ-loop
 total-same-length t c = search needs
 
-total-returns : (t : ℕ) → total-lts.Need-returns (
-  word-reads.Asked,
-  word-reads.Learnt,
-  child-reads.Asked,
-  child-reads.Learnt,
-  below-below t,
-  below.Post,
-  wrapping-add-u64-reads.Asked,
-  wrapping-add-u64-reads.Learnt,
-  later-reads.Asked,
-  later-reads.Learnt,
-) (total-at t) total.Post total-Inv-loop total-μ-loop
-total-returns t c = choosing.summed-stuck (c .before .before .before .before .before .before .before .before .before .before .before .before .before .before .before .before .args .seat) (c .before .before .before .before .before .before .before .before .before .before .before .before .before .before .before .before .args .depth) (c .before .before .before .before .before .before .before .before .before .before .before .before .before .before .before .before .args .heads) (c .before .before .before .before .before .before .before .before .before .before .before .before .before .before .before .before .args .units) (c .before .before .before .before .before .before .before .before .before .before .before .before .before .before .before .before .args .kept) (c .before .before .before .before .before .before .before .before .before .before .before .before .before .before .before .before .args .first) (c .before .before .before .before .before .before .before .before .before .before .before .before .before .before .before .before .args .action) (now (c .before .before .before .before .before .before .before .before .before .before .before .before .before .before .before .before .args .w)) (c .before .before .before .before .before .before .before .before .before .before .before .before .loop .w) (c .before .before .before .before .before .before .before .below .last .0) (c .before .before .before .before .before .before .before .before .before .before .before .before .loop .at) (c .before .before .before .before .before .before .before .before .before .before .before .before .loop .sum) (c .before .before .before .before .before .before .before .before .before .child .result) (c .before .before .before .before .before .before .before .below .result) (c .before .before .before .before .wrapping-add-u64 .result) (c .before .later .result) (c .before .before .before .before .before .before .before .before .before .before .before .before .loop .inv .0) (c .before .before .before .before .before .before .before .before .before .before .before .loop-test .taken) (c .before .before .before .before .before .before .before .before .before .child .ensures) (c .before .before .before .before .before .before .before .below .ensures) (c .before .before .before .before .wrapping-add-u64 .ensures) (c .before .later .ensures ∙ ap laterOf (c .before .before .word2 .ensures)) (c .if1 .taken)
+total-returns : (t : ℕ) → total-lts.Need-returns (total-callees t) (total-at t) total.Post total-Inv-loop total-μ-loop
+total-returns t c = let s0 = c .before .before .before .before .before .before .before .before .before .before .before .before .before .before .before .before in let s1 = c .before .before .before .before .before .before .before .before .before .before .before .before in let s2 = c .before .before .before .before .before .before .before .before .before in let s3 = c .before .before .before .before .before .before .before in let s4 = c .before .before .before .before in choosing.summed-stuck (s0 .args .seat) (s0 .args .depth) (s0 .args .heads) (s0 .args .units) (s0 .args .kept) (s0 .args .first) (s0 .args .action) (now (s0 .args .w)) (s1 .loop .w) (s3 .below .last .0) (s1 .loop .at) (s1 .loop .sum) (s2 .child .result) (s3 .below .result) (s4 .wrapping-add-u64 .result) (c .before .later .result) (s1 .loop .inv .0) (c .before .before .before .before .before .before .before .before .before .before .before .loop-test .taken) (s2 .child .ensures) (s3 .below .ensures) (s4 .wrapping-add-u64 .ensures) (c .before .later .ensures ∙ ap laterOf (c .before .before .word2 .ensures)) (c .if1 .taken)
 
-total-loop-less : (t : ℕ) → total-lts.Need-loop-less (
-  word-reads.Asked,
-  word-reads.Learnt,
-  child-reads.Asked,
-  child-reads.Learnt,
-  below-below t,
-  below.Post,
-  wrapping-add-u64-reads.Asked,
-  wrapping-add-u64-reads.Learnt,
-  later-reads.Asked,
-  later-reads.Learnt,
-) (total-at t) total.Post total-Inv-loop total-μ-loop
+total-loop-less : (t : ℕ) → total-lts.Need-loop-less (total-callees t) (total-at t) total.Post total-Inv-loop total-μ-loop
 total-loop-less t c = omega (arith, c .if1 .left, c .before .before .before .before .before .before .before .before .before .before .before .before .loop .inv .1)
 
-total-loop-again : (t : ℕ) → total-lts.Need-loop-again (
-  word-reads.Asked,
-  word-reads.Learnt,
-  child-reads.Asked,
-  child-reads.Learnt,
-  below-below t,
-  below.Post,
-  wrapping-add-u64-reads.Asked,
-  wrapping-add-u64-reads.Learnt,
-  later-reads.Asked,
-  later-reads.Learnt,
-) (total-at t) total.Post total-Inv-loop total-μ-loop
-total-loop-again t c = (choosing.summed-more (c .before .before .before .before .before .before .before .before .before .before .before .before .before .before .before .before .args .seat) (c .before .before .before .before .before .before .before .before .before .before .before .before .before .before .before .before .args .depth) (c .before .before .before .before .before .before .before .before .before .before .before .before .before .before .before .before .args .heads) (c .before .before .before .before .before .before .before .before .before .before .before .before .before .before .before .before .args .units) (c .before .before .before .before .before .before .before .before .before .before .before .before .before .before .before .before .args .kept) (c .before .before .before .before .before .before .before .before .before .before .before .before .before .before .before .before .args .first) (c .before .before .before .before .before .before .before .before .before .before .before .before .before .before .before .before .args .action) (now (c .before .before .before .before .before .before .before .before .before .before .before .before .before .before .before .before .args .w)) (c .before .before .before .before .before .before .before .before .before .before .before .before .loop .w) (c .before .before .before .before .before .before .before .below .last .0) (c .before .before .before .before .before .before .before .before .before .before .before .before .loop .at) (c .before .before .before .before .before .before .before .before .before .before .before .before .loop .sum) (c .before .before .before .before .before .before .before .before .before .child .result) (c .before .before .before .before .before .before .before .below .result) (c .before .before .before .before .wrapping-add-u64 .result) (c .before .later .result) (c .before .before .before .before .before .before .before .before .before .before .before .before .loop .inv .0) (c .before .before .before .before .before .before .before .before .before .before .before .loop-test .taken) (c .before .before .before .before .before .before .before .before .before .child .ensures) (c .before .before .before .before .before .before .before .below .ensures) (c .before .before .before .before .wrapping-add-u64 .ensures) (c .before .later .ensures ∙ ap laterOf (c .before .before .word2 .ensures)), omega (arith, c .before .later .ensures), omega (arith, c .before .before .before .before .before .before .before .below .kept .0, c .before .before .before .before .before .before .before .before .before .before .before .before .loop .inv .2))
+total-loop-again : (t : ℕ) → total-lts.Need-loop-again (total-callees t) (total-at t) total.Post total-Inv-loop total-μ-loop
+total-loop-again t c = let s0 = c .before .before .before .before .before .before .before .before .before .before .before .before .before .before .before .before in let s1 = c .before .before .before .before .before .before .before .before .before .before .before .before in let s2 = c .before .before .before .before .before .before .before .before .before in let s3 = c .before .before .before .before .before .before .before in let s4 = c .before .before .before .before in (choosing.summed-more (s0 .args .seat) (s0 .args .depth) (s0 .args .heads) (s0 .args .units) (s0 .args .kept) (s0 .args .first) (s0 .args .action) (now (s0 .args .w)) (s1 .loop .w) (s3 .below .last .0) (s1 .loop .at) (s1 .loop .sum) (s2 .child .result) (s3 .below .result) (s4 .wrapping-add-u64 .result) (c .before .later .result) (s1 .loop .inv .0) (c .before .before .before .before .before .before .before .before .before .before .before .loop-test .taken) (s2 .child .ensures) (s3 .below .ensures) (s4 .wrapping-add-u64 .ensures) (c .before .later .ensures ∙ ap laterOf (c .before .before .word2 .ensures)), omega (arith, c .before .later .ensures), omega (arith, s3 .below .kept .0, s1 .loop .inv .2))
 
-total-same-length-2 : (t : ℕ) → total-lts.Need-same-length-2 (
-  word-reads.Asked,
-  word-reads.Learnt,
-  child-reads.Asked,
-  child-reads.Learnt,
-  below-below t,
-  below.Post,
-  wrapping-add-u64-reads.Asked,
-  wrapping-add-u64-reads.Learnt,
-  later-reads.Asked,
-  later-reads.Learnt,
-) (total-at t) total.Post total-Inv-loop total-μ-loop
+total-same-length-2 : (t : ℕ) → total-lts.Need-same-length-2 (total-callees t) (total-at t) total.Post total-Inv-loop total-μ-loop
 total-same-length-2 t c = search needs
 
-total-returns-2 : (t : ℕ) → total-lts.Need-returns-2 (
-  word-reads.Asked,
-  word-reads.Learnt,
-  child-reads.Asked,
-  child-reads.Learnt,
-  below-below t,
-  below.Post,
-  wrapping-add-u64-reads.Asked,
-  wrapping-add-u64-reads.Learnt,
-  later-reads.Asked,
-  later-reads.Learnt,
-) (total-at t) total.Post total-Inv-loop total-μ-loop
-total-returns-2 t c = choosing.summed-end (c .before .before .before .before .before .args .seat) (c .before .before .before .before .before .args .depth) (c .before .before .before .before .before .args .heads) (c .before .before .before .before .before .args .units) (c .before .before .before .before .before .args .kept) (c .before .before .before .before .before .args .first) (c .before .before .before .before .before .args .action) (now (c .before .before .before .before .before .args .w)) (c .before .loop .w) (c .before .loop .at) (c .before .loop .sum) (c .before .loop .inv .0) (λ l. omega (arith, l, c .loop-test .left))
+total-returns-2 : (t : ℕ) → total-lts.Need-returns-2 (total-callees t) (total-at t) total.Post total-Inv-loop total-μ-loop
+total-returns-2 t c = let s0 = c .before .before .before .before .before in choosing.summed-end (s0 .args .seat) (s0 .args .depth) (s0 .args .heads) (s0 .args .units) (s0 .args .kept) (s0 .args .first) (s0 .args .action) (now (s0 .args .w)) (c .before .loop .w) (c .before .loop .at) (c .before .loop .sum) (c .before .loop .inv .0) (λ l. omega (arith, l, c .loop-test .left))
 
-value-returns : (t : ℕ) → value-lts.Need-returns (
-  word-reads.Asked,
-  word-reads.Learnt,
-  kind-reads.Asked,
-  kind-reads.Learnt,
-  ended-reads.Asked,
-  ended-reads.Learnt,
-  next-reads.Asked,
-  next-reads.Learnt,
-  row-below t,
-  row.Post,
-  actor-reads.Asked,
-  actor-reads.Learnt,
-  own-below t,
-  own.Post,
-) (value-at t) value.Post
+value-returns : (t : ℕ) → value-lts.Need-returns (value-callees t) (value-at t) value.Post
 value-returns t c = valuing.value-none (c .before .before .args .seat) (c .before .before .args .depth) (c .before .before .args .heads) (c .before .before .args .units) (c .before .before .args .kept) (c .before .before .args .a) (now (c .before .before .args .w)) 0 (c .if1 .taken)
 
-value-word-requires : (t : ℕ) → value-lts.Need-word-requires (
-  word-reads.Asked,
-  word-reads.Learnt,
-  kind-reads.Asked,
-  kind-reads.Learnt,
-  ended-reads.Asked,
-  ended-reads.Learnt,
-  next-reads.Asked,
-  next-reads.Learnt,
-  row-below t,
-  row.Post,
-  actor-reads.Asked,
-  actor-reads.Learnt,
-  own-below t,
-  own.Post,
-) (value-at t) value.Post
+value-word-requires : (t : ℕ) → value-lts.Need-word-requires (value-callees t) (value-at t) value.Post
 value-word-requires t c κs = search needs
 
-value-kind-requires : (t : ℕ) → value-lts.Need-kind-requires (
-  word-reads.Asked,
-  word-reads.Learnt,
-  kind-reads.Asked,
-  kind-reads.Learnt,
-  ended-reads.Asked,
-  ended-reads.Learnt,
-  next-reads.Asked,
-  next-reads.Learnt,
-  row-below t,
-  row.Post,
-  actor-reads.Asked,
-  actor-reads.Learnt,
-  own-below t,
-  own.Post,
-) (value-at t) value.Post
+value-kind-requires : (t : ℕ) → value-lts.Need-kind-requires (value-callees t) (value-at t) value.Post
 value-kind-requires t c κs = search needs
 
-value-ended-requires : (t : ℕ) → value-lts.Need-ended-requires (
-  word-reads.Asked,
-  word-reads.Learnt,
-  kind-reads.Asked,
-  kind-reads.Learnt,
-  ended-reads.Asked,
-  ended-reads.Learnt,
-  next-reads.Asked,
-  next-reads.Learnt,
-  row-below t,
-  row.Post,
-  actor-reads.Asked,
-  actor-reads.Learnt,
-  own-below t,
-  own.Post,
-) (value-at t) value.Post
-value-ended-requires t c κs = (c .before .before .before .before .before .before .before .pre .1 .seat, omega (arith, c .before .before .before .before .before .before .before .pre .1 .place, c .before .before .before .before .before .before .before .pre .1 .units))
+value-ended-requires : (t : ℕ) → value-lts.Need-ended-requires (value-callees t) (value-at t) value.Post
+value-ended-requires t c κs = let s0 = c .before .before .before .before .before .before .before in (s0 .pre .1 .seat, omega (arith, s0 .pre .1 .place, s0 .pre .1 .units))
 
-value-same-length : (t : ℕ) → value-lts.Need-same-length (
-  word-reads.Asked,
-  word-reads.Learnt,
-  kind-reads.Asked,
-  kind-reads.Learnt,
-  ended-reads.Asked,
-  ended-reads.Learnt,
-  next-reads.Asked,
-  next-reads.Learnt,
-  row-below t,
-  row.Post,
-  actor-reads.Asked,
-  actor-reads.Learnt,
-  own-below t,
-  own.Post,
-) (value-at t) value.Post
+value-same-length : (t : ℕ) → value-lts.Need-same-length (value-callees t) (value-at t) value.Post
 value-same-length t c = search needs
 
-value-returns-2 : (t : ℕ) → value-lts.Need-returns-2 (
-  word-reads.Asked,
-  word-reads.Learnt,
-  kind-reads.Asked,
-  kind-reads.Learnt,
-  ended-reads.Asked,
-  ended-reads.Learnt,
-  next-reads.Asked,
-  next-reads.Learnt,
-  row-below t,
-  row.Post,
-  actor-reads.Asked,
-  actor-reads.Learnt,
-  own-below t,
-  own.Post,
-) (value-at t) value.Post
-value-returns-2 t c = valuing.value-ended (c .before .before .before .before .before .before .before .before .args .seat) (c .before .before .before .before .before .before .before .before .args .depth) (c .before .before .before .before .before .before .before .before .args .heads) (c .before .before .before .before .before .before .before .before .args .units) (c .before .before .before .before .before .before .before .before .args .kept) (c .before .before .before .before .before .before .before .before .args .a) (now (c .before .before .before .before .before .before .before .before .args .w)) (c .before .before .before .before .word .result) (c .before .before .before .before .word .ensures) _ (sym (c .before .before .before .kind .ensures) ∙ c .before .before .if2 .taken) (c .ended .ensures)
+value-returns-2 : (t : ℕ) → value-lts.Need-returns-2 (value-callees t) (value-at t) value.Post
+value-returns-2 t c = let s0 = c .before .before .before .before .before .before .before .before in let s1 = c .before .before .before .before in valuing.value-ended (s0 .args .seat) (s0 .args .depth) (s0 .args .heads) (s0 .args .units) (s0 .args .kept) (s0 .args .a) (now (s0 .args .w)) (s1 .word .result) (s1 .word .ensures) _ (sym (c .before .before .before .kind .ensures) ∙ c .before .before .if2 .taken) (c .ended .ensures)
 
-value-add-row : (t : ℕ) → value-lts.Need-add-row (
-  word-reads.Asked,
-  word-reads.Learnt,
-  kind-reads.Asked,
-  kind-reads.Learnt,
-  ended-reads.Asked,
-  ended-reads.Learnt,
-  next-reads.Asked,
-  next-reads.Learnt,
-  row-below t,
-  row.Post,
-  actor-reads.Asked,
-  actor-reads.Learnt,
-  own-below t,
-  own.Post,
-) (value-at t) value.Post
+value-add-row : (t : ℕ) → value-lts.Need-add-row (value-callees t) (value-at t) value.Post
 value-add-row t c = record { fits = omega (arith, c .before .before .before .before .before .before .before .before .pre .1 .place) }
 
-value-next-requires : (t : ℕ) → value-lts.Need-next-requires (
-  word-reads.Asked,
-  word-reads.Learnt,
-  kind-reads.Asked,
-  kind-reads.Learnt,
-  ended-reads.Asked,
-  ended-reads.Learnt,
-  next-reads.Asked,
-  next-reads.Learnt,
-  row-below t,
-  row.Post,
-  actor-reads.Asked,
-  actor-reads.Learnt,
-  own-below t,
-  own.Post,
-) (value-at t) value.Post
+value-next-requires : (t : ℕ) → value-lts.Need-next-requires (value-callees t) (value-at t) value.Post
 value-next-requires t c κs = search needs
 
-value-sub-row : (t : ℕ) → value-lts.Need-sub-row (
-  word-reads.Asked,
-  word-reads.Learnt,
-  kind-reads.Asked,
-  kind-reads.Learnt,
-  ended-reads.Asked,
-  ended-reads.Learnt,
-  next-reads.Asked,
-  next-reads.Learnt,
-  row-below t,
-  row.Post,
-  actor-reads.Asked,
-  actor-reads.Learnt,
-  own-below t,
-  own.Post,
-) (value-at t) value.Post
+value-sub-row : (t : ℕ) → value-lts.Need-sub-row (value-callees t) (value-at t) value.Post
 value-sub-row t c = omega (arith, c .before .before .before .before .before .before .before .if1 .left)
 
-value-row-requires : (t : ℕ) → value-lts.Need-row-requires (
-  word-reads.Asked,
-  word-reads.Learnt,
-  kind-reads.Asked,
-  kind-reads.Learnt,
-  ended-reads.Asked,
-  ended-reads.Learnt,
-  next-reads.Asked,
-  next-reads.Learnt,
-  row-below t,
-  row.Post,
-  actor-reads.Asked,
-  actor-reads.Learnt,
-  own-below t,
-  own.Post,
-) (value-at t) value.Post
-value-row-requires t c κs = (omega (arith, c .before .before .before .before .before .before .before .before .before .pre .0, c .before .before .before .before .before .before .before .if1 .left), valuing.walk-at (c .before .before .before .before .before .before .before .before .before .args .a) (c .before .before .before .before .before .before .before .before .before .args .seat) (c .before .before .before .before .before .before .before .before .before .args .depth) (c .before .before .before .before .before .before .before .before .before .args .heads) (c .before .before .before .before .before .before .before .before .before .args .units) (c .before .before .before .before .before .before .before .before .before .args .kept) (c .before .before .before .before .before .before .before .before .before .pre .1) (c .before .before .before .before .before .before .before .before .before .args .a + 1) (c .before .before .before .before .before .before .before .before .before .args .depth - 1) (omega arith) (omega (arith, c .before .before .before .before .before .before .before .before .before .pre .1 .place, c .before .before .before .before .before .before .before .if1 .left)))
+value-row-requires : (t : ℕ) → value-lts.Need-row-requires (value-callees t) (value-at t) value.Post
+value-row-requires t c κs = let s0 = c .before .before .before .before .before .before .before .before .before in let s1 = c .before .before .before .before .before .before .before in (omega (arith, s0 .pre .0, s1 .if1 .left), valuing.walk-at (s0 .args .a) (s0 .args .seat) (s0 .args .depth) (s0 .args .heads) (s0 .args .units) (s0 .args .kept) (s0 .pre .1) (s0 .args .a + 1) (s0 .args .depth - 1) (omega arith) (omega (arith, s0 .pre .1 .place, s1 .if1 .left)))
 
-value-same-length-2 : (t : ℕ) → value-lts.Need-same-length-2 (
-  word-reads.Asked,
-  word-reads.Learnt,
-  kind-reads.Asked,
-  kind-reads.Learnt,
-  ended-reads.Asked,
-  ended-reads.Learnt,
-  next-reads.Asked,
-  next-reads.Learnt,
-  row-below t,
-  row.Post,
-  actor-reads.Asked,
-  actor-reads.Learnt,
-  own-below t,
-  own.Post,
-) (value-at t) value.Post
+value-same-length-2 : (t : ℕ) → value-lts.Need-same-length-2 (value-callees t) (value-at t) value.Post
 value-same-length-2 t c = search needs
 
-value-returns-3 : (t : ℕ) → value-lts.Need-returns-3 (
-  word-reads.Asked,
-  word-reads.Learnt,
-  kind-reads.Asked,
-  kind-reads.Learnt,
-  ended-reads.Asked,
-  ended-reads.Learnt,
-  next-reads.Asked,
-  next-reads.Learnt,
-  row-below t,
-  row.Post,
-  actor-reads.Asked,
-  actor-reads.Learnt,
-  own-below t,
-  own.Post,
-) (value-at t) value.Post
-value-returns-3 t c = valuing.value-chance (c .before .before .before .before .before .before .before .before .before .before .before .before .args .seat) (c .before .before .before .before .before .before .before .before .before .before .before .before .args .depth) (c .before .before .before .before .before .before .before .before .before .before .before .before .args .heads) (c .before .before .before .before .before .before .before .before .before .before .before .before .args .units) (c .before .before .before .before .before .before .before .before .before .before .before .before .args .kept) (c .before .before .before .before .before .before .before .before .before .before .before .before .args .a) (now (c .before .before .before .before .before .before .before .before .before .before .before .before .args .w)) (c .before .before .before .before .before .before .before .before .word .result) (c .before .before .before .before .before .before .before .before .word .ensures) (c .before .before .row .last .0) (c .before .before .row .result) (λ q. c .before .before .before .before .before .before .if2 .left (c .before .before .before .before .before .before .before .kind .ensures ∙ q)) (λ q. c .before .before .before .before .before .if3 .taken (c .before .before .before .before .before .before .before .kind .ensures ∙ q)) (subst (λ z. ValuedAll (c .before .before .before .before .before .before .before .before .before .before .before .before .args .seat) (c .before .before .before .before .before .before .before .before .before .before .before .before .args .depth - 1) (c .before .before .before .before .before .before .before .before .before .before .before .before .args .heads) (c .before .before .before .before .before .before .before .before .before .before .before .before .args .units) (c .before .before .before .before .before .before .before .before .before .before .before .before .args .kept) (c .before .before .before .before .before .before .before .before .before .before .before .before .args .a + 1) z (now (c .before .before .before .before .before .before .before .before .before .before .before .before .args .w)) (c .before .before .row .last .0) (c .before .before .row .result)) (c .before .before .before .next .ensures) (c .before .before .row .ensures))
+value-returns-3 : (t : ℕ) → value-lts.Need-returns-3 (value-callees t) (value-at t) value.Post
+value-returns-3 t c = let s0 = c .before .before .before .before .before .before .before .before .before .before .before .before in let s1 = c .before .before .before .before .before .before .before .before in let s2 = c .before .before .before .before .before .before .before in valuing.value-chance (s0 .args .seat) (s0 .args .depth) (s0 .args .heads) (s0 .args .units) (s0 .args .kept) (s0 .args .a) (now (s0 .args .w)) (s1 .word .result) (s1 .word .ensures) (c .before .before .row .last .0) (c .before .before .row .result) (λ q. c .before .before .before .before .before .before .if2 .left (s2 .kind .ensures ∙ q)) (λ q. c .before .before .before .before .before .if3 .taken (s2 .kind .ensures ∙ q)) (subst (λ z. ValuedAll (s0 .args .seat) (s0 .args .depth - 1) (s0 .args .heads) (s0 .args .units) (s0 .args .kept) (s0 .args .a + 1) z (now (s0 .args .w)) (c .before .before .row .last .0) (c .before .before .row .result)) (c .before .before .before .next .ensures) (c .before .before .row .ensures))
 
-value-actor-requires : (t : ℕ) → value-lts.Need-actor-requires (
-  word-reads.Asked,
-  word-reads.Learnt,
-  kind-reads.Asked,
-  kind-reads.Learnt,
-  ended-reads.Asked,
-  ended-reads.Learnt,
-  next-reads.Asked,
-  next-reads.Learnt,
-  row-below t,
-  row.Post,
-  actor-reads.Asked,
-  actor-reads.Learnt,
-  own-below t,
-  own.Post,
-) (value-at t) value.Post
+value-actor-requires : (t : ℕ) → value-lts.Need-actor-requires (value-callees t) (value-at t) value.Post
 value-actor-requires t c κs = search needs
 
-value-add-row-2 : (t : ℕ) → value-lts.Need-add-row-2 (
-  word-reads.Asked,
-  word-reads.Learnt,
-  kind-reads.Asked,
-  kind-reads.Learnt,
-  ended-reads.Asked,
-  ended-reads.Learnt,
-  next-reads.Asked,
-  next-reads.Learnt,
-  row-below t,
-  row.Post,
-  actor-reads.Asked,
-  actor-reads.Learnt,
-  own-below t,
-  own.Post,
-) (value-at t) value.Post
+value-add-row-2 : (t : ℕ) → value-lts.Need-add-row-2 (value-callees t) (value-at t) value.Post
 value-add-row-2 t c = record { fits = omega (arith, c .before .before .before .before .before .before .before .before .before .before .pre .1 .place) }
 
-value-next-requires-2 : (t : ℕ) → value-lts.Need-next-requires-2 (
-  word-reads.Asked,
-  word-reads.Learnt,
-  kind-reads.Asked,
-  kind-reads.Learnt,
-  ended-reads.Asked,
-  ended-reads.Learnt,
-  next-reads.Asked,
-  next-reads.Learnt,
-  row-below t,
-  row.Post,
-  actor-reads.Asked,
-  actor-reads.Learnt,
-  own-below t,
-  own.Post,
-) (value-at t) value.Post
+value-next-requires-2 : (t : ℕ) → value-lts.Need-next-requires-2 (value-callees t) (value-at t) value.Post
 value-next-requires-2 t c κs = search needs
 
-value-sub-row-2 : (t : ℕ) → value-lts.Need-sub-row-2 (
-  word-reads.Asked,
-  word-reads.Learnt,
-  kind-reads.Asked,
-  kind-reads.Learnt,
-  ended-reads.Asked,
-  ended-reads.Learnt,
-  next-reads.Asked,
-  next-reads.Learnt,
-  row-below t,
-  row.Post,
-  actor-reads.Asked,
-  actor-reads.Learnt,
-  own-below t,
-  own.Post,
-) (value-at t) value.Post
+value-sub-row-2 : (t : ℕ) → value-lts.Need-sub-row-2 (value-callees t) (value-at t) value.Post
 value-sub-row-2 t c = omega (arith, c .before .before .before .before .before .before .before .before .before .if1 .left)
 
-value-row-requires-2 : (t : ℕ) → value-lts.Need-row-requires-2 (
-  word-reads.Asked,
-  word-reads.Learnt,
-  kind-reads.Asked,
-  kind-reads.Learnt,
-  ended-reads.Asked,
-  ended-reads.Learnt,
-  next-reads.Asked,
-  next-reads.Learnt,
-  row-below t,
-  row.Post,
-  actor-reads.Asked,
-  actor-reads.Learnt,
-  own-below t,
-  own.Post,
-) (value-at t) value.Post
-value-row-requires-2 t c κs = (omega (arith, c .before .before .before .before .before .before .before .before .before .before .before .pre .0, c .before .before .before .before .before .before .before .before .before .if1 .left), valuing.walk-at (c .before .before .before .before .before .before .before .before .before .before .before .args .a) (c .before .before .before .before .before .before .before .before .before .before .before .args .seat) (c .before .before .before .before .before .before .before .before .before .before .before .args .depth) (c .before .before .before .before .before .before .before .before .before .before .before .args .heads) (c .before .before .before .before .before .before .before .before .before .before .before .args .units) (c .before .before .before .before .before .before .before .before .before .before .before .args .kept) (c .before .before .before .before .before .before .before .before .before .before .before .pre .1) (c .before .before .before .before .before .before .before .before .before .before .before .args .a + 1) (c .before .before .before .before .before .before .before .before .before .before .before .args .depth - 1) (omega arith) (omega (arith, c .before .before .before .before .before .before .before .before .before .before .before .pre .1 .place, c .before .before .before .before .before .before .before .before .before .if1 .left)))
+value-row-requires-2 : (t : ℕ) → value-lts.Need-row-requires-2 (value-callees t) (value-at t) value.Post
+value-row-requires-2 t c κs = let s0 = c .before .before .before .before .before .before .before .before .before .before .before in let s1 = c .before .before .before .before .before .before .before .before .before in (omega (arith, s0 .pre .0, s1 .if1 .left), valuing.walk-at (s0 .args .a) (s0 .args .seat) (s0 .args .depth) (s0 .args .heads) (s0 .args .units) (s0 .args .kept) (s0 .pre .1) (s0 .args .a + 1) (s0 .args .depth - 1) (omega arith) (omega (arith, s0 .pre .1 .place, s1 .if1 .left)))
 
-value-same-length-3 : (t : ℕ) → value-lts.Need-same-length-3 (
-  word-reads.Asked,
-  word-reads.Learnt,
-  kind-reads.Asked,
-  kind-reads.Learnt,
-  ended-reads.Asked,
-  ended-reads.Learnt,
-  next-reads.Asked,
-  next-reads.Learnt,
-  row-below t,
-  row.Post,
-  actor-reads.Asked,
-  actor-reads.Learnt,
-  own-below t,
-  own.Post,
-) (value-at t) value.Post
+value-same-length-3 : (t : ℕ) → value-lts.Need-same-length-3 (value-callees t) (value-at t) value.Post
 value-same-length-3 t c = search needs
 
-value-returns-4 : (t : ℕ) → value-lts.Need-returns-4 (
-  word-reads.Asked,
-  word-reads.Learnt,
-  kind-reads.Asked,
-  kind-reads.Learnt,
-  ended-reads.Asked,
-  ended-reads.Learnt,
-  next-reads.Asked,
-  next-reads.Learnt,
-  row-below t,
-  row.Post,
-  actor-reads.Asked,
-  actor-reads.Learnt,
-  own-below t,
-  own.Post,
-) (value-at t) value.Post
-value-returns-4 t c = valuing.value-other (c .before .before .before .before .before .before .before .before .before .before .before .before .before .before .args .seat) (c .before .before .before .before .before .before .before .before .before .before .before .before .before .before .args .depth) (c .before .before .before .before .before .before .before .before .before .before .before .before .before .before .args .heads) (c .before .before .before .before .before .before .before .before .before .before .before .before .before .before .args .units) (c .before .before .before .before .before .before .before .before .before .before .before .before .before .before .args .kept) (c .before .before .before .before .before .before .before .before .before .before .before .before .before .before .args .a) (now (c .before .before .before .before .before .before .before .before .before .before .before .before .before .before .args .w)) (c .before .before .before .before .before .before .before .before .before .before .word .result) (c .before .before .before .before .before .before .before .before .before .before .word .ensures) (c .before .before .row2 .last .0) (c .before .before .row2 .result) (sym (c .before .before .before .before .before .before .before .before .before .kind .ensures) ∙ c .before .before .before .before .before .before .before .if3 .left) (λ q. c .before .before .before .before .before .if4 .taken (c .before .before .before .before .before .before .actor .ensures ∙ q)) (subst (λ z. ValuedAll (c .before .before .before .before .before .before .before .before .before .before .before .before .before .before .args .seat) (c .before .before .before .before .before .before .before .before .before .before .before .before .before .before .args .depth - 1) (c .before .before .before .before .before .before .before .before .before .before .before .before .before .before .args .heads) (c .before .before .before .before .before .before .before .before .before .before .before .before .before .before .args .units) (c .before .before .before .before .before .before .before .before .before .before .before .before .before .before .args .kept) (c .before .before .before .before .before .before .before .before .before .before .before .before .before .before .args .a + 1) z (now (c .before .before .before .before .before .before .before .before .before .before .before .before .before .before .args .w)) (c .before .before .row2 .last .0) (c .before .before .row2 .result)) (c .before .before .before .next2 .ensures) (c .before .before .row2 .ensures))
+value-returns-4 : (t : ℕ) → value-lts.Need-returns-4 (value-callees t) (value-at t) value.Post
+value-returns-4 t c = let s0 = c .before .before .before .before .before .before .before .before .before .before .before .before .before .before in let s1 = c .before .before .before .before .before .before .before .before .before .before in valuing.value-other (s0 .args .seat) (s0 .args .depth) (s0 .args .heads) (s0 .args .units) (s0 .args .kept) (s0 .args .a) (now (s0 .args .w)) (s1 .word .result) (s1 .word .ensures) (c .before .before .row2 .last .0) (c .before .before .row2 .result) (sym (c .before .before .before .before .before .before .before .before .before .kind .ensures) ∙ c .before .before .before .before .before .before .before .if3 .left) (λ q. c .before .before .before .before .before .if4 .taken (c .before .before .before .before .before .before .actor .ensures ∙ q)) (subst (λ z. ValuedAll (s0 .args .seat) (s0 .args .depth - 1) (s0 .args .heads) (s0 .args .units) (s0 .args .kept) (s0 .args .a + 1) z (now (s0 .args .w)) (c .before .before .row2 .last .0) (c .before .before .row2 .result)) (c .before .before .before .next2 .ensures) (c .before .before .row2 .ensures))
 
-value-sub-own : (t : ℕ) → value-lts.Need-sub-own (
-  word-reads.Asked,
-  word-reads.Learnt,
-  kind-reads.Asked,
-  kind-reads.Learnt,
-  ended-reads.Asked,
-  ended-reads.Learnt,
-  next-reads.Asked,
-  next-reads.Learnt,
-  row-below t,
-  row.Post,
-  actor-reads.Asked,
-  actor-reads.Learnt,
-  own-below t,
-  own.Post,
-) (value-at t) value.Post
+value-sub-own : (t : ℕ) → value-lts.Need-sub-own (value-callees t) (value-at t) value.Post
 value-sub-own t c = omega (arith, c .before .before .before .before .before .before .before .before .if1 .left)
 
-value-own-requires : (t : ℕ) → value-lts.Need-own-requires (
-  word-reads.Asked,
-  word-reads.Learnt,
-  kind-reads.Asked,
-  kind-reads.Learnt,
-  ended-reads.Asked,
-  ended-reads.Learnt,
-  next-reads.Asked,
-  next-reads.Learnt,
-  row-below t,
-  row.Post,
-  actor-reads.Asked,
-  actor-reads.Learnt,
-  own-below t,
-  own.Post,
-) (value-at t) value.Post
-value-own-requires t c κs = (omega (arith, c .before .before .before .before .before .before .before .before .before .before .pre .0, c .before .before .before .before .before .before .before .before .if1 .left), valuing.walk-at (c .before .before .before .before .before .before .before .before .before .before .args .a) (c .before .before .before .before .before .before .before .before .before .before .args .seat) (c .before .before .before .before .before .before .before .before .before .before .args .depth) (c .before .before .before .before .before .before .before .before .before .before .args .heads) (c .before .before .before .before .before .before .before .before .before .before .args .units) (c .before .before .before .before .before .before .before .before .before .before .args .kept) (c .before .before .before .before .before .before .before .before .before .before .pre .1) (c .before .before .before .before .before .before .before .before .before .before .args .a + 1) (c .before .before .before .before .before .before .before .before .before .before .args .depth - 1) (omega arith) (omega (arith, c .before .before .before .before .before .before .before .before .before .before .pre .1 .place, c .before .before .before .before .before .before .before .before .if1 .left)))
+value-own-requires : (t : ℕ) → value-lts.Need-own-requires (value-callees t) (value-at t) value.Post
+value-own-requires t c κs = let s0 = c .before .before .before .before .before .before .before .before .before .before in let s1 = c .before .before .before .before .before .before .before .before in (omega (arith, s0 .pre .0, s1 .if1 .left), valuing.walk-at (s0 .args .a) (s0 .args .seat) (s0 .args .depth) (s0 .args .heads) (s0 .args .units) (s0 .args .kept) (s0 .pre .1) (s0 .args .a + 1) (s0 .args .depth - 1) (omega arith) (omega (arith, s0 .pre .1 .place, s1 .if1 .left)))
 
-value-same-length-4 : (t : ℕ) → value-lts.Need-same-length-4 (
-  word-reads.Asked,
-  word-reads.Learnt,
-  kind-reads.Asked,
-  kind-reads.Learnt,
-  ended-reads.Asked,
-  ended-reads.Learnt,
-  next-reads.Asked,
-  next-reads.Learnt,
-  row-below t,
-  row.Post,
-  actor-reads.Asked,
-  actor-reads.Learnt,
-  own-below t,
-  own.Post,
-) (value-at t) value.Post
+value-same-length-4 : (t : ℕ) → value-lts.Need-same-length-4 (value-callees t) (value-at t) value.Post
 value-same-length-4 t c = search needs
 
-value-returns-5 : (t : ℕ) → value-lts.Need-returns-5 (
-  word-reads.Asked,
-  word-reads.Learnt,
-  kind-reads.Asked,
-  kind-reads.Learnt,
-  ended-reads.Asked,
-  ended-reads.Learnt,
-  next-reads.Asked,
-  next-reads.Learnt,
-  row-below t,
-  row.Post,
-  actor-reads.Asked,
-  actor-reads.Learnt,
-  own-below t,
-  own.Post,
-) (value-at t) value.Post
-value-returns-5 t c = valuing.value-own (c .before .before .before .before .before .before .before .before .before .before .before .before .before .args .seat) (c .before .before .before .before .before .before .before .before .before .before .before .before .before .args .depth) (c .before .before .before .before .before .before .before .before .before .before .before .before .before .args .heads) (c .before .before .before .before .before .before .before .before .before .before .before .before .before .args .units) (c .before .before .before .before .before .before .before .before .before .before .before .before .before .args .kept) (c .before .before .before .before .before .before .before .before .before .before .before .before .before .args .a) (now (c .before .before .before .before .before .before .before .before .before .before .before .before .before .args .w)) (c .before .before .before .before .before .before .before .before .before .word .result) (c .before .before .before .before .before .before .before .before .before .word .ensures) (c .before .before .own .last .0) (c .before .before .own .result) (sym (c .before .before .before .before .before .before .before .before .kind .ensures) ∙ c .before .before .before .before .before .before .if3 .left) (sym (c .before .before .before .before .before .actor .ensures) ∙ c .before .before .before .before .if4 .left) (c .before .before .own .ensures)
+value-returns-5 : (t : ℕ) → value-lts.Need-returns-5 (value-callees t) (value-at t) value.Post
+value-returns-5 t c = let s0 = c .before .before .before .before .before .before .before .before .before .before .before .before .before in let s1 = c .before .before .before .before .before .before .before .before .before in valuing.value-own (s0 .args .seat) (s0 .args .depth) (s0 .args .heads) (s0 .args .units) (s0 .args .kept) (s0 .args .a) (now (s0 .args .w)) (s1 .word .result) (s1 .word .ensures) (c .before .before .own .last .0) (c .before .before .own .result) (sym (c .before .before .before .before .before .before .before .before .kind .ensures) ∙ c .before .before .before .before .before .before .if3 .left) (sym (c .before .before .before .before .before .actor .ensures) ∙ c .before .before .before .before .if4 .left) (c .before .before .own .ensures)
 
 pub +below+choose+own+row+total+value-spec : {M : Type 1} → statement M
 +below+choose+own+row+total+value-spec =
-    close μ-below μ-choose μ-own μ-row μ-total μ-value (λ t. below-lts.spec (
-      word-reads.Asked,
-      word-reads.Learnt,
-      kind-reads.Asked,
-      kind-reads.Learnt,
-      ended-reads.Asked,
-      ended-reads.Learnt,
-      value-below t,
-      value.Post,
-    )
-    (below-at t)
+    close μ-below μ-choose μ-own μ-row μ-total μ-value (λ t. below-lts.spec (below-callees t) (below-at t)
     below.Post
     (below-word-requires t)
     (below-kind-requires t)
@@ -1284,19 +387,7 @@ pub +below+choose+own+row+total+value-spec : {M : Type 1} → statement M
     (below-value-requires t)
     (below-same-length-2 t)
     (below-returns-2 t))
-    (λ t. choose-lts.spec (
-      word-reads.Asked,
-      word-reads.Learnt,
-      start-reads.Asked,
-      start-reads.Learnt,
-      total-below t,
-      total.Post,
-      past-reads.Asked,
-      past-reads.Learnt,
-      put-reads.Asked,
-      put-reads.Learnt,
-    )
-    (choose-at t)
+    (λ t. choose-lts.spec (choose-callees t) (choose-at t)
     choose.Post
     choose-Inv-loop
     choose-μ-loop
@@ -1317,19 +408,7 @@ pub +below+choose+own+row+total+value-spec : {M : Type 1} → statement M
     (choose-put-requires t)
     (choose-same-length-2 t)
     (choose-returns-2 t))
-    (λ t. own-lts.spec (
-      set-reads.Asked,
-      set-reads.Learnt,
-      actions-reads.Asked,
-      actions-reads.Learnt,
-      choose-below t,
-      choose.Post,
-      child-reads.Asked,
-      child-reads.Learnt,
-      below-below t,
-      below.Post,
-    )
-    (own-at t)
+    (λ t. own-lts.spec (own-callees t) (own-at t)
     own.Post
     (own-set-requires t)
     (own-actions-requires t)
@@ -1338,15 +417,7 @@ pub +below+choose+own+row+total+value-spec : {M : Type 1} → statement M
     (own-below-requires t)
     (own-same-length t)
     (own-returns t))
-    (λ t. row-lts.spec (
-      below-below t,
-      below.Post,
-      wrapping-add-u64-reads.Asked,
-      wrapping-add-u64-reads.Learnt,
-      behind-reads.Asked,
-      behind-reads.Learnt,
-    )
-    (row-at t)
+    (λ t. row-lts.spec (row-callees t) (row-at t)
     row.Post
     row-Inv-loop
     row-μ-loop
@@ -1360,19 +431,7 @@ pub +below+choose+own+row+total+value-spec : {M : Type 1} → statement M
     (row-loop-again t)
     (row-same-length-2 t)
     (row-returns-2 t))
-    (λ t. total-lts.spec (
-      word-reads.Asked,
-      word-reads.Learnt,
-      child-reads.Asked,
-      child-reads.Learnt,
-      below-below t,
-      below.Post,
-      wrapping-add-u64-reads.Asked,
-      wrapping-add-u64-reads.Learnt,
-      later-reads.Asked,
-      later-reads.Learnt,
-    )
-    (total-at t)
+    (λ t. total-lts.spec (total-callees t) (total-at t)
     total.Post
     total-Inv-loop
     total-μ-loop
@@ -1390,23 +449,7 @@ pub +below+choose+own+row+total+value-spec : {M : Type 1} → statement M
     (total-loop-again t)
     (total-same-length-2 t)
     (total-returns-2 t))
-    λ t. value-lts.spec (
-      word-reads.Asked,
-      word-reads.Learnt,
-      kind-reads.Asked,
-      kind-reads.Learnt,
-      ended-reads.Asked,
-      ended-reads.Learnt,
-      next-reads.Asked,
-      next-reads.Learnt,
-      row-below t,
-      row.Post,
-      actor-reads.Asked,
-      actor-reads.Learnt,
-      own-below t,
-      own.Post,
-    )
-    (value-at t)
+    λ t. value-lts.spec (value-callees t) (value-at t)
     value.Post
     (value-returns t)
     (value-word-requires t)

@@ -26,7 +26,7 @@ array-read-lowered : tie.Need-array-read-lowered Inv-loop μ-loop
 array-read-lowered c = search needs
 
 lowered-requires : tie.Need-lowered-requires Inv-loop μ-loop
-lowered-requires c κs = (c .before .before .before .pre .1, c .before .before .before .pre .2 (c .before .loop .seat) (c .loop-test .taken))
+lowered-requires c κs = let s0 = c .before .before .before in (s0 .pre .1, s0 .pre .2 (c .before .loop .seat) (c .loop-test .taken))
 
 mul-out : tie.Need-mul-out Inv-loop μ-loop
 mul-out c = search needs

@@ -15,28 +15,28 @@ entries-requires : tie.Need-entries-requires
 entries-requires c κs = search needs
 
 add-units : tie.Need-add-units
-add-units c = record { fits = omega (arith, units-near (c .before .before .before .before .args .g) (c .before .before .before .before .args .d) (now (c .before .before .before .before .args .table)) (c .before .before .before .before .pre .1) (c .before .heads-of .result) (c .entries .result) (c .before .heads-of .ensures) (c .entries .ensures)) }
+add-units c = let s0 = c .before .before .before .before in record { fits = omega (arith, units-near (s0 .args .g) (s0 .args .d) (now (s0 .args .table)) (s0 .pre .1) (c .before .heads-of .result) (c .entries .result) (c .before .heads-of .ensures) (c .entries .ensures)) }
 
 root-units-requires : tie.Need-root-units-requires
 root-units-requires c κs = search needs
 
 collect-requires : tie.Need-collect-requires
-collect-requires c κs = storable (c .before .before .before .before .before .before .args .g) (c .before .before .before .before .before .before .args .d) (now (c .before .before .before .before .before .before .args .table)) (c .before .before .before .before .before .before .pre .1) (c .before .before .before .heads-of .result) (c .before .before .entries .result) (c .before .before .before .heads-of .ensures) (c .before .before .entries .ensures) (c .before .root-units .result) (c .before .root-units .ensures)
+collect-requires c κs = let s0 = c .before .before .before .before .before .before in let s1 = c .before .before .before in storable (s0 .args .g) (s0 .args .d) (now (s0 .args .table)) (s0 .pre .1) (s1 .heads-of .result) (c .before .before .entries .result) (s1 .heads-of .ensures) (c .before .before .entries .ensures) (c .before .root-units .result) (c .before .root-units .ensures)
 
 nodes-requires : tie.Need-nodes-requires
 nodes-requires c κs = search needs
 
 end-sums-requires : tie.Need-end-sums-requires
-end-sums-requires c κs = (nodes-near (c .before .before .before .before .before .before .before .before .before .before .before .args .g) (c .before .before .before .before .before .before .before .before .before .before .before .args .d) (now (c .before .before .before .before .before .before .before .before .before .before .before .args .table)) (c .before .before .before .before .before .before .before .before .before .before .before .pre .1) (c .before .before .before .before .before .before .before .before .heads-of .result) (c .before .before .before .before .before .before .before .entries .result) (c .before .before .before .before .before .before .before .before .heads-of .ensures) (c .before .before .before .before .before .before .before .entries .ensures) (c .nodes .result) (c .nodes .ensures), units-near (c .before .before .before .before .before .before .before .before .before .before .before .args .g) (c .before .before .before .before .before .before .before .before .before .before .before .args .d) (now (c .before .before .before .before .before .before .before .before .before .before .before .args .table)) (c .before .before .before .before .before .before .before .before .before .before .before .pre .1) (c .before .before .before .before .before .before .before .before .heads-of .result) (c .before .before .before .before .before .before .before .entries .result) (c .before .before .before .before .before .before .before .before .heads-of .ensures) (c .before .before .before .before .before .before .before .entries .ensures))
+end-sums-requires c κs = let s0 = c .before .before .before .before .before .before .before .before .before .before .before in let s1 = c .before .before .before .before .before .before .before .before in let s2 = c .before .before .before .before .before .before .before in (nodes-near (s0 .args .g) (s0 .args .d) (now (s0 .args .table)) (s0 .pre .1) (s1 .heads-of .result) (s2 .entries .result) (s1 .heads-of .ensures) (s2 .entries .ensures) (c .nodes .result) (c .nodes .ensures), units-near (s0 .args .g) (s0 .args .d) (now (s0 .args .table)) (s0 .pre .1) (s1 .heads-of .result) (s2 .entries .result) (s1 .heads-of .ensures) (s2 .entries .ensures))
 
 lowered-all-requires : tie.Need-lowered-all-requires
-lowered-all-requires c κs = (few-seats (c .before .before .before .before .before .before .before .before .before .before .before .before .args .g) (c .before .before .before .before .before .before .before .before .before .before .before .before .args .d) (now (c .before .before .before .before .before .before .before .before .before .before .before .before .args .table)) (c .before .before .before .before .before .before .before .before .before .before .before .before .pre .1), c .before .before .before .before .before .before .before .root-units .ensures .1, sums-few (c .before .before .before .before .before .before .before .before .before .before .before .before .args .g) (c .before .before .before .before .before .before .before .before .before .before .before .before .args .d) (now (c .before .before .before .before .before .before .before .before .before .before .before .before .args .table)) (c .before .before .before .before .before .before .before .before .before .before .before .before .pre .1) (c .before .before .before .before .before .before .before .root-units .result) (c .before .before .before .before .before .before .before .root-units .ensures .0) (c .end-sums .result .of) (sums-lifted (c .before .before .before .before .before .before .before .before .before .before .before .before .args .g) (c .before .before .before .before .before .before .before .before .before .before .before .before .args .d) (now (c .before .before .before .before .before .before .before .before .before .before .before .before .args .table)) (c .before .before .before .before .before .before .before .before .before .before .before .before .pre .1) (c .before .before .before .before .before .before .before .before .before .heads-of .result) (c .before .before .before .before .before .before .before .before .entries .result) (c .before .before .before .before .before .before .before .before .before .heads-of .ensures) (c .before .before .before .before .before .before .before .before .entries .ensures) (c .before .before .before .before .before .before .before .root-units .result) (c .before .before .before .before .before .before .before .root-units .ensures) (now (c .before .before .before .before .before .before .before .before .before .before .before .before .args .w)) (c .before .before .before .before .before .collect .last .0) (c .before .before .before .before .before .before .before .before .before .before .before .before .pre .0) (c .before .before .before .before .before .before .before .before .before .before .before .before .pre .2) (c .before .before .before .before .before .collect .ensures) (c .before .nodes .result) (c .before .nodes .ensures) (c .end-sums .result .of) (c .end-sums .ensures)))
+lowered-all-requires c κs = let s0 = c .before .before .before .before .before .before .before .before .before .before .before .before in let s1 = c .before .before .before .before .before .before .before .before .before in let s2 = c .before .before .before .before .before .before .before .before in let s3 = c .before .before .before .before .before .before .before in let s4 = c .before .before .before .before .before in (few-seats (s0 .args .g) (s0 .args .d) (now (s0 .args .table)) (s0 .pre .1), s3 .root-units .ensures .1, sums-few (s0 .args .g) (s0 .args .d) (now (s0 .args .table)) (s0 .pre .1) (s3 .root-units .result) (s3 .root-units .ensures .0) (c .end-sums .result .of) (sums-lifted (s0 .args .g) (s0 .args .d) (now (s0 .args .table)) (s0 .pre .1) (s1 .heads-of .result) (s2 .entries .result) (s1 .heads-of .ensures) (s2 .entries .ensures) (s3 .root-units .result) (s3 .root-units .ensures) (now (s0 .args .w)) (s4 .collect .last .0) (s0 .pre .0) (s0 .pre .2) (s4 .collect .ensures) (c .before .nodes .result) (c .before .nodes .ensures) (c .end-sums .result .of) (c .end-sums .ensures)))
 
 same-length : tie.Need-same-length
 same-length c = search needs
 
 returns : tie.Need-returns
-returns c = (c .lowered-all .ensures ∙ sums-worths (c .before .before .before .before .before .before .before .before .before .before .before .before .before .args .g) (c .before .before .before .before .before .before .before .before .before .before .before .before .before .args .d) (now (c .before .before .before .before .before .before .before .before .before .before .before .before .before .args .table)) (c .before .before .before .before .before .before .before .before .before .before .before .before .before .pre .1) (c .before .before .before .before .before .before .before .before .root-units .result) (c .before .before .before .before .before .before .before .before .root-units .ensures .0) (c .before .end-sums .result .of) (sums-lifted (c .before .before .before .before .before .before .before .before .before .before .before .before .before .args .g) (c .before .before .before .before .before .before .before .before .before .before .before .before .before .args .d) (now (c .before .before .before .before .before .before .before .before .before .before .before .before .before .args .table)) (c .before .before .before .before .before .before .before .before .before .before .before .before .before .pre .1) (c .before .before .before .before .before .before .before .before .before .before .heads-of .result) (c .before .before .before .before .before .before .before .before .before .entries .result) (c .before .before .before .before .before .before .before .before .before .before .heads-of .ensures) (c .before .before .before .before .before .before .before .before .before .entries .ensures) (c .before .before .before .before .before .before .before .before .root-units .result) (c .before .before .before .before .before .before .before .before .root-units .ensures) (now (c .before .before .before .before .before .before .before .before .before .before .before .before .before .args .w)) (c .before .before .before .before .before .before .collect .last .0) (c .before .before .before .before .before .before .before .before .before .before .before .before .before .pre .0) (c .before .before .before .before .before .before .before .before .before .before .before .before .before .pre .2) (c .before .before .before .before .before .before .collect .ensures) (c .before .before .nodes .result) (c .before .before .nodes .ensures) (c .before .end-sums .result .of) (c .before .end-sums .ensures)), still-stored (c .before .before .before .before .before .before .before .before .before .before .before .before .before .args .g) (c .before .before .before .before .before .before .before .before .before .before .before .before .before .args .d) (now (c .before .before .before .before .before .before .before .before .before .before .before .before .before .args .table)) (c .before .before .before .before .before .before .before .before .before .before .before .before .before .pre .1) (c .before .before .before .before .before .before .before .before .before .before .heads-of .result) (c .before .before .before .before .before .before .before .before .before .entries .result) (c .before .before .before .before .before .before .before .before .before .before .heads-of .ensures) (c .before .before .before .before .before .before .before .before .before .entries .ensures) (c .before .before .before .before .before .before .before .before .root-units .result) (c .before .before .before .before .before .before .before .before .root-units .ensures) 8 (now (c .before .before .before .before .before .before .before .before .before .before .before .before .before .args .w)) (c .before .before .before .before .before .before .collect .last .0) (c .before .before .before .before .before .before .before .before .before .before .before .before .before .pre .0) (c .before .before .before .before .before .before .collect .ensures))
+returns c = let s0 = c .before .before .before .before .before .before .before .before .before .before .before .before .before in let s1 = c .before .before .before .before .before .before .before .before .before .before in let s2 = c .before .before .before .before .before .before .before .before .before in let s3 = c .before .before .before .before .before .before .before .before in let s4 = c .before .before .before .before .before .before in (c .lowered-all .ensures ∙ sums-worths (s0 .args .g) (s0 .args .d) (now (s0 .args .table)) (s0 .pre .1) (s3 .root-units .result) (s3 .root-units .ensures .0) (c .before .end-sums .result .of) (sums-lifted (s0 .args .g) (s0 .args .d) (now (s0 .args .table)) (s0 .pre .1) (s1 .heads-of .result) (s2 .entries .result) (s1 .heads-of .ensures) (s2 .entries .ensures) (s3 .root-units .result) (s3 .root-units .ensures) (now (s0 .args .w)) (s4 .collect .last .0) (s0 .pre .0) (s0 .pre .2) (s4 .collect .ensures) (c .before .before .nodes .result) (c .before .before .nodes .ensures) (c .before .end-sums .result .of) (c .before .end-sums .ensures)), still-stored (s0 .args .g) (s0 .args .d) (now (s0 .args .table)) (s0 .pre .1) (s1 .heads-of .result) (s2 .entries .result) (s1 .heads-of .ensures) (s2 .entries .ensures) (s3 .root-units .result) (s3 .root-units .ensures) 8 (now (s0 .args .w)) (s4 .collect .last .0) (s0 .pre .0) (s4 .collect .ensures))
 
 pub table-worths-spec : {M : Type 1} → statement M
 table-worths-spec =
