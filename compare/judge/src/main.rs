@@ -21,9 +21,9 @@ fn main() -> io::Result<()> {
     let [_, seed, folder] = arguments.as_slice() else { panic!("usage: lists SEED FOLDER") };
     let seed = seed.parse().expect("the seed is a number");
     let folder = Path::new(folder);
-    kuhn_lists::list(seed).write(folder, "kuhn_replay", &KUHN)?;
-    leduc_lists::list(seed).write(folder, "leduc_replay", &LEDUC)?;
-    listing_lists::list(seed).write(folder, "listing_replay", &LISTING)?;
-    units_lists::list(seed).write(folder, "units_replay", &UNITS)?;
-    floats_lists::list(seed).write(folder, "floats_replay", &FLOATS)
+    kuhn_lists::list(seed).write(folder, "replay_kuhn", &KUHN)?;
+    leduc_lists::list(seed).write(folder, "replay_leduc", &LEDUC)?;
+    listing_lists::list(seed).write(folder, "replay_listing", &LISTING)?;
+    units_lists::list(seed).write(folder, "replay_units", &UNITS)?;
+    floats_lists::list(seed).write(folder, "replay_f64", &FLOATS)
 }

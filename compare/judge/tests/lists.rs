@@ -72,11 +72,11 @@ fn committed(program: &str, file: &str) -> String {
 #[test]
 fn committed_lists_are_the_seeds() {
     let lists = [
-        ("kuhn_replay", kuhn_lists::list(judge::SEED)),
-        ("leduc_replay", leduc_lists::list(judge::SEED)),
-        ("listing_replay", listing_lists::list(judge::SEED)),
-        ("units_replay", units_lists::list(judge::SEED)),
-        ("floats_replay", floats_lists::list(judge::SEED)),
+        ("replay_kuhn", kuhn_lists::list(judge::SEED)),
+        ("replay_leduc", leduc_lists::list(judge::SEED)),
+        ("replay_listing", listing_lists::list(judge::SEED)),
+        ("replay_units", units_lists::list(judge::SEED)),
+        ("replay_f64", floats_lists::list(judge::SEED)),
     ];
     for (program, list) in lists {
         assert!(list.stdin == committed(program, "stdin"), "{program}: stdin is another list");
