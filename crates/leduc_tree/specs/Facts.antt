@@ -1,5 +1,5 @@
 -- The facts about Leduc's tree, statement by statement (document 01, "The tree and its sets"). Each is proved in proofs/Facts.antt, which assumes nothing.
--- Throughout: any ante and raises. The counts, and what the reply theorem asks of the tree, stand in the crate leduc_facts.
+-- Throughout: any ante and raises. The counts, and what the reply theorem asks of the tree, stand in the crate leduc_tree_facts.
 use mathlib.Core.Path.{_≡_}
 use mathlib.Core.List.{map}
 use Prim.Native.Nat.{ℕ, _+_}
