@@ -60,9 +60,9 @@ audit:
 	    cd rust && cargo test -q $(CARGO_FLAGS) -p audit && cargo run -q $(CARGO_FLAGS) -p audit; \
 	fi
 
-# The files of specs/ by who reaches them: public contracts, statements for readers, or neither.
+# The files of specs/ by who reaches them: public contracts, statements for readers, or neither. With FROM=Demand what that definition reaches.
 reach:
-	cd rust && cargo run -q $(CARGO_FLAGS) -p audit -- files
+	cd rust && cargo run -q $(CARGO_FLAGS) -p audit -- $(if $(FROM),from '$(FROM)',files)
 
 # Host builds live in build/, which `rt ci` leaves alone.
 host-tests:

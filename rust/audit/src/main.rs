@@ -1,13 +1,14 @@
-//! Prints how much of specs/ the contracts of public calls reach. `reach files` lists the files, `reach definitions` the definitions.
-//! Ends with status 1 where a definition stands where it should not.
+//! Prints how much of specs/ the contracts of public calls reach. `reach files` lists the files, `reach definitions` the definitions,
+//! `reach from NAME` what the definitions of a name reach. Ends with status 1 where a definition stands where it should not.
 
+use std::collections::BTreeMap;
 use std::env;
 use std::fmt::Write as _;
 use std::io::{self, Write as _};
 use std::process::ExitCode;
 
 use audit::files::Files;
-use audit::reach::{report, Class, Report};
+use audit::reach::{report, Class, Mentions, Report};
 
 const CLASSES: [(Class, &str); 3] = [
     (Class::Contract, "public contracts reach"),
@@ -42,6 +43,25 @@ fn definitions(report: &Report) -> String {
     text
 }
 
+/// What the definitions of a name reach, themselves among it, by file.
+fn from(report: &Report, name: &str) -> String {
+    let named = report.graph.definitions.keys().filter(|place| place.name == name).cloned();
+    let roots = Mentions { definitions: named.collect(), ..Mentions::default() };
+    let mut files: BTreeMap<&str, Vec<&str>> = BTreeMap::new();
+    let mut lines = 0;
+    let reached = report.graph.reached([&roots].into_iter());
+    for place in reached.from.keys() {
+        files.entry(&place.path).or_default().push(&place.name);
+        lines += report.graph.definitions[place].lines;
+    }
+    let mut text =
+        format!("{name} reaches {} definitions, {lines} lines, in {} files\n", reached.from.len(), files.len());
+    for (path, names) in files {
+        let _ = writeln!(text, "  {path}: {}", names.join(" "));
+    }
+    text
+}
+
 fn main() -> ExitCode {
     let report = match report(&Files::of_repository()) {
         Ok(report) => report,
@@ -50,9 +70,16 @@ fn main() -> ExitCode {
             return ExitCode::FAILURE;
         }
     };
-    let text = match env::args().nth(1).as_deref() {
-        Some("definitions") => definitions(&report),
-        argument => counts(&report, argument == Some("files")),
+    let arguments: Vec<String> = env::args().skip(1).collect();
+    let text = match arguments.iter().map(String::as_str).collect::<Vec<_>>()[..] {
+        [] => counts(&report, false),
+        ["files"] => counts(&report, true),
+        ["definitions"] => definitions(&report),
+        ["from", name] => from(&report, name),
+        _ => {
+            eprintln!("reach: files, definitions or from NAME");
+            return ExitCode::from(2);
+        }
     };
     // A reader may leave before the end.
     let _ = io::stdout().write_all(text.as_bytes());
