@@ -9,9 +9,9 @@ use crate::antt::{module, text_nodes, use_line, Clause, Declaration, Leaf, Modul
 use crate::files::Files;
 use crate::items::{items, parameter_names, Form, Item};
 
-/// The crates whose public functions are the interface.
-pub const INTERFACE: [&str; 8] =
-    ["kuhn", "leduc", "listing", "worths", "best_reply", "nash_conv_units", "best_response", "chukkanalli"];
+/// The crate of the exports, and the one of the conversions that they make; the other crates that it names are the interface, as it is itself.
+const EXPORTS: &str = "chukkanalli";
+const CONVERSIONS: &str = "c_structs";
 
 /// The crate whose definitions are all statements: document 01's cases.
 const CASES: &str = "cases";
@@ -65,6 +65,8 @@ pub struct Call {
 pub struct Graph {
     pub definitions: BTreeMap<Place, Definition>,
     pub calls: Vec<Call>,
+    /// The crates whose public functions are public calls.
+    pub interface: BTreeSet<String>,
 }
 
 #[derive(Clone, Debug)]
@@ -416,7 +418,7 @@ pub fn graph(files: &Files) -> Result<Graph, String> {
     for (path, text) in files.below("crates", "antt").filter(|(path, _)| path.split('/').nth(2) == Some("specs")) {
         modules.modules.insert(path.to_string(), module(path, text)?);
     }
-    let mut graph = Graph { definitions: BTreeMap::new(), calls: Vec::new() };
+    let mut graph = Graph { definitions: BTreeMap::new(), calls: Vec::new(), interface: interface(files)? };
     for (path, found) in &modules.modules {
         let text: Vec<&str> = files.text(path)?.lines().collect();
         let names = modules.own_names(path, found)?;
@@ -436,14 +438,36 @@ pub fn graph(files: &Files) -> Result<Graph, String> {
     }
     for of in files.crates() {
         for (path, text) in files.below(&format!("crates/{of}/src"), "rt") {
-            calls(&modules, of, path, text, &mut graph.calls)?;
+            calls(&modules, of, path, text, &mut graph)?;
         }
     }
     Ok(graph)
 }
 
+/// The crate of the exports, and the crates that its `use` items and its functions name.
+fn interface(files: &Files) -> Result<BTreeSet<String>, String> {
+    let crates = files.crates();
+    let mut interface = BTreeSet::from([EXPORTS.to_string()]);
+    for (path, text) in files.below(&format!("crates/{EXPORTS}/src"), "rt") {
+        for item in items(path, text)? {
+            let mut heads = Vec::new();
+            match &item.form {
+                Form::Use(path) => heads.extend(path.split("::").next()),
+                Form::Function(function) => {
+                    let paths = function.body.windows(3).filter(|part| part[1].is(":") && part[2].is(":"));
+                    heads.extend(paths.map(|part| part[0].text));
+                }
+                _ => {}
+            }
+            interface.extend(heads.into_iter().filter(|head| crates.contains(head)).map(str::to_string));
+        }
+    }
+    interface.remove(CONVERSIONS);
+    Ok(interface)
+}
+
 /// The functions of a file. Public are those of the interface that Rust lets another crate call, and the exports.
-fn calls(modules: &Modules, of: &str, path: &str, text: &str, calls: &mut Vec<Call>) -> Result<(), String> {
+fn calls(modules: &Modules, of: &str, path: &str, text: &str, graph: &mut Graph) -> Result<(), String> {
     let found = items(path, text)?;
     let mut uses = Vec::new();
     for item in &found {
@@ -456,11 +480,11 @@ fn calls(modules: &Modules, of: &str, path: &str, text: &str, calls: &mut Vec<Ca
         Form::Impl(_, items) => items.iter().collect::<Vec<_>>(),
         _ => vec![item],
     });
-    let open = INTERFACE.contains(&of) && is_open(modules.files, of, path)?;
+    let open = graph.interface.contains(of) && is_open(modules.files, of, path)?;
     for item in inside {
         let Form::Function(function) = &item.form else { continue };
         let public = item.public && (open || function.abi.is_some());
-        calls.push(call(modules, &names, &format!("{of}: {}", function.name), path, item, public)?);
+        graph.calls.push(call(modules, &names, &format!("{of}: {}", function.name), path, item, public)?);
     }
     Ok(())
 }

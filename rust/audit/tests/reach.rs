@@ -7,9 +7,14 @@ use audit::reach::{graph, report, Class, Place};
 fn public_contracts_reach_no_internal_file_and_no_proofs() {
     let report = report(&Files::of_repository()).expect("specs/ and src/ can be read");
     let calls = report.graph.calls.iter().filter(|call| call.public).count();
+    let interface: Vec<&str> = report.graph.interface.iter().map(String::as_str).collect();
+    for known in ["kuhn", "leduc", "listing", "worths", "best_reply", "nash_conv_units", "best_response", "chukkanalli"]
+    {
+        assert!(interface.contains(&known), "{known} is not in {interface:?}");
+    }
     let [contracts, statements, internal] =
         [Class::Contract, Class::Statement, Class::Internal].map(|class| report.count(class));
-    println!("{calls} public calls; reached {contracts:?}; statements {statements:?}; between functions {internal:?}");
+    println!("{calls} public calls of {interface:?}; reached {contracts:?}; statements {statements:?}; between functions {internal:?}");
     assert!(calls > 1 && contracts.definitions > 1 && statements.definitions > 1 && internal.definitions > 1);
     assert_eq!(report.complaints, Vec::<String>::new());
 }
@@ -48,6 +53,7 @@ fn small() -> Files {
              abbrev pub rule : ℕ → ℕ\nrule x = x\n\nabbrev pub other : ℕ\nother = 1\n\nabbrev pub _⊕_ : Kind → Kind → Kind\none ⊕ y = y\ntwo ⊕ y = two\n\n\
              abbrev pub Tool : ℕ → Type 0\nTool x = x ≡ other\n\nabbrev pub Said : Type 0\nSaid = (x : ℕ) → rule x ≡ x\n",
         ),
+        ("crates/chukkanalli/src/lib.rt", "use kuhn::Answer;\n"),
         ("rust/audit/pending.txt", "# none\n"),
     ])
 }
@@ -103,6 +109,17 @@ fn every_way_to_name_a_definition_is_followed() {
         passed_on.with("crates/more/specs/More.antt", "use Prim.Native.Nat.{ℕ}\n\nabbrev pub deep : ℕ\ndeep = 1\n");
     let passed_on = passed_on.replaced(PUBLIC, "answer x", "Rules.deep");
     assert_eq!(class(&passed_on, "crates/more/specs/More.antt", "deep"), Class::Contract);
+}
+
+#[test]
+fn the_interface_is_what_the_exports_name() {
+    let public = |files: &Files| graph(files).expect("it can be read").calls.iter().filter(|call| call.public).count();
+    let root = "crates/chukkanalli/src/lib.rt";
+    assert_eq!(public(&small()), 1);
+    assert_eq!(public(&small().with(root, "use c_structs::Answer;\n")), 0);
+    assert_eq!(public(&small().with(root, "fn call() { kuhn::call(1) }\n")), 1);
+    let export = "#[no_mangle]\npub extern \"C\" fn export() { kuhn::call(1) }\npub fn more() { }\n";
+    assert_eq!(public(&small().with(root, "mod calls;\n").with("crates/chukkanalli/src/calls.rt", export)), 2);
 }
 
 /// A copy that is damaged so has a complaint that says this.
