@@ -33,15 +33,4 @@ returns : tie.Need-returns Inv-loop μ-loop
 returns c = tt
 
 pub pay-spec : {M : Type 1} → statement M
-pay-spec =
-    tie.close
-    (tie.spec
-    Inv-loop
-    μ-loop
-    payouts-requires
-    loop-holds
-    say-share-requires
-    add-seat
-    loop-less
-    loop-again
-    returns)
+pay-spec = tie.close (tie.spec Inv-loop μ-loop payouts-requires loop-holds say-share-requires add-seat loop-less loop-again returns)

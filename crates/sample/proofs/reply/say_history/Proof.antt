@@ -61,23 +61,5 @@ returns-2 c = tt
 
 pub say-history-spec : {M : Type 1} → statement M
 say-history-spec =
-    tie.close
-    (tie.spec
-    Inv-loop
-    μ-loop
-    slice-aggregate-say
-    say-requires
-    returns
-    slice-aggregate-say-2
-    say-requires-2
-    loop-holds
-    slice-aggregate-say-3
-    say-requires-3
-    cast-at
-    add-at
-    at-requires
-    say-action-requires
-    add-i
-    loop-less
-    loop-again
-    returns-2)
+    tie.close (tie.spec Inv-loop μ-loop slice-aggregate-say say-requires returns slice-aggregate-say-2 say-requires-2 loop-holds slice-aggregate-say-3
+    say-requires-3 cast-at add-at at-requires say-action-requires add-i loop-less loop-again returns-2)

@@ -58,22 +58,5 @@ returns c = tt
 
 pub say-reply-spec : {M : Type 1} → statement M
 say-reply-spec =
-    tie.close
-    (tie.spec
-    Inv-loop
-    μ-loop
-    slice-aggregate-enumerate-infosets
-    enumerate-infosets-requires
-    loop-holds
-    mul-from
-    add-say-set
-    sub-say-set
-    part-say-set-start
-    part-say-set-end
-    mul-at
-    at-requires
-    say-set-requires
-    add-set
-    loop-less
-    loop-again
-    returns)
+    tie.close (tie.spec Inv-loop μ-loop slice-aggregate-enumerate-infosets enumerate-infosets-requires loop-holds mul-from add-say-set sub-say-set
+    part-say-set-start part-say-set-end mul-at at-requires say-set-requires add-set loop-less loop-again returns)
