@@ -1,5 +1,6 @@
 -- The record of a node that is the first of its set. Assumes nothing.
 use mathlib.Core.Path.{sym, _∙_}
+use Prim.Native.Nat.{_≤_}
 use native.Mathlib.Nat as NatL
 use native.Mathlib.Omega.{arith}
 use borrow.Author.Tests.{not-true, not-false}
@@ -60,16 +61,10 @@ same-length : tie.Need-same-length
 same-length c = search needs
 
 returns-2 : tie.Need-returns-2
-returns-2 c = wrote-here c.before.before.before.before.before.before.before.before.before.before.before.before.args.n
-    c.before.before.before.before.before.before.before.before.before.before.before.before.args.acted
-    c.before.before.before.before.before.before.before.before.before.before.before.before.args.t4
-    c.before.before.before.before.before.before.before.before.before.before.before.before.args.t5
-    c.before.before.before.before.before.before.before.before.before.before.before.before.pre.0.0
-    (search needs) c.before.before.before.before.before.before.before.before.before.before.before.before.args.out.now
-    _ c.before.before.before.before.before.before.before.before.before.before.before.before.args.at
-    _ _ (sym c.before.before.before.before.before.before.before.before.before.is-first.ensures ∙ not-false _
-    c.before.before.before.before.before.before.before.before.if1.left) c.before.before.before.before.before.before.key-of.ensures
-    c.before.before.before.before.in-six.ensures c.before.before.put-record.ensures
+returns-2 c = let s4 = c .before .before in let s3 = s4 .before .before in let s2 = s3 .before .before in let s1 = s2 .before .before in
+    let s0 = s1 .before .before .before .before in let a = s0 .args in let v : a.acted ≤ 11 = omega (arith, s0.pre.0) in
+    wrote-here a.n a.acted a.t4 a.t5 s0.pre.0.0 (search (needs, s0.good.1.1.1.1.0)) a.out.now _ a.at _ _
+    (sym s1.before.is-first.ensures ∙ not-false _ s1.if1.left) s2.key-of.ensures s3.in-six.ensures s4.put-record.ensures
 
 pub write-first-spec : {M : Type 1} → statement M
 write-first-spec =
