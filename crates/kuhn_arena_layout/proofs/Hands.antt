@@ -54,7 +54,7 @@ fresh-after : (n : ℕ) (h : List ℕ) (j : ℕ) → suc j < n → bets n h ((le
 fresh-after n h j l e = ap (λ k. bets n (h ++ (BET ∷ [])) (k % n)) (place-after h BET j) ∙ bets-bet n h ((length h + suc j) % n) ∙ neither e (ne-eqb (turn n h) ((length h + suc j) % n) (other-turn n (length h) (suc j) (omega arith) l))
 
 -- ---- what the builder carries, an action on
-module _ (n : ℕ) (cs h : List ℕ) (seat r pays pot win : ℕ) (b : Betting n cs h seat r pays pot win) where
+module _ {n : ℕ} {cs h : List ℕ} {seat r pays pot win : ℕ} (b : Betting n cs h seat r pays pot win) where
   pub seat-in : seat < n
   seat-in = rw (b .acts) (NatL.mod-lt (length h) (omega (arith, b .deal .least)))
 
@@ -98,7 +98,7 @@ module _ (n : ℕ) (cs h : List ℕ) (seat r pays pot win : ℕ) (b : Betting n 
         at (holds t) = rw t seat-in
         at (fails t) = rw t (b .seated)
 
-module _ (n : ℕ) (cs h : List ℕ) (seat number : ℕ) (p : Passing n cs h seat number) where
+module _ {n : ℕ} {cs h : List ℕ} {seat number : ℕ} (p : Passing n cs h seat number) where
   module _ (z : seat ≡ n → ⊥) where
     seat-turn : turn n h ≡ seat
     seat-turn = ap (λ k. k % n) (p .acted) ∙ NatL.mod-eq-of-lt (omega (arith, p .few, z))
@@ -191,7 +191,7 @@ decision-says n cards number seat at next f six seated acts small few fans behin
       later-of seat 2 (number * (n + 1) + cardAt cards seat) next 0 (omega arith) (omega arith) set-few few (omega arith),
     )
 
-module _ (n cards number at : ℕ) (w : List ℕ) (whole t u : Tree) (e : whole ≡ node n cards number t u) (g : Room at w (size whole)) where
+module _ (n cards number : ℕ) {at : ℕ} {w : List ℕ} {whole t u : Tree} (e : whole ≡ node n cards number t u) (g : Room at w (size whole)) where
   node-size : size whole ≡ suc (size t + size u)
   unfolding size
   node-size = ap size e ∙ ap (λ x. suc (size t + x)) (NatL.add-zero (size u))
@@ -199,11 +199,11 @@ module _ (n cards number at : ℕ) (w : List ℕ) (whole t u : Tree) (e : whole 
   pub first-room : Room (at + 1) w (size t)
   first-room = record { words = omega (arith, g .words, node-size); places = omega (arith, g .places, node-size) }
 
-  module _ (v : List ℕ) (r : ℕ) (b : Built n (codeOf n) (at + 1) w v t r) where
+  module _ {v : List ℕ} {r : ℕ} (b : Built n (codeOf n) (at + 1) w v t r) where
     pub second-room : Room r v (size u)
     second-room = record { words = rw (b .kept .long) (omega (arith, b .next, g .words, node-size)); places = omega (arith, b .next, g .places, node-size) }
 
-    module _ (y : List ℕ) (q : ℕ) (c : Built n (codeOf n) r v y u q) where
+    module _ {y : List ℕ} {q : ℕ} (c : Built n (codeOf n) r v y u q) where
       behind : q ≡ at + size whole
       behind = omega (arith, b .next, c .next, node-size)
 
@@ -229,7 +229,8 @@ lays-end n cs h at pot win x w new whole e g d seated leads stakes f i = rw e (b
     (rw f (end-kind n cs h d win seated leads pot stakes, end-pays n cs h d win seated leads pot stakes)))
 
 -- ---- after a bet
-module _ (n cards number seat r pays pot win at : ℕ) (w : List ℕ) (b : Betting n (cardsIn n cards) (historyAt number) seat r pays pot win) (g : Room at w (size (afterAt n cards number r))) where
+module _ (cards number : ℕ) {n seat r pays pot win at : ℕ} {w : List ℕ} (b : Betting n (cardsIn n cards) (historyAt number) seat r pays pot win)
+    (g : Room at w (size (afterAt n cards number r))) where
   pub after-ends : r ≡ 0 → (x : ℕ) (new : List ℕ) → x ≡ pays + pot * unitOf win → new ≡ set w at x → Built n (codeOf n) at w new (afterAt n cards number r) (at + 1)
   unfolding afterAt afterBet
   after-ends z x new e i = lays-end n (cardsIn n cards) (historyAt number) at pot win x w new (afterAt n cards number r) (rw z refl) g (b .deal) (b .seated) (b .leads) (b .stakes) (e ∙ ap (λ y. y + pot * unitOf win) (b .lost)) i
@@ -247,18 +248,18 @@ module _ (n cards number seat r pays pot win at : ℕ) (w : List ℕ) (b : Betti
   after-words = (rw (b .lost) (losses-few n (historyAt number)), rw (b .stakes) (pot-few n (historyAt number) (b .deal .most)), omega (arith, b .seated, b .deal .most))
 
   pub after-seat : (seat < n) × (n ≤ 6)
-  after-seat = (seat-in n (cardsIn n cards) (historyAt number) seat r pays pot win b, b .deal .most)
+  after-seat = (seat-in b, b .deal .most)
 
   module _ (z : r ≡ 0 → ⊥) (after : ℕ) (f : after ≡ (seat + 1) % n) where
     pub after-pass : Betting n (cardsIn n cards) (historyAt (2 * number + 1)) after (r - 1) pays pot win
-    after-pass = rw (f, history-pass number) (betting-pass n (cardsIn n cards) (historyAt number) seat r pays pot win b z)
+    after-pass = rw (f, history-pass number) (betting-pass b z)
 
     pub after-unit : (unit : ℕ) → unit ≡ unitOf seat → unit ≤ pays
-    after-unit unit e = rw e (unit-in n (cardsIn n cards) (historyAt number) seat r pays pot win b z)
+    after-unit unit e = rw e (unit-in b z)
 
     pub after-raise : (unit top : ℕ) → unit ≡ unitOf seat → top ≡ cond (ltb (cardAt cards win) (cardAt cards seat)) seat win
         → Betting n (cardsIn n cards) (historyAt (2 * number + 2)) after (r - 1) (pays - unit) (pot + 1) top
-    after-raise unit top e i = rw (f, e, history-bet number) (betting-bet n (cardsIn n cards) (historyAt number) seat r pays pot win b z top
+    after-raise unit top e i = rw (f, e, history-bet number) (betting-bet b z top
         (i ∙ ap₂ (λ x y. cond (ltb x y) seat win) (sym (card-of n cards win (b .seated))) (sym (card-of n cards seat (after-seat .0)))))
 
   -- one action is left
@@ -276,7 +277,8 @@ pub some-left : (r : ℕ) → 1 ≤ r → r ≡ 0 → ⊥
 some-left r l e = omega arith
 
 -- ---- the last action after a bet
-module _ (n cards number seat pays pot win at : ℕ) (w : List ℕ) (b : Betting n (cardsIn n cards) (historyAt number) seat 1 pays pot win) (g : Room at w (size (afterAt n cards number 1))) where
+module _ (cards number : ℕ) {n seat pays pot win at : ℕ} {w : List ℕ} (b : Betting n (cardsIn n cards) (historyAt number) seat 1 pays pot win)
+    (g : Room at w (size (afterAt n cards number 1))) where
   one : _≡_ {A = ℕ} 1 0 → ⊥
   one e = omega arith
 
@@ -284,42 +286,43 @@ module _ (n cards number seat pays pot win at : ℕ) (w : List ℕ) (b : Betting
   after = (seat + 1) % n
 
   last-node : afterAt n cards number 1 ≡ node n cards number (afterAt n cards (2 * number + 1) 0) (afterAt n cards (2 * number + 2) 0)
-  last-node = after-goes-on n cards number seat 1 pays pot win at w b g one
+  last-node = after-goes-on cards number b g one
 
   last-passed : Betting n (cardsIn n cards) (historyAt (2 * number + 1)) after 0 pays pot win
-  last-passed = after-pass n cards number seat 1 pays pot win at w b g one after refl
+  last-passed = after-pass cards number b g one after refl
 
   pub last-unit : (unit : ℕ) → unit ≡ unitOf seat → unit ≤ pays
-  last-unit = after-unit n cards number seat 1 pays pot win at w b g one after refl
+  last-unit = after-unit cards number b g one after refl
 
   module _ (x : ℕ) (v : List ℕ) (e : x ≡ pays + pot * unitOf win) (i : v ≡ set w (at + 1) x) where
     first-end : Built n (codeOf n) (at + 1) w v (afterAt n cards (2 * number + 1) 0) (at + 1 + 1)
-    first-end = after-ends n cards (2 * number + 1) after 0 pays pot win (at + 1) w last-passed (first-room n cards number at w _ _ _ last-node g) refl x v e i
+    first-end = after-ends cards (2 * number + 1) last-passed (first-room n cards number last-node g) refl x v e i
 
     module _ (unit top : ℕ) (f : unit ≡ unitOf seat) (k : top ≡ cond (ltb (cardAt cards win) (cardAt cards seat)) seat win) where
       last-bet : Betting n (cardsIn n cards) (historyAt (2 * number + 2)) after 0 (pays - unit) (pot + 1) top
-      last-bet = after-raise n cards number seat 1 pays pot win at w b g one after refl unit top f k
+      last-bet = after-raise cards number b g one after refl unit top f k
 
       last-room : Room (at + 1 + 1) v (size (afterAt n cards (2 * number + 2) 0))
-      last-room = second-room n cards number at w _ _ _ last-node g v (at + 1 + 1) first-end
+      last-room = second-room n cards number last-node g first-end
 
       pub last-words : (pays - unit < 1125899906842624) × (pot + 1 ≤ 12) × (top < 6)
-      last-words = after-words n cards (2 * number + 2) after 0 (pays - unit) (pot + 1) top (at + 1 + 1) v last-bet last-room
+      last-words = after-words cards (2 * number + 2) last-bet last-room
 
       module _ (y : ℕ) (u : List ℕ) (q : y ≡ pays - unit + (pot + 1) * unitOf top) (j : u ≡ set v (at + 2) y) where
         second-end : Built n (codeOf n) (at + 1 + 1) v u (afterAt n cards (2 * number + 2) 0) (at + 3)
         second-end = subst (λ p. Built n (codeOf n) (at + 1 + 1) v u (afterAt n cards (2 * number + 2) 0) p) (let s : at + 1 + 1 + 1 ≡ at + 3 = omega arith in s)
-            (after-ends n cards (2 * number + 2) after 0 (pays - unit) (pot + 1) top (at + 1 + 1) v last-bet last-room refl y u q (j ∙ ap (λ p. set v p y) (let s : at + 2 ≡ at + 1 + 1 = omega arith in s)))
+            (after-ends cards (2 * number + 2) last-bet last-room refl y u q (j ∙ ap (λ p. set v p y) (let s : at + 2 ≡ at + 1 + 1 = omega arith in s)))
 
         pub last-few : at + 3 < 2097152
-        last-few = behind-few n cards number at w _ _ _ last-node g v (at + 1 + 1) first-end u (at + 3) second-end
+        last-few = behind-few n cards number last-node g first-end second-end
 
         pub last-decision : (z : ℕ) (new : List ℕ) → number ≤ 2046 → z ≡ decisionWord seat 2 (number * (n + 1) + cardAt cards seat) (at + 3) 0 → new ≡ set u at z → Built n (codeOf n) at w new (afterAt n cards number 1) (at + 3)
-        last-decision z new small = lays-decision n cards number at w _ _ _ last-node g v (at + 1 + 1) first-end u (at + 3) second-end seat z new (b .deal .most)
-            (after-seat n cards number seat 1 pays pot win at w b g .0) (b .acts) small
+        last-decision z new small = lays-decision n cards number last-node g first-end second-end seat z new (b .deal .most)
+            (after-seat cards number b g .0) (b .acts) small
 
 -- ---- before a bet
-module _ (n cards number seat at : ℕ) (w : List ℕ) (p : Passing n (cardsIn n cards) (historyAt number) seat number) (g : Room at w (size (beforeAt n cards number (n - seat)))) where
+module _ (cards : ℕ) {n number seat at : ℕ} {w : List ℕ} (p : Passing n (cardsIn n cards) (historyAt number) seat number)
+    (g : Room at w (size (beforeAt n cards number (n - seat)))) where
   pub before-ends : seat ≡ n → (x top : ℕ) (new : List ℕ) → Top n cards top → x ≡ 278163506396412 + n * unitOf top → new ≡ set w at x → Built n (codeOf n) at w new (beforeAt n cards number (n - seat)) (at + 1)
   unfolding beforeAt beforeBet
   before-ends z x top new f e i = lays-end n (cardsIn n cards) (historyAt number) at n top x w new (beforeAt n cards number (n - seat)) (let q : n - seat ≡ 0 = omega arith in rw q refl) g (p .deal) (f .seated)
@@ -342,13 +345,13 @@ module _ (n cards number seat at : ℕ) (w : List ℕ) (p : Passing n (cardsIn n
     before-seat = (omega (arith, p .few, z), p .deal .most)
 
     pub before-turn : seat ≡ turn n (historyAt number)
-    before-turn = sym (seat-turn n (cardsIn n cards) (historyAt number) seat number p z)
+    before-turn = sym (seat-turn p z)
 
     pub before-number : number ≤ 31
-    before-number = number-few n (cardsIn n cards) (historyAt number) seat number p z
+    before-number = number-few p z
 
     pub before-pass : Passing n (cardsIn n cards) (historyAt (2 * number + 1)) (seat + 1) (2 * number + 1)
-    before-pass = rw (history-pass number) (passing-pass n (cardsIn n cards) (historyAt number) seat number p z)
+    before-pass = rw (history-pass number) (passing-pass p z)
 
     pub before-raise : (after unit : ℕ) → after ≡ (seat + 1) % n → unit ≡ unitOf seat → Betting n (cardsIn n cards) (historyAt (2 * number + 2)) after (n - 1) (278163506396412 - unit) (n + 1) seat
-    before-raise after unit f e = rw (f, e, history-bet number) (betting-first n (cardsIn n cards) (historyAt number) seat number p z)
+    before-raise after unit f e = rw (f, e, history-bet number) (betting-first p z)

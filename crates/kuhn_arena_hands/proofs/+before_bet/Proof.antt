@@ -51,54 +51,52 @@ before-bet-same-length t c = search needs
 
 before-bet-returns : (t : ℕ) → before-bet-lts.Need-returns (before-bet-callees t) (before-bet-at t) before-bet.Post
 before-bet-returns t c = let s2 = c .before .before .before in let s1 = s2 .before .before .before in let s0 = s1 .before .before in
-    hands.before-ends s0.args.n s0.args.cards s0.args.number s0.args.seat s0.args.at (now s0.args.w) s0.pre.1.0 s0.pre.1.1 s1.if1.taken _ _ _
-    s2.before.highest.ensures s2.end-word.ensures c.before.before.put.ensures
+    hands.before-ends s0.args.cards s0.pre.1.0 s0.pre.1.1 s1.if1.taken _ _ _ s2.before.highest.ensures s2.end-word.ensures c.before.before.put.ensures
 
 before-bet-add-before-bet : (t : ℕ) → before-bet-lts.Need-add-before-bet (before-bet-callees t) (before-bet-at t) before-bet.Post
 before-bet-add-before-bet t c = record { fits = omega (arith, c.before.before.before.pre.1.1.places) }
 
 before-bet-mul-before-bet : (t : ℕ) → before-bet-lts.Need-mul-before-bet (before-bet-callees t) (before-bet-at t) before-bet.Post
-before-bet-mul-before-bet t c = let s0 = c .before .before .before in let a = s0 .args in
-    record { fits = omega (arith, hands.before-number a.n a.cards a.number a.seat a.at (now a.w) s0.pre.1.0 s0.pre.1.1 c.before.if1.left) }
+before-bet-mul-before-bet t c = let s0 = c .before .before .before in
+    record { fits = omega (arith, hands.before-number s0.args.cards s0.pre.1.0 s0.pre.1.1 c.before.if1.left) }
 
 before-bet-add-before-bet-2 : (t : ℕ) → before-bet-lts.Need-add-before-bet-2 (before-bet-callees t) (before-bet-at t) before-bet.Post
-before-bet-add-before-bet-2 t c = let s0 = c .before .before .before in let a = s0 .args in
-    record { fits = omega (arith, hands.before-number a.n a.cards a.number a.seat a.at (now a.w) s0.pre.1.0 s0.pre.1.1 c.before.if1.left) }
+before-bet-add-before-bet-2 t c = let s0 = c .before .before .before in
+    record { fits = omega (arith, hands.before-number s0.args.cards s0.pre.1.0 s0.pre.1.1 c.before.if1.left) }
 
 before-bet-add-before-bet-3 : (t : ℕ) → before-bet-lts.Need-add-before-bet-3 (before-bet-callees t) (before-bet-at t) before-bet.Post
-before-bet-add-before-bet-3 t c = let s0 = c .before .before .before in let a = s0 .args in
-    let h0 = hands.before-seat a.n a.cards a.number a.seat a.at (now a.w) s0.pre.1.0 s0.pre.1.1 c.before.if1.left .0 in
-    let h1 = hands.before-seat a.n a.cards a.number a.seat a.at (now a.w) s0.pre.1.0 s0.pre.1.1 c.before.if1.left .1 in record { fits = omega arith }
+before-bet-add-before-bet-3 t c = let s0 = c .before .before .before in
+    let h0 = hands.before-seat s0.args.cards s0.pre.1.0 s0.pre.1.1 c.before.if1.left .0 in
+    let h1 = hands.before-seat s0.args.cards s0.pre.1.0 s0.pre.1.1 c.before.if1.left .1 in record { fits = omega arith }
 
 before-bet-before-bet-requires : (t : ℕ) → before-bet-lts.Need-before-bet-requires (before-bet-callees t) (before-bet-at t) before-bet.Post
 before-bet-before-bet-requires t c κs = let s1 = c .before in let s0 = s1 .before .before in let a = s0 .args in (
-  omega (arith, s0.pre.0, hands.before-seat a.n a.cards a.number a.seat a.at (now a.w) s0.pre.1.0 s0.pre.1.1 s1.if1.left .0),
+  omega (arith, s0.pre.0, hands.before-seat a.cards s0.pre.1.0 s0.pre.1.1 s1.if1.left .0),
   (
-    hands.before-pass a.n a.cards a.number a.seat a.at (now a.w) s0.pre.1.0 s0.pre.1.1 s1.if1.left,
-    hands.first-room a.n a.cards a.number a.at (now a.w) _ _ _
-        (hands.before-goes-on a.n a.cards a.number a.seat a.at (now a.w) s0.pre.1.0 s0.pre.1.1 s1.if1.left) s0.pre.1.1,
+    hands.before-pass a.cards s0.pre.1.0 s0.pre.1.1 s1.if1.left,
+    hands.first-room a.n a.cards a.number (hands.before-goes-on a.cards s0.pre.1.0 s0.pre.1.1 s1.if1.left) s0.pre.1.1,
   ),
 )
 
 before-bet-mul-after-bet : (t : ℕ) → before-bet-lts.Need-mul-after-bet (before-bet-callees t) (before-bet-at t) before-bet.Post
-before-bet-mul-after-bet t c = let s1 = c .before .before .before .before .before in let s0 = s1 .before .before in let a = s0 .args in
-    record { fits = omega (arith, hands.before-number a.n a.cards a.number a.seat a.at (now a.w) s0.pre.1.0 s0.pre.1.1 s1.if1.left) }
+before-bet-mul-after-bet t c = let s1 = c .before .before .before .before .before in let s0 = s1 .before .before in
+    record { fits = omega (arith, hands.before-number s0.args.cards s0.pre.1.0 s0.pre.1.1 s1.if1.left) }
 
 before-bet-add-after-bet : (t : ℕ) → before-bet-lts.Need-add-after-bet (before-bet-callees t) (before-bet-at t) before-bet.Post
-before-bet-add-after-bet t c = let s1 = c .before .before .before .before .before in let s0 = s1 .before .before in let a = s0 .args in
-    record { fits = omega (arith, hands.before-number a.n a.cards a.number a.seat a.at (now a.w) s0.pre.1.0 s0.pre.1.1 s1.if1.left) }
+before-bet-add-after-bet t c = let s1 = c .before .before .before .before .before in let s0 = s1 .before .before in
+    record { fits = omega (arith, hands.before-number s0.args.cards s0.pre.1.0 s0.pre.1.1 s1.if1.left) }
 
 before-bet-following-requires : (t : ℕ) → before-bet-lts.Need-following-requires (before-bet-callees t) (before-bet-at t) before-bet.Post
-before-bet-following-requires t c κs = let s1 = c .before .before .before .before .before in let s0 = s1 .before .before in let a = s0 .args in
-    hands.before-seat a.n a.cards a.number a.seat a.at (now a.w) s0.pre.1.0 s0.pre.1.1 s1.if1.left
+before-bet-following-requires t c κs = let s1 = c .before .before .before .before .before in let s0 = s1 .before .before in
+    hands.before-seat s0.args.cards s0.pre.1.0 s0.pre.1.1 s1.if1.left
 
 before-bet-sub-after-bet : (t : ℕ) → before-bet-lts.Need-sub-after-bet (before-bet-callees t) (before-bet-at t) before-bet.Post
 before-bet-sub-after-bet t c = omega (arith, c.before.before.before.before.before.before.before.before.pre.1.0.deal.least)
 
 before-bet-unit-requires : (t : ℕ) → before-bet-lts.Need-unit-requires (before-bet-callees t) (before-bet-at t) before-bet.Post
-before-bet-unit-requires t c κs = let s1 = c .before .before .before .before .before .before in let s0 = s1 .before .before in let a = s0 .args in
-    let h0 = hands.before-seat a.n a.cards a.number a.seat a.at (now a.w) s0.pre.1.0 s0.pre.1.1 s1.if1.left .0 in
-    let h1 = hands.before-seat a.n a.cards a.number a.seat a.at (now a.w) s0.pre.1.0 s0.pre.1.1 s1.if1.left .1 in omega arith
+before-bet-unit-requires t c κs = let s1 = c .before .before .before .before .before .before in let s0 = s1 .before .before in
+    let h0 = hands.before-seat s0.args.cards s0.pre.1.0 s0.pre.1.1 s1.if1.left .0 in
+    let h1 = hands.before-seat s0.args.cards s0.pre.1.0 s0.pre.1.1 s1.if1.left .1 in omega arith
 
 before-bet-sub-after-bet-2 : (t : ℕ) → before-bet-lts.Need-sub-after-bet-2 (before-bet-callees t) (before-bet-at t) before-bet.Post
 before-bet-sub-after-bet-2 t c = omega (arith, c.unit.ensures.1)
@@ -110,22 +108,21 @@ before-bet-after-bet-requires : (t : ℕ) → before-bet-lts.Need-after-bet-requ
 before-bet-after-bet-requires t c κs = let s2 = c .before .before .before .before .before in let s1 = s2 .before .before in
     let s0 = s1 .before .before in let a = s0 .args in (
       (
-        hands.before-raise a.n a.cards a.number a.seat a.at (now a.w) s0.pre.1.0 s0.pre.1.1 s1.if1.left _ _ c.before.following.ensures c.unit.ensures.0,
+        hands.before-raise a.cards s0.pre.1.0 s0.pre.1.1 s1.if1.left _ _ c.before.following.ensures c.unit.ensures.0,
         omega (arith, s0.pre.1.0.deal.least),
-        (hands.first-left a.n _ _ a.seat a.number s0.pre.1.0 s1.if1.left),
+        (hands.first-left s0.pre.1.0 s1.if1.left),
       ),
-      hands.second-room a.n a.cards a.number a.at (now a.w) _ _ _
-          (hands.before-goes-on a.n a.cards a.number a.seat a.at (now a.w) s0.pre.1.0 s0.pre.1.1 s1.if1.left) s0.pre.1.1 _ _ s2.before-bet.ensures,
+      hands.second-room a.n a.cards a.number (hands.before-goes-on a.cards s0.pre.1.0 s0.pre.1.1 s1.if1.left) s0.pre.1.1 s2.before-bet.ensures,
     )
 
 before-bet-decision-word-requires : (t : ℕ) → before-bet-lts.Need-decision-word-requires (before-bet-callees t) (before-bet-at t) before-bet.Post
 before-bet-decision-word-requires t c κs = let s3 = c .before .before .before in let s2 = s3 .before .before .before .before .before .before in
     let s1 = s2 .before .before in let s0 = s1 .before .before in let a = s0 .args in (
-      hands.before-seat a.n a.cards a.number a.seat a.at (now a.w) s0.pre.1.0 s0.pre.1.1 s1.if1.left .1,
-      omega (arith, hands.before-number a.n a.cards a.number a.seat a.at (now a.w) s0.pre.1.0 s0.pre.1.1 s1.if1.left),
-      hands.before-seat a.n a.cards a.number a.seat a.at (now a.w) s0.pre.1.0 s0.pre.1.1 s1.if1.left .0,
-      hands.behind-few a.n a.cards a.number a.at (now a.w) _ _ _ (hands.before-goes-on a.n a.cards a.number a.seat a.at (now a.w) s0.pre.1.0 s0.pre.1.1
-          s1.if1.left) s0.pre.1.1 _ _ s2.before-bet.ensures _ _ s3.after-bet.ensures,
+      hands.before-seat a.cards s0.pre.1.0 s0.pre.1.1 s1.if1.left .1,
+      omega (arith, hands.before-number a.cards s0.pre.1.0 s0.pre.1.1 s1.if1.left),
+      hands.before-seat a.cards s0.pre.1.0 s0.pre.1.1 s1.if1.left .0,
+      hands.behind-few a.n a.cards a.number (hands.before-goes-on a.cards s0.pre.1.0 s0.pre.1.1 s1.if1.left) s0.pre.1.1 s2.before-bet.ensures
+          s3.after-bet.ensures,
     )
 
 before-bet-put-requires-2 : (t : ℕ) → before-bet-lts.Need-put-requires-2 (before-bet-callees t) (before-bet-at t) before-bet.Post
@@ -137,12 +134,10 @@ before-bet-same-length-2 t c = search needs
 before-bet-returns-2 : (t : ℕ) → before-bet-lts.Need-returns-2 (before-bet-callees t) (before-bet-at t) before-bet.Post
 before-bet-returns-2 t c = let s4 = c .before .before in let s3 = s4 .before .before .before .before .before in
     let s2 = s3 .before .before .before .before .before .before in let s1 = s2 .before .before in let s0 = s1 .before .before in let a = s0 .args in
-    hands.lays-decision a.n a.cards a.number a.at (now a.w) _ _ _ (hands.before-goes-on a.n a.cards a.number a.seat a.at (now a.w)
-    s0.pre.1.0 s0.pre.1.1 s1.if1.left) s0.pre.1.1 _ _ s2.before-bet.ensures _ _ s3.after-bet.ensures a.seat _ _ (hands.before-seat a.n a.cards
-    a.number a.seat a.at (now a.w) s0.pre.1.0 s0.pre.1.1 s1.if1.left .1) (hands.before-seat a.n a.cards a.number a.seat a.at
-    (now a.w) s0.pre.1.0 s0.pre.1.1 s1.if1.left .0) (hands.before-turn a.n a.cards a.number a.seat a.at (now a.w) s0.pre.1.0 s0.pre.1.1 s1.if1.left)
-    (omega (arith, hands.before-number a.n a.cards a.number a.seat a.at (now a.w) s0.pre.1.0 s0.pre.1.1 s1.if1.left)) s4.before.decision-word.ensures
-    s4.put2.ensures
+    hands.lays-decision a.n a.cards a.number (hands.before-goes-on a.cards s0.pre.1.0 s0.pre.1.1 s1.if1.left)
+    s0.pre.1.1 s2.before-bet.ensures s3.after-bet.ensures a.seat _ _ (hands.before-seat a.cards s0.pre.1.0 s0.pre.1.1 s1.if1.left .1)
+    (hands.before-seat a.cards s0.pre.1.0 s0.pre.1.1 s1.if1.left .0) (hands.before-turn a.cards s0.pre.1.0 s0.pre.1.1 s1.if1.left)
+    (omega (arith, hands.before-number a.cards s0.pre.1.0 s0.pre.1.1 s1.if1.left)) s4.before.decision-word.ensures s4.put2.ensures
 
 pub +before-bet-spec : {M : Type 1} → statement M
 +before-bet-spec =
