@@ -1,7 +1,7 @@
-use Prim.Native.Nat.{ℕ, _<_}
+use mathlib.Core.Path.{_≡_}
+use Prim.Native.Nat.{ℕ, _≤_, _<_}
 use borrow.Fn.Kinds.{In}
 use borrow.Fn.PlainCycle.{Measures, is, falls, and}
-use denote.Ref.{now}
 use native.Mathlib.Omega.{arith}
 use borrow.Author.Needs.{needs}
 use Rattle.kuhn_arena_layout.proofs.Numbers.{less-left, last-left}
@@ -31,14 +31,14 @@ after-bet-below t =
 abbrev after-bet-callees : ℕ → after-bet-lts.Claims
 after-bet-callees t = (last-action-reads.Asked, last-action-reads.Learnt, following-reads.Asked, following-reads.Learnt, after-bet-below t, after-bet.Post, unit-reads.Asked, unit-reads.Learnt, higher-reads.Asked, higher-reads.Learnt, decision-word-reads.Asked, decision-word-reads.Learnt, put-reads.Asked, put-reads.Learnt)
 
+-- what is left of a hand, and how large its history's number is
+left : (t : ℕ) (s : after-bet-lts.Start (after-bet-callees t) (after-bet-at t) after-bet.Post) → (s.args.left ≡ 0 → ⊥) × (s.args.number ≤ 2046)
+left t s = let some = hands.some-left s.args.left s.pre.1.0.1 in (some, last-left s.args.number s.args.left some s.pre.1.0.2)
+
 after-bet-last-action-requires : (t : ℕ) → after-bet-lts.Need-last-action-requires (after-bet-callees t) (after-bet-at t) after-bet.Post
-after-bet-last-action-requires t c κs = let s0 = c .before .before .before in let a = s0 .args in (
-  (
-    hands.one-betting a.cards a.number s0.pre.1.0.0 s0.pre.1.1 c.before.if1.taken,
-    (last-left a.number a.left (hands.some-left a.left s0.pre.1.0.1) s0.pre.1.0.2),
-  ),
-  hands.one-room a.cards a.number s0.pre.1.0.0 s0.pre.1.1 c.before.if1.taken,
-)
+after-bet-last-action-requires t c κs = let s0 = c .before .before .before in let a = s0 .args in
+    let one = hands.one-betting a.cards a.number s0.pre.1.0.0 s0.pre.1.1 c.before.if1.taken in
+    ((one, left t s0 .1), hands.one-room a.cards a.number s0.pre.1.0.0 s0.pre.1.1 c.before.if1.taken)
 
 after-bet-same-length : (t : ℕ) → after-bet-lts.Need-same-length (after-bet-callees t) (after-bet-at t) after-bet.Post
 after-bet-same-length t c = search needs
@@ -54,37 +54,28 @@ after-bet-add-after-bet : (t : ℕ) → after-bet-lts.Need-add-after-bet (after-
 after-bet-add-after-bet t c = record { fits = omega (arith, c.before.before.before.before.pre.1.1.places) }
 
 after-bet-mul-after-bet : (t : ℕ) → after-bet-lts.Need-mul-after-bet (after-bet-callees t) (after-bet-at t) after-bet.Post
-after-bet-mul-after-bet t c = let s0 = c .before .before .before .before in
-    record { fits = omega (arith, last-left s0.args.number s0.args.left (hands.some-left s0.args.left s0.pre.1.0.1) s0.pre.1.0.2) }
+after-bet-mul-after-bet t c = record { fits = omega (arith, left t c.before.before.before.before .1) }
 
 after-bet-add-after-bet-2 : (t : ℕ) → after-bet-lts.Need-add-after-bet-2 (after-bet-callees t) (after-bet-at t) after-bet.Post
-after-bet-add-after-bet-2 t c = let s0 = c .before .before .before .before in
-    record { fits = omega (arith, last-left s0.args.number s0.args.left (hands.some-left s0.args.left s0.pre.1.0.1) s0.pre.1.0.2) }
+after-bet-add-after-bet-2 t c = record { fits = omega (arith, left t c.before.before.before.before .1) }
 
 after-bet-sub-after-bet : (t : ℕ) → after-bet-lts.Need-sub-after-bet (after-bet-callees t) (after-bet-at t) after-bet.Post
 after-bet-sub-after-bet t c = omega (arith, c.before.before.before.before.pre.1.0.1)
 
 after-bet-after-bet-requires : (t : ℕ) → after-bet-lts.Need-after-bet-requires (after-bet-callees t) (after-bet-at t) after-bet.Post
-after-bet-after-bet-requires t c κs = let s0 = c .before .before .before .before in let a = s0 .args in (
-  omega (arith, s0.pre.0, s0.pre.1.0.1),
-  (
-    (
-      hands.after-pass a.cards a.number s0.pre.1.0.0 s0.pre.1.1 (hands.some-left a.left s0.pre.1.0.1) _ c.before.following.ensures,
-      omega (arith, s0.pre.1.0.1, c.before.before.if1.left),
-      less-left a.number a.left 1 (hands.some-left a.left s0.pre.1.0.1) s0.pre.1.0.2 (omega arith),
-    ),
-    hands.first-room a.n a.cards a.number (hands.after-goes-on a.cards a.number s0.pre.1.0.0 s0.pre.1.1 (hands.some-left a.left s0.pre.1.0.1))
-        s0.pre.1.1,
-  ),
-)
+after-bet-after-bet-requires t c κs = let s0 = c .before .before .before .before in let a = s0 .args in let some = left t s0 .0 in
+    let on = hands.after-goes-on a.cards a.number s0.pre.1.0.0 s0.pre.1.1 some in
+    let passed = hands.after-pass a.cards a.number s0.pre.1.0.0 s0.pre.1.1 some _ c.before.following.ensures in
+    let few = less-left a.number a.left 1 some s0.pre.1.0.2 (omega arith) in (
+      omega (arith, s0.pre.0, s0.pre.1.0.1),
+      ((passed, omega (arith, s0.pre.1.0.1, c.before.before.if1.left), few), hands.first-room a.n a.cards a.number on s0.pre.1.1),
+    )
 
 after-bet-mul-after-bet-2 : (t : ℕ) → after-bet-lts.Need-mul-after-bet-2 (after-bet-callees t) (after-bet-at t) after-bet.Post
-after-bet-mul-after-bet-2 t c = let s0 = c .before .before .before .before .before .before .before .before in
-    record { fits = omega (arith, last-left s0.args.number s0.args.left (hands.some-left s0.args.left s0.pre.1.0.1) s0.pre.1.0.2) }
+after-bet-mul-after-bet-2 t c = record { fits = omega (arith, left t c.before.before.before.before.before.before.before.before .1) }
 
 after-bet-add-after-bet-3 : (t : ℕ) → after-bet-lts.Need-add-after-bet-3 (after-bet-callees t) (after-bet-at t) after-bet.Post
-after-bet-add-after-bet-3 t c = let s0 = c .before .before .before .before .before .before .before .before in
-    record { fits = omega (arith, last-left s0.args.number s0.args.left (hands.some-left s0.args.left s0.pre.1.0.1) s0.pre.1.0.2) }
+after-bet-add-after-bet-3 t c = record { fits = omega (arith, left t c.before.before.before.before.before.before.before.before .1) }
 
 after-bet-sub-after-bet-2 : (t : ℕ) → after-bet-lts.Need-sub-after-bet-2 (after-bet-callees t) (after-bet-at t) after-bet.Post
 after-bet-sub-after-bet-2 t c = omega (arith, c.before.before.before.before.before.before.before.before.pre.1.0.1)
@@ -94,9 +85,8 @@ after-bet-unit-requires t c κs = let s0 = c .before .before .before .before .be
     omega (arith, hands.after-seat s0.args.cards s0.args.number s0.pre.1.0.0 s0.pre.1.1)
 
 after-bet-sub-after-bet-3 : (t : ℕ) → after-bet-lts.Need-sub-after-bet-3 (after-bet-callees t) (after-bet-at t) after-bet.Post
-after-bet-sub-after-bet-3 t c = let s1 = c .before .before .before .before .before .before in let s0 = s1 .before .before .before in
-    hands.after-unit s0.args.cards s0.args.number
-    s0.pre.1.0.0 s0.pre.1.1 (hands.some-left s0.args.left s0.pre.1.0.1) _ s1.following.ensures _ c.unit.ensures.0
+after-bet-sub-after-bet-3 t c = let s1 = c .before .before .before .before .before .before in let s0 = s1 .before .before .before in let a = s0 .args in
+    hands.after-unit a.cards a.number s0.pre.1.0.0 s0.pre.1.1 (left t s0 .0) _ s1.following.ensures _ c.unit.ensures.0
 
 after-bet-add-after-bet-4 : (t : ℕ) → after-bet-lts.Need-add-after-bet-4 (after-bet-callees t) (after-bet-at t) after-bet.Post
 after-bet-add-after-bet-4 t c = let s0 = c .before .before .before .before .before .before .before .before .before in
@@ -107,29 +97,19 @@ after-bet-higher-requires t c κs = let s0 = c .before .before .before .before .
     let h0 = hands.after-seat a.cards a.number s0.pre.1.0.0 s0.pre.1.1 in (hands.after-words a.cards a.number s0.pre.1.0.0 s0.pre.1.1 .2, omega arith)
 
 after-bet-after-bet-requires-2 : (t : ℕ) → after-bet-lts.Need-after-bet-requires-2 (after-bet-callees t) (after-bet-at t) after-bet.Post
-after-bet-after-bet-requires-2 t c κs = let s0 = c .before .before .before .before .before .before .before .before .before .before in (
-  omega (arith, s0.pre.0, s0.pre.1.0.1),
-  (
-    (
-      hands.after-raise s0.args.cards s0.args.number s0.pre.1.0.0 s0.pre.1.1 (hands.some-left s0.args.left s0.pre.1.0.1) _
-          c.before.before.before.before.before.before.before.following.ensures _ _ c.before.unit.ensures.0 c.higher.ensures,
-      omega (arith, s0.pre.1.0.1, c.before.before.before.before.before.before.before.before.if1.left),
-      less-left s0.args.number s0.args.left 2 (hands.some-left s0.args.left s0.pre.1.0.1) s0.pre.1.0.2 (omega arith),
-    ),
-    hands.second-room s0.args.n s0.args.cards s0.args.number (hands.after-goes-on s0.args.cards s0.args.number s0.pre.1.0.0 s0.pre.1.1
-        (hands.some-left s0.args.left s0.pre.1.0.1)) s0.pre.1.1 c.before.before.before.before.before.after-bet.ensures,
-  ),
-)
+after-bet-after-bet-requires-2 t c κs = let s2 = c .before .before .before .before .before in let s1 = s2 .before .before in
+    let s0 = s1 .before .before .before in let a = s0 .args in let some = left t s0 .0 in
+    let on = hands.after-goes-on a.cards a.number s0.pre.1.0.0 s0.pre.1.1 some in
+    let raised = hands.after-raise a.cards a.number s0.pre.1.0.0 s0.pre.1.1 some _ s1.following.ensures _ _ c.before.unit.ensures.0 c.higher.ensures in
+    let few = less-left a.number a.left 2 some s0.pre.1.0.2 (omega arith) in let room = hands.second-room a.n a.cards a.number on s0.pre.1.1 s2.after-bet.ensures in
+    (omega (arith, s0.pre.0, s0.pre.1.0.1), ((raised, omega (arith, s0.pre.1.0.1, s1.before.if1.left), few), room))
 
 after-bet-decision-word-requires : (t : ℕ) → after-bet-lts.Need-decision-word-requires (after-bet-callees t) (after-bet-at t) after-bet.Post
 after-bet-decision-word-requires t c κs = let s2 = c .before .before .before in let s1 = s2 .before .before .before .before .before .before in
-    let s0 = s1 .before .before .before .before .before in let a = s0 .args in (
-      hands.after-seat a.cards a.number s0.pre.1.0.0 s0.pre.1.1 .1,
-      (last-left a.number a.left (hands.some-left a.left s0.pre.1.0.1) s0.pre.1.0.2),
-      hands.after-seat a.cards a.number s0.pre.1.0.0 s0.pre.1.1 .0,
-      hands.behind-few a.n a.cards a.number (hands.after-goes-on a.cards a.number s0.pre.1.0.0 s0.pre.1.1 (hands.some-left a.left s0.pre.1.0.1))
-          s0.pre.1.1 s1.after-bet.ensures s2.after-bet2.ensures,
-    )
+    let s0 = s1 .before .before .before .before .before in let a = s0 .args in
+    let seat = hands.after-seat a.cards a.number s0.pre.1.0.0 s0.pre.1.1 in
+    let on = hands.after-goes-on a.cards a.number s0.pre.1.0.0 s0.pre.1.1 (left t s0 .0) in
+    (seat.1, left t s0 .1, seat.0, hands.behind-few a.n a.cards a.number on s0.pre.1.1 s1.after-bet.ensures s2.after-bet2.ensures)
 
 after-bet-put-requires : (t : ℕ) → after-bet-lts.Need-put-requires (after-bet-callees t) (after-bet-at t) after-bet.Post
 after-bet-put-requires t c κs = search needs
@@ -140,10 +120,10 @@ after-bet-same-length-2 t c = search needs
 after-bet-returns-2 : (t : ℕ) → after-bet-lts.Need-returns-2 (after-bet-callees t) (after-bet-at t) after-bet.Post
 after-bet-returns-2 t c = let s3 = c .before .before in let s2 = s3 .before .before .before .before .before in
     let s1 = s2 .before .before .before .before .before .before in let s0 = s1 .before .before .before .before .before in let a = s0 .args in
-    hands.lays-decision a.n a.cards a.number (hands.after-goes-on a.cards a.number s0.pre.1.0.0 s0.pre.1.1 (hands.some-left a.left s0.pre.1.0.1))
-    s0.pre.1.1 s1.after-bet.ensures s2.after-bet2.ensures a.seat _
-    _ (hands.after-seat a.cards a.number s0.pre.1.0.0 s0.pre.1.1 .1) (hands.after-seat a.cards a.number s0.pre.1.0.0 s0.pre.1.1 .0) s0.pre.1.0.0.acts
-    (last-left a.number a.left (hands.some-left a.left s0.pre.1.0.1) s0.pre.1.0.2) s3.before.decision-word.ensures s3.put.ensures
+    let seat = hands.after-seat a.cards a.number s0.pre.1.0.0 s0.pre.1.1 in
+    let on = hands.after-goes-on a.cards a.number s0.pre.1.0.0 s0.pre.1.1 (left t s0 .0) in
+    hands.lays-decision a.n a.cards a.number on s0.pre.1.1 s1.after-bet.ensures s2.after-bet2.ensures a.seat _ _ seat.1 seat.0 s0.pre.1.0.0.acts
+    (left t s0 .1) s3.before.decision-word.ensures s3.put.ensures
 
 pub +after-bet-spec : {M : Type 1} → statement M
 +after-bet-spec =
