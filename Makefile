@@ -21,7 +21,7 @@ PRODUCT := build/bin/chukkanalli
 SAMPLE := samples/always-pass.txt
 
 .SILENT:
-.PHONY: run sample check test host-tests product product-test cases fuzz lists archive compare bench
+.PHONY: run sample check test audit reach host-tests product product-test cases fuzz lists archive compare bench
 
 # Evaluates a table by which both seats always pass, and replies to it in words.
 run: $(PRODUCT)
@@ -43,7 +43,7 @@ check:
 	rt check
 
 # The gate. `rt ci` removes target/ and proves all from nothing; the product's tests link what it proved. The last line is that of `rt ci`.
-test: host-tests
+test: audit host-tests
 	rt fmt --check
 	mkdir -p build
 	rm -f build/ci.refused
@@ -51,6 +51,18 @@ test: host-tests
 	test ! -e build/ci.refused
 	$(MAKE) --no-print-directory product-test
 	tail -n 1 build/ci.log
+
+# Holds the border to C to crates/, and public contracts to what stands outside specs/internal/ and proofs/. It reads texts alone, so it needs no archive.
+audit:
+	if test -n '$(MISSING)'; then \
+	    echo 'skipped: the audit of the border and of specs/ (there is no $(MISSING))'; \
+	else \
+	    cd rust && cargo test -q $(CARGO_FLAGS) -p audit && cargo run -q $(CARGO_FLAGS) -p audit; \
+	fi
+
+# The files of specs/ by who reaches them: public contracts, statements for readers, or neither. With FROM=Demand what that definition reaches.
+reach:
+	cd rust && cargo run -q $(CARGO_FLAGS) -p audit -- $(if $(FROM),from '$(FROM)',files)
 
 # Host builds live in build/, which `rt ci` leaves alone.
 host-tests:

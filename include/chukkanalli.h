@@ -24,20 +24,20 @@ extern "C" {
 /* The refusal numbers of the calls below. */
 enum {
     CHUKKANALLI_ACCEPTED = 0,
-    CHUKKANALLI_GAME = 1,          /* the game number is neither 0 (Kuhn) nor 1 (Leduc) */
+    CHUKKANALLI_GAME = 1,          /* the game is neither Kuhn nor Leduc */
     CHUKKANALLI_SEATS = 2,         /* the seat count is outside 2 to 10 for Kuhn, or not 2 for Leduc */
-    CHUKKANALLI_TREE = 3,          /* the tree has more than 4,000,000 nodes: Kuhn with 7 to 10 seats */
-    CHUKKANALLI_MEMORY = 4,        /* the work memory has fewer than 12 words per node of the tree */
-    CHUKKANALLI_SEAT = 5,          /* the seat is not below the seat count, in a call that evaluates one seat */
+    CHUKKANALLI_TREE = 3,          /* the tree has more than 4,000,000 nodes, which is Kuhn with 7 to 10 seats */
+    CHUKKANALLI_MEMORY = 4,        /* the work memory has fewer than 12 words of 64 bits per node of the tree */
+    CHUKKANALLI_SEAT = 5,          /* the seat is not below the seat count */
     CHUKKANALLI_PARTS = 6,         /* D, the parts per set, is 0, or above 64 (Leduc, Kuhn 2 to 4) or above 16 (Kuhn 5 and 6) */
     CHUKKANALLI_TABLE = 7,         /* the table's or profile's length is not exactly the entry count */
     CHUKKANALLI_SUM = 8,           /* in some set the parts do not add up to D */
-    CHUKKANALLI_OUTPUT = 9,        /* the output is shorter than its answer */
+    CHUKKANALLI_OUTPUT = 9,        /* an output is shorter than its answer */
     CHUKKANALLI_CARD_COUNT = 10,   /* a saved position does not hold one card per seat */
     CHUKKANALLI_CARD = 11,         /* a card is not in the deck */
     CHUKKANALLI_CARD_TWICE = 12,   /* a card appears twice */
     CHUKKANALLI_HISTORY = 13,      /* a history is too long or holds an unknown action */
-    CHUKKANALLI_CLOSED = 14,       /* an action stands after the hand or its round closed */
+    CHUKKANALLI_CLOSED = 14,       /* an action stands after the hand or its round closed, or in round 2 before round 1 closed */
     CHUKKANALLI_ILLEGAL = 15,      /* a Leduc action was not legal when made */
     CHUKKANALLI_NO_PUBLIC = 16,    /* a live second round has no public card */
     CHUKKANALLI_EARLY_PUBLIC = 17, /* a public card lies there before round 1 closed */
@@ -84,7 +84,7 @@ typedef struct {
     int64_t payoffs[10];
 } chukkanalli_kuhn_payoffs;
 
-/* The refusal number of the seat count: 2 or 0. */
+/* The refusal number of the seat count itself. Refuses with 2. */
 uint64_t chukkanalli_kuhn_validate(uint64_t seats);
 
 /* Start: no card dealt, no action made. Refuses with 2; its position is all 0 then too. */

@@ -14,7 +14,8 @@ module _ (n : ℕ) (s : ℕ → Key → ℕ) (l : ℕ → ℕ → Key → ℕ) w
   unfolding size
   Says x a (end p) = (kindOf x ≡ END) × ((i : ℕ) → i < n → payoffOf x i ≡ p i)
   Says x a (chance f) = (kindOf x ≡ CHANCE) × (nextOf x ≡ a + size (chance f))
-  Says x a (decide j k f) = (kindOf x ≡ DECISION) × (actorOf x ≡ j) × (actionsOf x ≡ fan f) × (setOf x ≡ s j k) × (nextOf x ≡ a + size (decide j k f)) × (laterOf x ≡ l a j k)
+  Says x a (decide j k f) = (kindOf x ≡ DECISION) × (actorOf x ≡ j) × (actionsOf x ≡ fan f) × (setOf x ≡ s j k)
+      × (nextOf x ≡ a + size (decide j k f)) × (laterOf x ≡ l a j k)
 
   -- the words from place a on say what these nodes are
   unfoldable pub SaysAll : List ℕ → ℕ → List Tree → Type 0

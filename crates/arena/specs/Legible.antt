@@ -20,7 +20,8 @@ unfoldable mutual
 abbrev pub Entered : Tree → ℕ → ℕ → Key → ℕ → Type 0
 Entered T E j k m = (2 ≤ m) × (m ≤ 3) × (firstEntry T j k + m ≤ E)
 
--- tree t stands in the words from place a on, its sets by the first entries of T, with n seats; its sets' entries stand among E, and d is no less than t is deep
+-- tree t stands in the words from place a on, its sets by the first entries of T, with n seats;
+-- its sets' entries stand among E, and d is no less than t is deep
 pub record Legible (n : ℕ) (T : Tree) (l : ℕ → ℕ → Key → ℕ) (w : List ℕ) (E a d : ℕ) (t : Tree) : Type 0 where
   pub held : Held n (firstEntry T) l w a t
   pub room : a + size t ≤ 2097152

@@ -1,4 +1,5 @@
--- The word of a node, field by field from its lowest bits: kind 2, actor 3, actions 2, set 14, next 21 and later 21; behind an end's kind stands a byte for each of six payoffs, of seven bits.
+-- The word of a node, field by field from its lowest bits: kind 2, actor 3, actions 2, set 14, next 21 and later 21;
+-- behind an end's kind stands a byte for each of six payoffs, of seven bits.
 use Prim.Native.Nat.{ℕ, _+_, _*_, _/_, _%_, _^_}
 use lib.IntN.{ℤ, pos, _-ℤ_}
 

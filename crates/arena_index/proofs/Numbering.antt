@@ -137,7 +137,8 @@ module _ (n : ℕ) (code : ℕ → Key → ℕ) (m : ℕ) (old : List ℕ) (t : 
           always : (z : Bool) → cond z true true ≡ true
           always true = refl
           always false = refl
-      at y g (fails p) = rw (met-more y, p) (getD-set-other w (size t + code j k) (size t + code (y .0) (y .1)) (entry + 1) 0 other ∙ h .known y g ∙ ap (λ z. cond z (suc (firstEntry t (y .0) (y .1))) 0) (same (met (y .0) (y .1) (passedBy t a))))
+      at y g (fails p) = rw (met-more y, p) (getD-set-other w (size t + code j k) (size t + code (y .0) (y .1)) (entry + 1) 0 other ∙ h .known y g
+          ∙ ap (λ z. cond z (suc (firstEntry t (y .0) (y .1))) 0) (same (met (y .0) (y .1) (passedBy t a))))
         where
           same : (z : Bool) → z ≡ cond z true false
           same true = refl

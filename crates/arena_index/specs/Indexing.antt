@@ -52,9 +52,11 @@ Numbers nodes old new = (n : ℕ) (code : ℕ → Key → ℕ) (m : ℕ) (t : Tr
 
 -- what linking does, once it is numbered
 abbrev pub Links : (nodes heads : ℕ) (old new : List ℕ) → Type 0
-Links nodes heads old new = (n : ℕ) (code : ℕ → Key → ℕ) (m : ℕ) (bare : List ℕ) (t : Tree) → size t ≡ nodes → nodes + m ≡ heads → Coded n code m bare t → Numbered code m bare old t
+Links nodes heads old new = (n : ℕ) (code : ℕ → Key → ℕ) (m : ℕ) (bare : List ℕ) (t : Tree) → size t ≡ nodes → nodes + m ≡ heads
+    → Coded n code m bare t → Numbered code m bare old t
     → Indexed n heads new t
 
 -- and both
 abbrev pub Indexes : (nodes codes : ℕ) (old new : List ℕ) → Type 0
-Indexes nodes codes old new = (n : ℕ) (code : ℕ → Key → ℕ) (t : Tree) → size t ≡ nodes → Coded n code codes old t → Indexed n (nodes + codes) new t
+Indexes nodes codes old new = (n : ℕ) (code : ℕ → Key → ℕ) (t : Tree) → size t ≡ nodes → Coded n code codes old t
+    → Indexed n (nodes + codes) new t

@@ -65,7 +65,8 @@ fn call(
     asked: Asked,
     profile: &[f64],
 ) -> ValuesAnswer
-    ensures { λ r. ⌜ (r ≡ answer (refusalOf asked (gameOf number seats) (length (now (work .entry))) (length (now (profile .entry)))) (countOf asked (gameOf number seats)) (valuesOf asked (gameOf number seats) (now (profile .entry))))
+    ensures { λ r. ⌜ (r ≡ answer (refusalOf asked (gameOf number seats) (length (now (work .entry))) (length (now (profile .entry))))
+        (countOf asked (gameOf number seats)) (valuesOf asked (gameOf number seats) (now (profile .entry))))
         × Left (r .refusal) (gameOf number seats) (now (work .entry)) (now (work .exit)) ⌝ }
 {
     let g = Game { number, seats };
@@ -94,7 +95,8 @@ pub fn best_response_value(
     seat: usize,
     profile: &[f64],
 ) -> ValuesAnswer
-    ensures answer { λ r. ⌜ r ≡ answer (value-refusal (gameOf number seats) (length (now (work .entry))) seat (length (now (profile .entry)))) 1 (single (bestOf (gameOf number seats) (now (profile .entry)) seat)) ⌝ }
+    ensures answer { λ r. ⌜ r ≡ answer (value-refusal (gameOf number seats) (length (now (work .entry))) seat (length (now (profile .entry))))
+        1 (single (bestOf (gameOf number seats) (now (profile .entry)) seat)) ⌝ }
     ensures memory { λ r. ⌜ Left (r .refusal) (gameOf number seats) (now (work .entry)) (now (work .exit)) ⌝ }
 {
     call(number, seats, work, Asked::Best(seat), profile)
@@ -107,7 +109,8 @@ pub fn best_response_values(
     work: &mut [u64],
     profile: &[f64],
 ) -> ValuesAnswer
-    ensures answer { λ r. ⌜ r ≡ answer (values-refusal (gameOf number seats) (length (now (work .entry))) (length (now (profile .entry)))) seats (bestsOf (gameOf number seats) (now (profile .entry))) ⌝ }
+    ensures answer { λ r. ⌜ r ≡ answer (values-refusal (gameOf number seats) (length (now (work .entry))) (length (now (profile .entry))))
+        seats (bestsOf (gameOf number seats) (now (profile .entry))) ⌝ }
     ensures memory { λ r. ⌜ Left (r .refusal) (gameOf number seats) (now (work .entry)) (now (work .exit)) ⌝ }
 {
     call(number, seats, work, Asked::Bests, profile)
@@ -120,7 +123,8 @@ pub fn profile_values(
     work: &mut [u64],
     profile: &[f64],
 ) -> ValuesAnswer
-    ensures answer { λ r. ⌜ r ≡ answer (values-refusal (gameOf number seats) (length (now (work .entry))) (length (now (profile .entry)))) seats (worthsOf (gameOf number seats) (now (profile .entry))) ⌝ }
+    ensures answer { λ r. ⌜ r ≡ answer (values-refusal (gameOf number seats) (length (now (work .entry))) (length (now (profile .entry))))
+        seats (worthsOf (gameOf number seats) (now (profile .entry))) ⌝ }
     ensures memory { λ r. ⌜ Left (r .refusal) (gameOf number seats) (now (work .entry)) (now (work .exit)) ⌝ }
 {
     call(number, seats, work, Asked::Worths, profile)
@@ -128,7 +132,8 @@ pub fn profile_values(
 
 // NashConv of a profile: the sum of best response value − worth by seat.
 pub fn nash_conv(number: usize, seats: usize, work: &mut [u64], profile: &[f64]) -> ValuesAnswer
-    ensures answer { λ r. ⌜ r ≡ answer (values-refusal (gameOf number seats) (length (now (work .entry))) (length (now (profile .entry)))) 1 (single (nashConvOf (gameOf number seats) (now (profile .entry)))) ⌝ }
+    ensures answer { λ r. ⌜ r ≡ answer (values-refusal (gameOf number seats) (length (now (work .entry))) (length (now (profile .entry))))
+        1 (single (nashConvOf (gameOf number seats) (now (profile .entry)))) ⌝ }
     ensures memory { λ r. ⌜ Left (r .refusal) (gameOf number seats) (now (work .entry)) (now (work .exit)) ⌝ }
 {
     call(number, seats, work, Asked::NashConv, profile)
@@ -141,7 +146,8 @@ pub fn exploitability(
     work: &mut [u64],
     profile: &[f64],
 ) -> ValuesAnswer
-    ensures answer { λ r. ⌜ r ≡ answer (values-refusal (gameOf number seats) (length (now (work .entry))) (length (now (profile .entry)))) 1 (single (exploitabilityOf (gameOf number seats) (now (profile .entry)))) ⌝ }
+    ensures answer { λ r. ⌜ r ≡ answer (values-refusal (gameOf number seats) (length (now (work .entry))) (length (now (profile .entry))))
+        1 (single (exploitabilityOf (gameOf number seats) (now (profile .entry)))) ⌝ }
     ensures memory { λ r. ⌜ Left (r .refusal) (gameOf number seats) (now (work .entry)) (now (work .exit)) ⌝ }
 {
     call(number, seats, work, Asked::Exploitability, profile)

@@ -38,7 +38,9 @@ Leduc-back = (p : LeducPosition) → Leduc.position-of (Leduc.state-of p) ≡ p
 
 -- so does a refused deal or step
 abbrev pub Kuhn-refused-back : Type 0
-Kuhn-refused-back = (refusal : ℕ) (p : KuhnPosition) (next : KuhnState) → (refusal ≡ 0 → ⊥) → Kuhn.moved-of (KuhnCalls.moved refusal (Kuhn.state-of p) next) .position ≡ p
+Kuhn-refused-back = (refusal : ℕ) (p : KuhnPosition) (next : KuhnState) → (refusal ≡ 0 → ⊥)
+    → Kuhn.moved-of (KuhnCalls.moved refusal (Kuhn.state-of p) next) .position ≡ p
 
 abbrev pub Leduc-refused-back : Type 0
-Leduc-refused-back = (refusal : ℕ) (p : LeducPosition) (next : LeducState) → (refusal ≡ 0 → ⊥) → Leduc.moved-of (LeducCalls.moved refusal (Leduc.state-of p) next) .position ≡ p
+Leduc-refused-back = (refusal : ℕ) (p : LeducPosition) (next : LeducState) → (refusal ≡ 0 → ⊥)
+    → Leduc.moved-of (LeducCalls.moved refusal (Leduc.state-of p) next) .position ≡ p

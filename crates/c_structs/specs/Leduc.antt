@@ -27,10 +27,24 @@ byte-of Hidden = 255
 byte-of (Card c) = c
 
 abbrev pub state-of : LeducPosition → LeducState
-state-of p = record { cards = p .cards; dealt = p .dealt; public = public-of (p .public); history = p .history; acted1 = p .acted1; acted2 = p .acted2 }
+state-of p = record {
+  cards = p .cards;
+  dealt = p .dealt;
+  public = public-of (p .public);
+  history = p .history;
+  acted1 = p .acted1;
+  acted2 = p .acted2;
+}
 
 abbrev pub position-of : LeducState → LeducPosition
-position-of s = record { cards = s .cards; dealt = s .dealt; public = byte-of (s .public); history = s .history; acted1 = s .acted1; acted2 = s .acted2 }
+position-of s = record {
+  cards = s .cards;
+  dealt = s .dealt;
+  public = byte-of (s .public);
+  history = s .history;
+  acted1 = s .acted1;
+  acted2 = s .acted2;
+}
 
 abbrev pub moved-of : Moved → LeducMoved
 moved-of a = record { refusal = a .refusal; position = position-of (a .state) }

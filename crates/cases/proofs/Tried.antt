@@ -45,11 +45,13 @@ unfolding or dealNodes
 passes-accepted = record { game = record { known = omega arith; seats = refl; small = omega arith }; least = omega arith; most = omega arith; valid = passes-valid }
 
 best-six : tableBest (treeOf kuhn2-tables) 1 (rootUnits kuhn2-tables 1) passes 0 ≡ pos 6
-unfolding tableBest best sum withKey value highest _·_ sets sumℕ before entriesOf treeOf Kuhn.C Kuhn.kuhnTree Kuhn.below Kuhn.next Kuhn.each and or some those has bet-made after-bet ended left remaining legal every Finite.sum bets stands contribution wins paid-by-others payoff
+unfolding tableBest best sum withKey value highest _·_ sets sumℕ before entriesOf treeOf Kuhn.C Kuhn.kuhnTree Kuhn.below Kuhn.next Kuhn.each and or
+    some those has bet-made after-bet ended left remaining legal every Finite.sum bets stands contribution wins paid-by-others payoff
 best-six = refl
 
 reply-bluffs : replyTable (treeOf kuhn2-tables) 1 (rootUnits kuhn2-tables 1) passes 0 ≡ bluffs
-unfolding replyTable best sum withKey value highest _·_ sets sumℕ before entriesOf treeOf Kuhn.C Kuhn.kuhnTree Kuhn.below Kuhn.next Kuhn.each and or some those has bet-made after-bet ended left remaining legal every Finite.sum bets stands contribution wins paid-by-others payoff
+unfolding replyTable best sum withKey value highest _·_ sets sumℕ before entriesOf treeOf Kuhn.C Kuhn.kuhnTree Kuhn.below Kuhn.next Kuhn.each and or
+    some those has bet-made after-bet ended left remaining legal every Finite.sum bets stands contribution wins paid-by-others payoff
 reply-bluffs = refl
 
 pub kuhn-tried : KuhnTried
@@ -62,11 +64,15 @@ kuhn-tried = (
 -- ---- Leduc, always CALL
 
 calls-length : length calls ≡ 2184
-unfolding calls callsAt firstTurns firstOnes isFirst turns joined Leduc.next and or some those has Betting.ends-with Betting.folded Betting.closes Betting.behind Betting.raises Betting.may Betting.options Betting.in-play Betting.turn Betting.ended Cards.left Cards.remaining Rules.public-due Rules.due
+unfolding calls callsAt firstTurns firstOnes isFirst turns joined Leduc.next and or some those has Betting.ends-with Betting.folded Betting.closes
+    Betting.behind Betting.raises Betting.may Betting.options Betting.in-play Betting.turn Betting.ended Cards.left Cards.remaining Rules.public-due
+    Rules.due
 calls-length = refl
 
 calls-add-up : addUp 1 actionsInOrder calls ≡ true
-unfolding addUp actionsInOrder calls callsAt firstTurns firstOnes isFirst turns joined Leduc.next and or some those has Betting.ends-with Betting.folded Betting.closes Betting.behind Betting.raises Betting.may Betting.options Betting.in-play Betting.turn Betting.ended Cards.left Cards.remaining Rules.public-due Rules.due
+unfolding addUp actionsInOrder calls callsAt firstTurns firstOnes isFirst turns joined Leduc.next and or some those has Betting.ends-with
+    Betting.folded Betting.closes Betting.behind Betting.raises Betting.may Betting.options Betting.in-play Betting.turn Betting.ended Cards.left
+    Cards.remaining Rules.public-due Rules.due
 calls-add-up = refl
 
 leduc-actions : setActions (treeOf leduc) ≡ actionsInOrder

@@ -34,7 +34,8 @@ use Rattle.units_worths.specs.Checks.{evaluation-refusal}
 
 -- ---- what a case is
 
--- its letter, what the definitions give, what the paper says: payoffs, a refusal number, a legal list, a key, or what a table is worth, each as a list of whole numbers
+-- its letter, what the definitions give, what the paper says: payoffs, a refusal number,
+-- a legal list, a key, or what a table is worth, each as a list of whole numbers
 pub data Case : Type 0 where
   case : String → List ℤ → List ℤ → Case
 
@@ -65,7 +66,8 @@ kuhn2 = record { players = 2 }
 
 -- the position with these cards and this history, 0 past them
 abbrev pub kuhn-at : List ℕ → List ℕ → KuhnState
-kuhn-at cs h = record { cards = cs ++ replicate (10 - length cs) 0; dealt = length cs; history = h ++ replicate (19 - length h) 0; acted = length h }
+kuhn-at cs h =
+    record { cards = cs ++ replicate (10 - length cs) 0; dealt = length cs; history = h ++ replicate (19 - length h) 0; acted = length h }
 
 -- the payoffs of an answer: none, if the call was refused
 abbrev pub payoffs : Payoffs → List ℤ
@@ -169,7 +171,9 @@ cases =
     ∷ case "f" (leduc-legal (leduc-at (0 ∷ 5 ∷ []) Hidden (RAISE ∷ []) []) 1) (bytes (FOLD ∷ CALL ∷ RAISE ∷ []))
     ∷ case "g" (leduc-legal (leduc-at (0 ∷ 5 ∷ []) Hidden (RAISE ∷ RAISE ∷ []) []) 0) (bytes (FOLD ∷ CALL ∷ []))
     ∷ case "h" (leduc-payoffs (leduc-at (0 ∷ 5 ∷ []) (Card 1) (CALL ∷ CALL ∷ []) (CALL ∷ CALL ∷ []))) (plus 1 ∷ minus 1 ∷ [])
-    ∷ case "i" (paid-in (RAISE ∷ RAISE ∷ CALL ∷ []) (RAISE ∷ RAISE ∷ CALL ∷ []) ++ leduc-payoffs (leduc-at (0 ∷ 1 ∷ []) (Card 2) (RAISE ∷ RAISE ∷ CALL ∷ []) (RAISE ∷ RAISE ∷ CALL ∷ []))) (plus 13 ∷ plus 13 ∷ plus 0 ∷ plus 0 ∷ [])
+    ∷ case "i" (paid-in (RAISE ∷ RAISE ∷ CALL ∷ []) (RAISE ∷ RAISE ∷ CALL ∷ [])
+    ++ leduc-payoffs (leduc-at (0 ∷ 1 ∷ []) (Card 2) (RAISE ∷ RAISE ∷ CALL ∷ []) (RAISE ∷ RAISE ∷ CALL ∷ [])))
+    (plus 13 ∷ plus 13 ∷ plus 0 ∷ plus 0 ∷ [])
     ∷ case "j" (leduc-key (leduc-at (0 ∷ 4 ∷ []) Hidden (RAISE ∷ []) []) 1) (bytes (1 ∷ 4 ∷ 255 ∷ 1 ∷ 2 ∷ 0 ∷ []))
     ∷ case "k" (evaluated 1 passes ++ reply 0 1 passes) ((plus 0 ∷ plus 0 ∷ plus 6 ∷ plus 6 ∷ plus 12 ∷ []) ++ bytes bluffs)
     ∷ case "l" (evaluated 3 settled) (minus 9 ∷ plus 9 ∷ minus 9 ∷ plus 9 ∷ plus 0 ∷ [])

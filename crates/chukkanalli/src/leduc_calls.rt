@@ -30,7 +30,8 @@ pub extern "C" fn chukkanalli_leduc_legal_actions(
     out: &mut [u8],
 ) -> LeducWritten
     ensures answer { λ r. ⌜ r ≡ written-of (listed (state-of position) seat (length (now (out .entry)))) ⌝ }
-    ensures output { λ r. ⌜ now (out .exit) ≡ written (legal-refusal (state-of position) seat (length (now (out .entry)))) (legal-of (state-of position) seat) (now (out .entry)) ⌝ }
+    ensures output { λ r. ⌜ now (out .exit) ≡ written (legal-refusal (state-of position) seat (length (now (out .entry))))
+        (legal-of (state-of position) seat) (now (out .entry)) ⌝ }
 {
     written_of(LeducPoker::legal_actions(state_of(position), seat as usize, out))
 }
@@ -62,7 +63,8 @@ pub extern "C" fn chukkanalli_leduc_information_state_key(
     out: &mut [u8],
 ) -> LeducWritten
     ensures answer { λ r. ⌜ r ≡ written-of (keyed (state-of position) seat (length (now (out .entry)))) ⌝ }
-    ensures output { λ r. ⌜ now (out .exit) ≡ written (key-refusal (state-of position) seat (length (now (out .entry)))) (key-of (state-of position) seat) (now (out .entry)) ⌝ }
+    ensures output { λ r. ⌜ now (out .exit) ≡ written (key-refusal (state-of position) seat (length (now (out .entry))))
+        (key-of (state-of position) seat) (now (out .entry)) ⌝ }
 {
     written_of(LeducPoker::information_state_key(state_of(position), seat as usize, out))
 }

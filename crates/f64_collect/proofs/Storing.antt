@@ -110,7 +110,8 @@ module _ (profile : List Float) (i b a : ℕ) (r : Float) (d : ℕ) (old : List 
           let X : x ≡ getD w a 0 = reads (omega arith) in
           let J : j ≡ i = sym (ap actorOf X ∙ A .held .0 .1) ∙ e in
           let R : Each (a + 1) s r T f (passed (profileOf T profile) i r j y) = record { ends = u ∙ ap nextOf X ∙ A .held .0 .4 ∙ omega arith; gives = λ x. passed-own (profileOf T profile) i r j y x J } in
-          let K = N .is w n T f (passed (profileOf T profile) i r j y) l (alike-join b w old mid h (put-alike mid (toBits binary64 r) (q .0))) (decide-row n T l w (length profile) a d j y f A) R (omega arith) (omega (arith, put-long mid (toBits binary64 r) (q .0))) in
+          let K = N .is w n T f (passed (profileOf T profile) i r j y) l (alike-join b w old mid h (put-alike mid (toBits binary64 r) (q .0)))
+          (decide-row n T l w (length profile) a d j y f A) R (omega arith) (omega (arith, put-long mid (toBits binary64 r) (q .0))) in
           let H : ofBits binary64 (getD new (b + a) 0) ≡ r = ap (ofBits binary64) (K .1 .words (b + a) (inl (omega arith)) ∙ put-here mid (toBits binary64 r) (q .0) (omega arith)) ∙ q .1 in
           ((λ _. H, subst (λ p. MarkedAll (profileOf T profile) i b new p (passed (profileOf T profile) i r j y) 0 f) (omega arith) (K .0)), put-kept mid (toBits binary64 r) (q .0) new (sizes f) (K .1))
 

@@ -16,7 +16,8 @@ pub record Storable (a b d : ℕ) : Type 0 where
   pub shallow : d ≤ 32
   pub base : b ≤ 8388608
 
--- the words have, from place b on, the reach of each decision of seat i in a tree at place a of reach r, at its place; in a row the child with number x has reach g x
+-- the words have, from place b on, the reach of each decision of seat i in a tree at place a of reach r, at its place;
+-- in a row the child with number x has reach g x
 module _ (s : Profile) (i b : ℕ) (w : List ℕ) where
   unfoldable mutual
     unfolding fan size
@@ -30,18 +31,21 @@ module _ (s : Profile) (i b : ℕ) (w : List ℕ) where
     MarkedAll a g x nil = Unit {0}
     MarkedAll a g x (cons t f) = Marked a (g x) t × MarkedAll (a + size t) g (suc x) f
 
--- the words below place b, where the tree stands, stay; whatever tree is legible there at place a, its reaches are stored, from r, and no other word changes
+-- the words below place b, where the tree stands, stay;
+-- whatever tree is legible there at place a, its reaches are stored, from r, and no other word changes
 pub record Reached (profile : List Float) (i b a : ℕ) (r : Float) (d : ℕ) (old new : List ℕ) : Type 0 where
   pub same : Alike b old new
   pub long : length new ≡ length old
-  pub is : (w : List ℕ) (n : ℕ) (T t : Tree) (l : ℕ → ℕ → Key → ℕ) → Alike b w old → Legible n T l w (length profile) a d t → a + size t ≤ b → b + (a + size t) ≤ length old
+  pub is : (w : List ℕ) (n : ℕ) (T t : Tree) (l : ℕ → ℕ → Key → ℕ) → Alike b w old → Legible n T l w (length profile) a d t → a + size t ≤ b
+      → b + (a + size t) ≤ length old
       → Marked (profileOf T profile) i b new a r t × Kept (b + a) (b + (a + size t)) old new
 
 -- the same of a row, where the child with number x has reach g x, for each row and g of which R holds
 pub record ReachedAll (R : Tree → Trees → (ℕ → Float) → Type 0) (profile : List Float) (i b a d : ℕ) (old new : List ℕ) : Type 0 where
   pub same : Alike b old new
   pub long : length new ≡ length old
-  pub is : (w : List ℕ) (n : ℕ) (T : Tree) (f : Trees) (g : ℕ → Float) (l : ℕ → ℕ → Key → ℕ) → Alike b w old → LegibleAll n T l w (length profile) a d f → R T f g → a + sizes f ≤ b
+  pub is : (w : List ℕ) (n : ℕ) (T : Tree) (f : Trees) (g : ℕ → Float) (l : ℕ → ℕ → Key → ℕ) → Alike b w old
+      → LegibleAll n T l w (length profile) a d f → R T f g → a + sizes f ≤ b
       → b + (a + sizes f) ≤ length old → MarkedAll (profileOf T profile) i b new a g 0 f × Kept (b + a) (b + (a + sizes f)) old new
 
 -- a row that ends at place z, each of its trees with reach r

@@ -22,12 +22,14 @@ pub record Walkable (a i d h b k : ℕ) : Type 0 where
   pub reach : b ≤ 16777216
   pub kept : k ≤ 16777216
 
--- a stage on which seat i replies to a profile: the reach of its nodes stands from place b on, and each choice is what the sums behind the actions come to
+-- a stage on which seat i replies to a profile: the reach of its nodes stands from place b on,
+-- and each choice is what the sums behind the actions come to
 pub record Scene (P : List Float) (i h b k : ℕ) : Type 0 where
   pub stage : Stage i h k
   pub inside : Every (λ j y n. firstEntry (stage .tree) j y + n ≤ length P) (stage .tree)
   pub marked : Marked (profileOf (stage .tree) P) i b (stage .words) 0 one (stage .tree)
-  pub decided : Every (λ j y n. j ≡ i → stage .choice y ≡ lead (setSum (profileOf (stage .tree) P) i (stage .tree) (stage .choice) y) n .0) (stage .tree)
+  pub decided : Every (λ j y n. j ≡ i
+      → stage .choice y ≡ lead (setSum (profileOf (stage .tree) P) i (stage .tree) (stage .choice) y) n .0) (stage .tree)
   pub below : b + size (stage .tree) ≤ k
 
 module _ {P : List Float} {i h b k : ℕ} (S : Scene P i h b k) where
@@ -55,33 +57,40 @@ module _ {P : List Float} {i h b k : ℕ} (S : Scene P i h b k) where
 module _ (P : List Float) (i d h b k : ℕ) where
   -- r is the value of the tree at place a, if no path of it has more than d nodes
   abbrev pub Valued : (a : ℕ) (old new : List ℕ) (r : Float) → Type 0
-  Valued a old new r = (S : Scene P i h b k) → Noted (S .stage) old → (t : Tree) (x : ℕ) → x ≤ d → Stands (S .stage) x a t → Noted (S .stage) new × (r ≡ valued S t)
+  Valued a old new r = (S : Scene P i h b k) → Noted (S .stage) old → (t : Tree) (x : ℕ) → x ≤ d → Stands (S .stage) x a t
+      → Noted (S .stage) new × (r ≡ valued S t)
 
   -- with the payoff on the edge to it
   abbrev pub Gained : (a : ℕ) (old new : List ℕ) (r : Float) → Type 0
-  Gained a old new r = (S : Scene P i h b k) → Noted (S .stage) old → (t : Tree) (x : ℕ) → x ≤ d → Stands (S .stage) x a t → Noted (S .stage) new × (r ≡ gained S t)
+  Gained a old new r = (S : Scene P i h b k) → Noted (S .stage) old → (t : Tree) (x : ℕ) → x ≤ d → Stands (S .stage) x a t
+      → Noted (S .stage) new × (r ≡ gained S t)
 
   -- of the children of a chance node, from place a to z
   abbrev pub Dealt : (a z : ℕ) (old new : List ℕ) (r : Float) → Type 0
-  Dealt a z old new r = (S : Scene P i h b k) → Noted (S .stage) old → (f : Trees) (x : ℕ) → x ≤ d → StandsAll (S .stage) x a f → z ≡ a + sizes f
+  Dealt a z old new r = (S : Scene P i h b k) → Noted (S .stage) old → (f : Trees) (x : ℕ) → x ≤ d
+      → StandsAll (S .stage) x a f → z ≡ a + sizes f
       → Noted (S .stage) new × (r ≡ addedUp S (λ c. weight (fan f)) 0 nought f)
 
   -- of the children of a decision with word x, from place a on
   abbrev pub Split : (a x : ℕ) (old new : List ℕ) (r : Float) → Type 0
-  Split a x old new r = (S : Scene P i h b k) → Noted (S .stage) old → (j : ℕ) (y : Key) (f : Trees) (z : ℕ) → z ≤ d → setOf x ≡ firstEntry (S .stage .tree) j y → actionsOf x ≡ fan f
+  Split a x old new r = (S : Scene P i h b k) → Noted (S .stage) old → (j : ℕ) (y : Key) (f : Trees) (z : ℕ) → z ≤ d
+      → setOf x ≡ firstEntry (S .stage .tree) j y → actionsOf x ≡ fan f
       → Known (S .stage) j y (fan f) → StandsAll (S .stage) z a f → Noted (S .stage) new × (r ≡ addedUp S (entries S j y) 0 nought f)
 
   -- of the own node at place a with word x
   abbrev pub ValuedOwn : (a x : ℕ) (old new : List ℕ) (r : Float) → Type 0
-  ValuedOwn a x old new r = (S : Scene P i h b k) → Noted (S .stage) old → (y : Key) (z : ℕ) (f : Trees) → z ≤ d → setOf x ≡ firstEntry (S .stage .tree) i y → actionsOf x ≡ fan f
+  ValuedOwn a x old new r = (S : Scene P i h b k) → Noted (S .stage) old → (y : Key) (z : ℕ) (f : Trees) → z ≤ d
+      → setOf x ≡ firstEntry (S .stage .tree) i y → actionsOf x ≡ fan f
       → Stands (S .stage) (suc z) a (decide i y f) → Noted (S .stage) new × (r ≡ valued S (decide i y f))
 
   -- r is the choice of the set with first entry e and n actions
   abbrev pub Chosen : (e n : ℕ) (old new : List ℕ) (r : ℕ) → Type 0
-  Chosen e n old new r = (S : Scene P i h b k) → Noted (S .stage) old → (y : Key) → Known (S .stage) i y n → e ≡ firstEntry (S .stage .tree) i y → S .stage .levels i y ≤ d
+  Chosen e n old new r = (S : Scene P i h b k) → Noted (S .stage) old → (y : Key) → Known (S .stage) i y n
+      → e ≡ firstEntry (S .stage .tree) i y → S .stage .levels i y ≤ d
       → Noted (S .stage) new × (r ≡ S .stage .choice y)
 
   -- r is the sum behind an action of that set
   abbrev pub Totalled : (e a : ℕ) (old new : List ℕ) (r : Float) → Type 0
-  Totalled e a old new r = (S : Scene P i h b k) → Noted (S .stage) old → (y : Key) (n : ℕ) → Known (S .stage) i y n → e ≡ firstEntry (S .stage .tree) i y → S .stage .levels i y ≤ d → a < n
+  Totalled e a old new r = (S : Scene P i h b k) → Noted (S .stage) old → (y : Key) (n : ℕ) → Known (S .stage) i y n
+      → e ≡ firstEntry (S .stage .tree) i y → S .stage .levels i y ≤ d → a < n
       → Noted (S .stage) new × (r ≡ behindAction S y a)

@@ -1,4 +1,5 @@
-// Value and choice call each other: the value of an own node asks its set's choice, and a choice asks the values below all members of its set, which lie deeper.
+// Value and choice call each other: the value of an own node asks its set's choice,
+// and a choice asks the values below all members of its set, which lie deeper.
 // A choice is kept in work memory once it is found. From place heads on stands the first member of each set, from place reach on the reach of the seat's own
 // nodes, and from place kept on, by a set's first entry, its choice + 1, or 0.
 use arena::walk::behind;

@@ -32,18 +32,22 @@ total s i p f = added s i (λ j. false) (λ k. 0) p 0 nought f
 
 -- whatever tree is held at place a, r is its worth to seat i, if it has this seat
 abbrev pub Expected : (profile : List Float) (w : List ℕ) (a d i : ℕ) (r : Float) → Type 0
-Expected profile w a d i r = (n : ℕ) (T t : Tree) (l : ℕ → ℕ → Key → ℕ) → i < n → Legible n T l w (length profile) a d t → r ≡ worth (profileOf T profile) i t
+Expected profile w a d i r = (n : ℕ) (T t : Tree) (l : ℕ → ℕ → Key → ℕ) → i < n → Legible n T l w (length profile) a d t
+    → r ≡ worth (profileOf T profile) i t
 
 -- the same with the payoff on its edge
 abbrev pub Gained : (profile : List Float) (w : List ℕ) (a d i : ℕ) (r : Float) → Type 0
-Gained profile w a d i r = (n : ℕ) (T t : Tree) (l : ℕ → ℕ → Key → ℕ) → i < n → Legible n T l w (length profile) a d t → r ≡ plus (edge i t) (worth (profileOf T profile) i t)
+Gained profile w a d i r = (n : ℕ) (T t : Tree) (l : ℕ → ℕ → Key → ℕ) → i < n → Legible n T l w (length profile) a d t
+    → r ≡ plus (edge i t) (worth (profileOf T profile) i t)
 
 -- whatever row is held from place a to place z, r is its sum as the children of a chance node
 abbrev pub Dealt : (profile : List Float) (w : List ℕ) (a z d i : ℕ) (r : Float) → Type 0
-Dealt profile w a z d i r = (n : ℕ) (T : Tree) (f : Trees) (l : ℕ → ℕ → Key → ℕ) → i < n → LegibleAll n T l w (length profile) a d f → z ≡ a + sizes f
+Dealt profile w a z d i r = (n : ℕ) (T : Tree) (f : Trees) (l : ℕ → ℕ → Key → ℕ) → i < n
+    → LegibleAll n T l w (length profile) a d f → z ≡ a + sizes f
     → r ≡ total (profileOf T profile) i (λ x. weight (fan f)) f
 
 -- the same of a row from place a on, as the children of a decision with word y
 abbrev pub Moved : (profile : List Float) (w : List ℕ) (a y d i : ℕ) (r : Float) → Type 0
-Moved profile w a y d i r = (n : ℕ) (T : Tree) (j : ℕ) (k : Key) (f : Trees) (l : ℕ → ℕ → Key → ℕ) → i < n → LegibleAll n T l w (length profile) a d f → actionsOf y ≡ fan f
+Moved profile w a y d i r = (n : ℕ) (T : Tree) (j : ℕ) (k : Key) (f : Trees) (l : ℕ → ℕ → Key → ℕ) → i < n
+    → LegibleAll n T l w (length profile) a d f → actionsOf y ≡ fan f
     → setOf y ≡ firstEntry T j k → Entered T (length profile) j k (fan f) → r ≡ total (profileOf T profile) i (profileOf T profile j k) f

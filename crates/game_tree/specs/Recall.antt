@@ -1,4 +1,5 @@
--- Perfect recall: the own moves before a decision are a function of its key, and equal keys have equally many actions. Definitions only; nothing is assumed.
+-- Perfect recall: the own moves before a decision are a function of its key,
+-- and equal keys have equally many actions. Definitions only; nothing is assumed.
 use mathlib.Core.Path.{_≡_}
 use mathlib.Core.Bool.{Bool, true, false}
 use mathlib.Core.List.{List, [], _∷_}

@@ -1,4 +1,5 @@
--- The reply tree of a seat, its value under a choice, the best choice and the reply (document 01, "Whole units"). Definitions only; nothing is assumed.
+-- The reply tree of a seat, its value under a choice, the best choice and the reply (document 01, "Whole units").
+-- Definitions only; nothing is assumed.
 use mathlib.Core.Path.{_≡_}
 use mathlib.Core.Bool.{Bool, true, false, cond}
 use mathlib.Core.List.{List, [], _∷_, _++_}

@@ -1,4 +1,5 @@
--- A small tree to try the theorem on. Seat 0's set 1 has two members, and the first alone would decide otherwise; set 4 lies below it; set 3 gets no units.
+-- A small tree to try the theorem on. Seat 0's set 1 has two members, and the first alone would decide otherwise;
+-- set 4 lies below it; set 3 gets no units.
 use mathlib.Core.Bool.{cond}
 use mathlib.Core.List.{[], _∷_}
 use Prim.Native.Nat.{ℕ}

@@ -1,4 +1,5 @@
--- Tables of parts, rival tables, the reply table and NashConv (document 01, "The tree and its sets" and "Whole units"). Definitions only; nothing is assumed.
+-- Tables of parts, rival tables, the reply table and NashConv (document 01, "The tree and its sets" and "Whole units").
+-- Definitions only; nothing is assumed.
 use mathlib.Core.Path.{_≡_}
 use mathlib.Core.Bool.{Bool, true, false, cond}
 use mathlib.Core.List.{List, [], _∷_, _++_}

@@ -1,4 +1,5 @@
--- The reply theorem for tables, statement by statement, of the definitions in Sets and Table (document 01, "Whole units"). Each is proved in proofs/TableTheorem.antt, which assumes nothing.
+-- The reply theorem for tables, statement by statement, of the definitions in Sets and Table (document 01, "Whole units").
+-- Each is proved in proofs/TableTheorem.antt, which assumes nothing.
 -- Throughout: t is a tree, table a table with D parts in each set, i a seat, z a rival table; the root has U = C × D^m units.
 use mathlib.Core.Path.{_≡_}
 use mathlib.Core.Logic.{_↔_}
@@ -10,8 +11,10 @@ use lib.Signed.{_≤ℤ_}
 use Rattle.game_tree.specs.Tree.{Tree, Strategy, all, U, units, Splits, Pays, Every, Valid, Rival}
 use Rattle.game_tree.specs.Reply.{reply}
 use Rattle.game_tree.specs.Recall.{PerfectRecall}
-use Rattle.game_tree.specs.Sets.{size, preorder, decisions, decisionsOf, firsts, sets, setNumber, setMembers, entries, firstEntry, SameActions}
-use Rattle.game_tree.specs.Table.{Table, strategyOf, tableOf, ValidTable, KeepsTable, RivalTable, tableWorth, tableBest, replyTable, nashConv, BestReply}
+use Rattle.game_tree.specs.Sets.{size, preorder, decisions, decisionsOf, firsts, sets}
+use Rattle.game_tree.specs.Sets.{setNumber, setMembers, entries, firstEntry, SameActions}
+use Rattle.game_tree.specs.Table.{Table, strategyOf, tableOf, ValidTable, KeepsTable, RivalTable}
+use Rattle.game_tree.specs.Table.{tableWorth, tableBest, replyTable, nashConv, BestReply}
 use Rattle.game_tree.specs.Small.{small, given}
 
 -- 1. A tree has as many nodes as its size says.
@@ -39,11 +42,13 @@ StrategyValid = (t : Tree) (D : ℕ) (s : Strategy) → Valid (all D) s t → Va
 
 -- So a table is valid exactly if its length is the entry count and its strategy is valid.
 abbrev pub ValidMeans : Type 0
-ValidMeans = (t : Tree) (D : ℕ) (table : Table) → SameActions t → ValidTable t D table ↔ ((length table ≡ entries t) × Valid (all D) (strategyOf t table) t)
+ValidMeans = (t : Tree) (D : ℕ) (table : Table) → SameActions t → ValidTable t D table
+    ↔ ((length table ≡ entries t) × Valid (all D) (strategyOf t table) t)
 
 -- The strategy of a rival table is a rival.
 abbrev pub TableRival : Type 0
-TableRival = (t : Tree) (D i : ℕ) (table z : Table) → SameActions t → RivalTable t D i table z → Rival (all D) i (strategyOf t table) (strategyOf t z) t
+TableRival = (t : Tree) (D i : ℕ) (table z : Table) → SameActions t → RivalTable t D i table z
+    → Rival (all D) i (strategyOf t table) (strategyOf t z) t
 
 -- 4. The reply table is a rival table: valid, the others' entries kept.
 abbrev pub ReplyTableRival : Type 0
@@ -62,7 +67,8 @@ ReplyTableWorth = (t : Tree) (C m D i : ℕ) (table : Table) → 0 < D → Split
 
 -- No rival table is worth more.
 abbrev pub NoRivalTableBetter : Type 0
-NoRivalTableBetter = (t : Tree) (C m D i : ℕ) (table z : Table) → 0 < D → Splits C m t → PerfectRecall i t → SameActions t → RivalTable t D i table z
+NoRivalTableBetter = (t : Tree) (C m D i : ℕ) (table z : Table) → 0 < D → Splits C m t → PerfectRecall i t → SameActions t
+    → RivalTable t D i table z
     → tableWorth t D (U C D m) z i ≤ℤ tableBest t D (U C D m) table i
 
 -- So it is a best reply.
@@ -72,9 +78,11 @@ ReplyTableBest = (t : Tree) (C m D i : ℕ) (table : Table) → 0 < D → Splits
 
 -- 5. Two tables that differ only in the seat's entries have the same best value.
 abbrev pub OwnTableEntriesFree : Type 0
-OwnTableEntriesFree = (t : Tree) (D u i : ℕ) (table z : Table) → SameActions t → KeepsTable t i table z → tableBest t D u z i ≡ tableBest t D u table i
+OwnTableEntriesFree = (t : Tree) (D u i : ℕ) (table z : Table) → SameActions t → KeepsTable t i table z
+    → tableBest t D u z i ≡ tableBest t D u table i
 
--- Under a valid table the units of all ends add up to U, and neither a worth nor a best value is more than u × the largest payoff B in size.
+-- Under a valid table the units of all ends add up to U,
+-- and neither a worth nor a best value is more than u × the largest payoff B in size.
 abbrev pub TableUnitsAddUp : Type 0
 TableUnitsAddUp = (t : Tree) (C m D : ℕ) (table : Table) → 0 < D → Splits C m t → SameActions t → ValidTable t D table
     → units (all D) (strategyOf t table) (U C D m) t ≡ U C D m
@@ -85,10 +93,12 @@ TableBounds = (t : Tree) (D u B i : ℕ) (table : Table) → 0 < D → SameActio
 
 -- NashConv of a valid table is never below 0.
 abbrev pub NashConvNotBelow : Type 0
-NashConvNotBelow = (t : Tree) (C m D n : ℕ) (table : Table) → 0 < D → Splits C m t → ((i : ℕ) → i < n → PerfectRecall i t) → SameActions t → ValidTable t D table
+NashConvNotBelow = (t : Tree) (C m D n : ℕ) (table : Table) → 0 < D → Splits C m t → ((i : ℕ) → i < n → PerfectRecall i t)
+    → SameActions t → ValidTable t D table
     → pos 0 ≤ℤ nashConv t D (U C D m) table n
 
--- 6. Tried on the small tree: its sets in order of their first nodes, as seat, key and actions; 16 nodes, and the members of a set by their numbers.
+-- 6. Tried on the small tree: its sets in order of their first nodes, as seat, key and actions;
+-- 16 nodes, and the members of a set by their numbers.
 abbrev pub SmallSets : Type 0
 SmallSets = (sets small ≡ (0, 1 ∷ [], 2) ∷ (0, 4 ∷ [], 2) ∷ (1, 2 ∷ [], 2) ∷ (0, 3 ∷ [], 2) ∷ []) × (size small ≡ 16)
     × (setMembers small 0 (4 ∷ []) ≡ 3 ∷ 8 ∷ []) × (setNumber small 0 (3 ∷ []) ≡ 3) × (firstEntry small 0 (3 ∷ []) ≡ 6)
@@ -102,7 +112,8 @@ abbrev pub smallTable : Table
 smallTable = 1 ∷ 1 ∷ 1 ∷ 1 ∷ 2 ∷ 0 ∷ 0 ∷ 2 ∷ []
 
 abbrev pub SmallTables : Type 0
-SmallTables = (tableOf small given ≡ smallTable) × ValidTable small 2 smallTable × (ValidTable small 2 (1 ∷ 1 ∷ 1 ∷ 1 ∷ 2 ∷ 0 ∷ 0 ∷ 3 ∷ []) → ⊥)
+SmallTables = (tableOf small given ≡ smallTable) × ValidTable small 2 smallTable
+    × (ValidTable small 2 (1 ∷ 1 ∷ 1 ∷ 1 ∷ 2 ∷ 0 ∷ 0 ∷ 3 ∷ []) → ⊥)
 
 -- It is worth 2 to seat 0, whose best value is 4; the reply has seat 0's entries pure and seat 1's as they were; NashConv is 2.
 abbrev pub SmallReplies : Type 0

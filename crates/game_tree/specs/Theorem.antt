@@ -1,5 +1,7 @@
--- The reply theorem, statement by statement, of the definitions in Tree, Reply and Recall (document 01, "Whole units"). Each is proved in proofs/Theorem.antt, which assumes nothing.
--- Throughout: t is a tree, s a strategy with D parts, i a seat, z a rival of the seat, r a reply tree, c a choice; the root has U = C × D^m units.
+-- The reply theorem, statement by statement, of the definitions in Tree, Reply and Recall (document 01, "Whole units").
+-- Each is proved in proofs/Theorem.antt, which assumes nothing.
+-- Throughout: t is a tree, s a strategy with D parts, i a seat, z a rival of the seat, r a reply tree, c a choice;
+-- the root has U = C × D^m units.
 use mathlib.Core.Path.{_≡_}
 use mathlib.Core.List.{[], _∷_}
 use Prim.Native.Nat.{ℕ, _*_, _^_, _≤_, _<_}
@@ -8,7 +10,8 @@ use lib.Signed.{_≤ℤ_, _<ℤ_}
 use lib.ListN.{take}
 use Rattle.game_tree.specs.Sums.{_·_, sum, sumℕ, parts}
 use Rattle.game_tree.specs.Tree.{Key, Tree, Strategy, all, allBut, U, worth, units, Exact, Splits, Pays, Valid, Keeps, Rival}
-use Rattle.game_tree.specs.Reply.{Reply, replyTree, Choice, value, pick, members, setSum, lowest, depth, best, bestValue, pure, reply, EveryOwn, Decides, Optimal, scaled}
+use Rattle.game_tree.specs.Reply.{Reply, replyTree, Choice, value, pick, members, setSum, lowest, depth, best}
+use Rattle.game_tree.specs.Reply.{bestValue, pure, reply, EveryOwn, Decides, Optimal, scaled}
 use Rattle.game_tree.specs.Recall.{PerfectRecall, RecallsOwn}
 use Rattle.game_tree.specs.Small.{small, given, seen}
 
@@ -52,7 +55,8 @@ PureWorth = (E m : ℕ) (c : Choice) (r : Reply) → depth r ≤ m → scaled E 
 
 -- A rival with E parts in its own sets, the others keeping D, is worth no more than the best value: its worth is over U × E^m.
 abbrev pub NoFinerRivalBetter : Type 0
-NoFinerRivalBetter = (C m D E i : ℕ) (s z : Strategy) (t : Tree) → 0 < D → 0 < E → Splits C m t → PerfectRecall i t → Rival (allBut i E D) i s z t
+NoFinerRivalBetter = (C m D E i : ℕ) (s z : Strategy) (t : Tree) → 0 < D → 0 < E → Splits C m t → PerfectRecall i t
+    → Rival (allBut i E D) i s z t
     → worth (allBut i E D) z i (E ^ m * U C D m) t ≤ℤ (E ^ m · bestValue (replyTree D s i (U C D m) t))
 
 -- The divisions that give that worth are exact too.
@@ -90,12 +94,14 @@ MembersUnits = (D i u n : ℕ) (s : Strategy) (t : Tree) (k : Key) → 0 < D →
 
 -- So the sum over them is at most u × the largest payoff B, in size.
 abbrev pub SetSumBound : Type 0
-SetSumBound = (D i u n B a : ℕ) (s : Strategy) (t : Tree) (k : Key) (c : Choice) → 0 < D → PerfectRecall i t → Valid (all D) s t → Pays B i t
+SetSumBound = (D i u n B a : ℕ) (s : Strategy) (t : Tree) (k : Key) (c : Choice) → 0 < D → PerfectRecall i t
+    → Valid (all D) s t → Pays B i t
     → natAbs (sum (λ x. pick c (x .2) a) (take n (members (replyTree D s i u t) k))) ≤ u * B
 
 -- So is the value under any choice.
 abbrev pub ValueBound : Type 0
-ValueBound = (D i u B : ℕ) (s : Strategy) (t : Tree) (c : Choice) → 0 < D → Valid (all D) s t → Pays B i t → natAbs (value c (replyTree D s i u t)) ≤ u * B
+ValueBound = (D i u B : ℕ) (s : Strategy) (t : Tree) (c : Choice) → 0 < D → Valid (all D) s t → Pays B i t
+    → natAbs (value c (replyTree D s i u t)) ≤ u * B
 
 -- So is the worth.
 abbrev pub WorthBound : Type 0
@@ -122,7 +128,8 @@ SmallNumbers = (units (all 2) given 12 small ≡ 12) × (worth (all 2) given 0 1
 
 -- In set 3, which gets no units, the reply has both parts on action 0.
 abbrev pub SmallNoUnits : Type 0
-SmallNoUnits = (sumℕ (λ x. x .0) (members seen (3 ∷ [])) ≡ 0) × (reply 2 given 0 12 small 0 (3 ∷ []) 0 ≡ 2) × (reply 2 given 0 12 small 0 (3 ∷ []) 1 ≡ 0)
+SmallNoUnits = (sumℕ (λ x. x .0) (members seen (3 ∷ [])) ≡ 0) × (reply 2 given 0 12 small 0 (3 ∷ []) 0 ≡ 2)
+    × (reply 2 given 0 12 small 0 (3 ∷ []) 1 ≡ 0)
 
 -- No rival is worth more than 4.
 abbrev pub SmallNoRival : Type 0

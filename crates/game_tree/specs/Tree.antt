@@ -1,4 +1,5 @@
--- Trees of games, strategies in parts, and a seat's worth in whole units (document 01, "Whole units"). Definitions only; nothing is assumed.
+-- Trees of games, strategies in parts, and a seat's worth in whole units (document 01, "Whole units").
+-- Definitions only; nothing is assumed.
 use mathlib.Core.Path.{_≡_}
 use mathlib.Core.Bool.{cond}
 use mathlib.Core.List.{List}

@@ -1,5 +1,6 @@
 -- Where −0.0 arises in a profile's values, statement by statement. Each is proved in proofs/Signs.antt, which assumes nothing.
--- NashConv starts at 0.0 (document 01), the Rust's `sum` at −0.0: they are the same, since no difference of a best value and a worth is −0.0.
+-- NashConv starts at 0.0 (document 01), the Rust's `sum` at −0.0:
+-- they are the same, since no difference of a best value and a worth is −0.0.
 use mathlib.Core.Path.{_≡_}
 use mathlib.Core.Bool.{Bool}
 use mathlib.Core.List.{List, [], _∷_}
@@ -20,7 +21,8 @@ sumFrom v (d ∷ ds) = sumFrom (plus v d) ds
 
 -- 1. A sum over children that starts at another number than −0.0 is not −0.0.
 abbrev pub SumSigned : Type 0
-SumSigned = (s : Profile) (i : ℕ) (owns : ℕ → Bool) (c : Choice) (w : ℕ → Float) (a : ℕ) (v : Float) (f : Trees) → T (fits binary64 v) → (v ≡ minusNought → ⊥)
+SumSigned = (s : Profile) (i : ℕ) (owns : ℕ → Bool) (c : Choice) (w : ℕ → Float) (a : ℕ) (v : Float) (f : Trees)
+    → T (fits binary64 v) → (v ≡ minusNought → ⊥)
     → added s i owns c w a v f ≡ minusNought → ⊥
 
 -- So the value of a chance node is not.
@@ -37,4 +39,5 @@ GainSigned = (s : Profile) (i : ℕ) (f : Trees) → sub binary64 (bestValue s i
 
 -- 3. A sum of numbers, the first of which is not −0.0, is the same from −0.0 as from 0.0.
 abbrev pub StartSigned : Type 0
-StartSigned = (d : Float) (ds : List Float) → T (fits binary64 d) → (d ≡ minusNought → ⊥) → sumFrom minusNought (d ∷ ds) ≡ sumFrom nought (d ∷ ds)
+StartSigned = (d : Float) (ds : List Float) → T (fits binary64 d) → (d ≡ minusNought → ⊥)
+    → sumFrom minusNought (d ∷ ds) ≡ sumFrom nought (d ∷ ds)

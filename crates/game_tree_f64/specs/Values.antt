@@ -1,4 +1,5 @@
--- The f64 values of a profile in a game's tree (document 01, "The f64 values"): each product, sum and quotient is rounded once, in the paper's order. Definitions only; nothing is assumed.
+-- The f64 values of a profile in a game's tree (document 01, "The f64 values"): each product,
+-- sum and quotient is rounded once, in the paper's order. Definitions only; nothing is assumed.
 use mathlib.Core.Bool.{Bool, true, false, cond}
 use mathlib.Core.List.{List, [], _∷_, _++_}
 use Prim.Native.Nat.{ℕ, zero, suc, _+_}
@@ -14,7 +15,8 @@ use Rattle.game_tree.specs.Sets.{sets, before, entriesOf, firstEntry, height}
 abbrev pub Profile : Type 0
 Profile = ℕ → Key → ℕ → Float
 
--- the profile of a list of entries: an action's stands at its set's first entry + the action; NaN past the list, where no call looks that is not refused
+-- the profile of a list of entries: an action's stands at its set's first entry + the action;
+-- NaN past the list, where no call looks that is not refused
 unfoldable pub profileOf : Tree → List Float → Profile
 unfolding sets before entriesOf
 profileOf t entries j k a = getD entries (firstEntry t j k + a) nan
@@ -48,7 +50,8 @@ module _ (s : Profile) (i : ℕ) (owns : ℕ → Bool) (c : Choice) where
   unfoldable mutual
     unfolding fan edge
 
-    -- a chance node or another seat's adds its level's weight or entry × g over the children; an own node is the g of its chosen child; an end 0.0
+    -- a chance node or another seat's adds its level's weight or entry × g over the children;
+    -- an own node is the g of its chosen child; an end 0.0
     pub value : Tree → Float
     value (end p) = nought
     value (chance f) = added (λ a. weight (fan f)) 0 nought f
@@ -98,7 +101,8 @@ module _ (s : Profile) (i : ℕ) where
       pub found : Float → Tree → List Member
       found r (end p) = []
       found r (chance f) = foundAll (λ a. times r (weight (fan f))) 0 f
-      found r (decide j l f) = let rest : List Member = foundAll (passed r j l) 0 f in cond (cond (eqb j i) (same l k) false) ((r, f) ∷ rest) rest
+      found r (decide j l f) = let rest : List Member = foundAll (passed r j l) 0 f in
+          cond (cond (eqb j i) (same l k) false) ((r, f) ∷ rest) rest
 
       pub foundAll : (ℕ → Float) → ℕ → Trees → List Member
       foundAll g a nil = []

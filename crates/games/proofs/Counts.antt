@@ -69,7 +69,8 @@ module _ (g : Game) (k : g .number ≡ 0) where
   kuhn-entries = ap (λ t. 2 * cond t (kuhnSets (g .seats)) 936) (eq-eqb (g .number) 0 k) ∙ NatL.mul-comm 2 (kuhnSets (g .seats)) ∙ ap (λ t. cond t (kuhnEntries (g .seats)) 2184) (sym (eq-eqb (g .number) 0 k))
 
   pub sets-at-most : seats-out g ≡ false → setsOf g ≤ 56320
-  sets-at-most e = rw (← (kuhn-sets e)) (each-seats (λ n. getD sets-table n 0 ≤ 56320) (omega arith) (omega arith) (omega arith) (omega arith) (omega arith) (omega arith) (omega arith) (omega arith) (omega arith) (g .seats) (kuhn-least e) (kuhn-most e))
+  sets-at-most e = rw (← (kuhn-sets e)) (each-seats (λ n. getD sets-table n 0 ≤ 56320) (omega arith) (omega arith) (omega arith) (omega arith)
+      (omega arith) (omega arith) (omega arith) (omega arith) (omega arith) (g .seats) (kuhn-least e) (kuhn-most e))
 
   pub kuhn-actions : (x : ℕ) → x < setsOf g → 2 ≡ getD (actionsOf g) x 0
   unfolding actionsOf

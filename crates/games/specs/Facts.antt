@@ -1,4 +1,5 @@
--- What holds of the games by number, proved in proofs/Facts.antt: their counts as numbers that a program can hold, and what the reply theorem asks of their trees.
+-- What holds of the games by number, proved in proofs/Facts.antt:
+-- their counts as numbers that a program can hold, and what the reply theorem asks of their trees.
 use mathlib.Core.Path.{_≡_}
 use mathlib.Core.Bool.{false, cond}
 use Prim.Native.Nat.{ℕ, _≤_, _<_}
@@ -41,7 +42,8 @@ abbrev pub Table-of-counts : Type 0
 Table-of-counts = Sized (treeOf (kuhn 2)) 58 12 24 × Sized (treeOf (kuhn 3)) 617 48 96 × Sized (treeOf (kuhn 4)) 7886 160 320
     × Sized (treeOf (kuhn 5)) 116437 480 960 × Sized (treeOf (kuhn 6)) 1944020 1344 2688 × Sized (treeOf leduc) 9457 936 2184
 
--- what the reply theorem asks of a tree: fans that divide C, at most m decisions on a path, perfect recall, equally many actions at equal keys, bounded payoffs
+-- what the reply theorem asks of a tree: fans that divide C, at most m decisions on a path,
+-- perfect recall, equally many actions at equal keys, bounded payoffs
 pub record Fit (g : Game) : Type 0 where
   pub splits : Splits (C g) (m g) (treeOf g)
   pub recall : (i : ℕ) → i < g .seats → PerfectRecall i (treeOf g)
@@ -56,5 +58,7 @@ abbrev pub rootUnits : Game → ℕ → ℕ
 rootUnits g D = U (C g) D (m g)
 
 abbrev pub Reply-best : Type 0
-Reply-best = (g : Game) (D i : ℕ) (table : Table) → g .number ≤ 1 → seats-out g ≡ false → i < g .seats → 0 < D → ValidTable (treeOf g) D table
-    → BestReply (treeOf g) D (rootUnits g D) i table (tableBest (treeOf g) D (rootUnits g D) table i) (replyTable (treeOf g) D (rootUnits g D) table i)
+Reply-best = (g : Game) (D i : ℕ) (table : Table) → g .number ≤ 1 → seats-out g ≡ false → i < g .seats → 0 < D
+    → ValidTable (treeOf g) D table
+    → BestReply (treeOf g) D (rootUnits g D) i table (tableBest (treeOf g) D (rootUnits g D) table i)
+    (replyTable (treeOf g) D (rootUnits g D) table i)

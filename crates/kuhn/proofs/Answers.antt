@@ -16,7 +16,8 @@ use Rattle.prelude.proofs.Lists.{getD-within}
 use Rattle.kuhn_rules.specs.Rules.{ended, overrun, live, over, due, remaining}
 use Rattle.kuhn_rules.specs.Reached.{strange, twice, fair, played, unknown}
 use Rattle.kuhn_positions.specs.Positions.{seats-out, reachable, cardsOf, historyOf, position-checks, saved-checks, mark}
-use Rattle.kuhn.specs.Calls.{step-checks, step-refusal, deal-checks, deal-refusal, legal-of, legal-checks, legal-refusal, key-of, key-checks, key-refusal, payoff-checks, payoff-refusal, payoff-answer, mark-checks, saved-refusal, moved, wrote, written}
+use Rattle.kuhn.specs.Calls.{step-checks, step-refusal, deal-checks, deal-refusal, legal-of, legal-checks, legal-refusal, key-of, key-checks}
+use Rattle.kuhn.specs.Calls.{key-refusal, payoff-checks, payoff-refusal, payoff-answer, mark-checks, saved-refusal, moved, wrote, written}
 use Rattle.kuhn_rules.specs.Stakes.{payoffs-of}
 use Rattle.kuhn.specs.declared.KuhnPoker.{KuhnPoker}
 use Rattle.kuhn_positions.specs.declared.KuhnState.{KuhnState}
@@ -143,7 +144,8 @@ module _ (g : KuhnPoker) (s : KuhnState) where
 
   payoff-over : payoff-refusal g s ≡ 0 → over (g .players) (cardsOf s) (historyOf s) ≡ true
   unfolding payoff-refusal
-  payoff-over e = not-false (over (g .players) (cardsOf s) (historyOf s)) (fails-first (not (over (g .players) (cardsOf s) (historyOf s))) 19 [] (sym (position-passed (g .players) s 0 (payoff-checks (g .players) s) (sym (payoff-position e)) refl) ∙ e))
+  payoff-over e = not-false (over (g .players) (cardsOf s) (historyOf s)) (fails-first (not (over (g .players) (cardsOf s) (historyOf s))) 19 []
+      (sym (position-passed (g .players) s 0 (payoff-checks (g .players) s) (sym (payoff-position e)) refl) ∙ e))
 
   -- at the end every seat has its card
   pub payoff-full : length (s .cards) ≡ 10 → length (s .history) ≡ 19 → payoff-refusal g s ≡ 0
@@ -267,11 +269,13 @@ module _ (g : KuhnPoker) (s : KuhnState) (tens : length (s .cards) ≡ 10) (nine
 
     pub key-no-room : p < s .dealt → room < 2 + s .acted → 9 ≡ key-refusal g s p room
     unfolding key-refusal
-    key-no-room w h = sym (own (key-checks s p room) ∙ passed 20 ((ltb room (length (key-of s p)) refuses 9) ∷ []) (lt-leb (length (cardsOf s)) p (omega (arith, cards-long))) ∙ refused 9 [] (lt-ltb room (length (key-of s p)) (omega (arith, key-long))))
+    key-no-room w h = sym (own (key-checks s p room) ∙ passed 20 ((ltb room (length (key-of s p)) refuses 9) ∷ [])
+        (lt-leb (length (cardsOf s)) p (omega (arith, cards-long))) ∙ refused 9 [] (lt-ltb room (length (key-of s p)) (omega (arith, key-long))))
 
     pub key-fits : p < s .dealt → 2 + s .acted ≤ room → key-refusal g s p room ≡ 0
     unfolding key-refusal
-    key-fits w h = own (key-checks s p room) ∙ passed 20 ((ltb room (length (key-of s p)) refuses 9) ∷ []) (lt-leb (length (cardsOf s)) p (omega (arith, cards-long))) ∙ passed 9 [] (le-ltb room (length (key-of s p)) (omega (arith, key-long)))
+    key-fits w h = own (key-checks s p room) ∙ passed 20 ((ltb room (length (key-of s p)) refuses 9)
+        ∷ []) (lt-leb (length (cardsOf s)) p (omega (arith, cards-long))) ∙ passed 9 [] (le-ltb room (length (key-of s p)) (omega (arith, key-long)))
 
 -- ---- what an accepted call has passed
 

@@ -11,7 +11,8 @@ use Rattle.refusals.specs.Refusals as Refusals
 use Rattle.prelude.specs.Finite.{and}
 use Rattle.kuhn_rules.specs.Rules.{due, live, over, ended, legal, key, remaining}
 use Rattle.kuhn_rules.specs.Stakes.{payoffs-of}
-use Rattle.kuhn_positions.specs.Positions.{cardsOf, historyOf, initial, with-card, with-action, counted, seats-out, position-checks, saved-checks, mark}
+use Rattle.kuhn_positions.specs.Positions.{cardsOf, historyOf, initial, with-card, with-action}
+use Rattle.kuhn_positions.specs.Positions.{counted, seats-out, position-checks, saved-checks, mark}
 use Rattle.kuhn.specs.declared.KuhnPoker.{KuhnPoker}
 use Rattle.kuhn_positions.specs.declared.KuhnState.{KuhnState}
 use Rattle.kuhn.specs.declared.Moved.{Moved}
@@ -98,7 +99,8 @@ unfoldable pub payoff-refusal : KuhnPoker → KuhnState → ℕ
 payoff-refusal g s = first (position-checks (g .players) s ++ payoff-checks (g .players) s)
 
 abbrev pub payoff-answer : ℕ → KuhnPoker → KuhnState → Payoffs
-payoff-answer zero g s = record { refusal = zero; state = s; count = g .players; payoffs = payoffs-of (g .players) (cardsOf s) (historyOf s) }
+payoff-answer zero g s =
+    record { refusal = zero; state = s; count = g .players; payoffs = payoffs-of (g .players) (cardsOf s) (historyOf s) }
 payoff-answer (suc r) g s = record { refusal = suc r; state = s; count = 0; payoffs = replicate 10 (pos 0) }
 
 abbrev pub paid : KuhnPoker → KuhnState → Payoffs

@@ -18,10 +18,12 @@ pub record Sized (s : KuhnState) : Type 0 where
 
 -- number 19: the test of a position says whether no length is above its array and legal moves reach it
 abbrev pub Reachable-by-moves : Type 0
-Reachable-by-moves = (n : ℕ) (s : KuhnState) → (reachable n s ≡ true) ↔ ((s .dealt ≤ 10) × (s .acted ≤ 19) × Reached n (cardsOf s) (historyOf s))
+Reachable-by-moves = (n : ℕ) (s : KuhnState) → (reachable n s ≡ true)
+    ↔ ((s .dealt ≤ 10) × (s .acted ≤ 19) × Reached n (cardsOf s) (historyOf s))
 
 -- the saved-position check accepts exactly the reachable positions with one card per seat whose mark says whether the hand has ended
 abbrev pub Saved-accepts : Type 0
 Saved-accepts = (g : KuhnPoker) (s : KuhnState) (m : ℕ) → Sized s
     → (saved-refusal g s m ≡ 0)
-    ↔ ((2 ≤ g .players) × (g .players ≤ 10) × (s .dealt ≡ g .players) × (reachable (g .players) s ≡ true) × (m ≡ mark (ended (g .players) (historyOf s))))
+    ↔ ((2 ≤ g .players) × (g .players ≤ 10) × (s .dealt ≡ g .players) × (reachable (g .players) s ≡ true)
+    × (m ≡ mark (ended (g .players) (historyOf s))))

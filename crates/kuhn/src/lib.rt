@@ -11,7 +11,8 @@ ghost use mathlib.Core.Path.{_≡_};
 ghost use Prim.Native.Nat.{_≤_, _<_};
 ghost use lib.ListN.{length, take};
 ghost use Rattle.kuhn_positions.specs.Positions.{position-checks};
-ghost use Rattle.kuhn.specs.Calls.{start-refusal, started, deal-refusal, dealt, step-refusal, stepped, legal-of, legal-refusal, listed, key-of, key-refusal, keyed, written, payoff-refusal, paid, checked};
+ghost use Rattle.kuhn.specs.Calls.{start-refusal, started, deal-refusal, dealt, step-refusal, stepped, legal-of, legal-refusal};
+ghost use Rattle.kuhn.specs.Calls.{listed, key-of, key-refusal, keyed, written, payoff-refusal, paid, checked};
 ghost use Rattle.refusals.specs.Refusals.{first};
 
 // The game: how many seats play.

@@ -46,7 +46,8 @@ module _ (n x d k : ℕ) where
     where
       at : Tested (left n (cardsIn d x) c) → each (those (suc c) (left n (cardsIn d x))) (λ e. deals ante stake n k (cardsIn d x ++ (e ∷ [])))
           ≡ join (each (those c (left n (cardsIn d x))) (λ e. deals ante stake n k (cardsIn d x ++ (e ∷ [])))) (cond (left n (cardsIn d x) c) (cons (deals ante stake n k (cardsIn d x ++ (c ∷ []))) nil) nil)
-      at (holds e) = rw e (ap (λ l. each l (λ e. deals ante stake n k (cardsIn d x ++ (e ∷ [])))) (those-kept (left n (cardsIn d x)) c e) ∙ each-append (those c (left n (cardsIn d x))) (c ∷ []) (λ e. deals ante stake n k (cardsIn d x ++ (e ∷ []))))
+      at (holds e) = rw e (ap (λ l. each l (λ e. deals ante stake n k (cardsIn d x ++ (e ∷ [])))) (those-kept (left n (cardsIn d x)) c e)
+          ∙ each-append (those c (left n (cardsIn d x))) (c ∷ []) (λ e. deals ante stake n k (cardsIn d x ++ (e ∷ []))))
       at (fails e) = rw e (ap (λ l. each l (λ e. deals ante stake n k (cardsIn d x ++ (e ∷ [])))) (those-passed (left n (cardsIn d x)) c e) ∙ sym (join-nil _))
 
   pub children-sizes : (c : ℕ) → sizes (childrenTo n x d k (suc c)) ≡ sizes (childrenTo n x d k c) + sizes (childAt n x d k c)

@@ -23,7 +23,8 @@ use Rattle.kuhn_rules.specs.Stakes.{ante, stake}
 use Rattle.kuhn_tree.proofs.Shape.{hand}
 use Rattle.kuhn_arena_layout.specs.Layout.{codeOf, historyAt, cardAt, cardsIn, afterBet, beforeBet, afterAt, beforeAt, unitOf, losses, Dealt, Betting, Passing, Top}
 use Rattle.kuhn_arena_layout.proofs.Numbers.{history-pass, history-bet, number-of, card-of, set-sum}
-use Rattle.kuhn_arena_layout.proofs.Bets.{longer, after-bet-more, after-bet-first, no-bets, bets-pass, bets-bet, contribution-pass, contribution-bet, paid-ante, sum-one-more, sum-ones, wins-quiet, opened-more, opened-bet, quiet-pass, wins-first, wins-pass, wins-bet}
+use Rattle.kuhn_arena_layout.proofs.Bets.{longer, after-bet-more, after-bet-first, no-bets, bets-pass, bets-bet, contribution-pass, contribution-bet, paid-ante}
+use Rattle.kuhn_arena_layout.proofs.Bets.{sum-one-more, sum-ones, wins-quiet, opened-more, opened-bet, quiet-pass, wins-first, wins-pass, wins-bet}
 use Rattle.kuhn_arena_layout.proofs.Ends.{losses-few, pot-few, losses-pass, losses-bet, losses-quiet, end-kind, end-pays}
 
 -- ---- turns
@@ -134,7 +135,8 @@ module _ (n : ℕ) (cs h : List ℕ) (seat number : ℕ) (p : Passing n cs h sea
     number-few = omega (arith, p .passes, power)
 
     pub first-left : (2 * number + 2 + 2) * 2 ^ (n - 1) ≤ 4096
-    first-left = NatL.le-trans (NatL.mul-le-mul {n₁ = 2 * number + 2 + 2} {m₁ = 2 ^ (n - 1)} {n₂ = 66} {m₂ = 32} (omega (arith, number-few)) (NatL.pow-le-pow-right {n = 2} (omega arith) {i = n - 1} {j = 5} (omega (arith, p .deal .most)))) (omega arith)
+    first-left = NatL.le-trans (NatL.mul-le-mul {n₁ = 2 * number + 2 + 2} {m₁ = 2 ^ (n - 1)} {n₂ = 66} {m₂ = 32} (omega (arith, number-few))
+        (NatL.pow-le-pow-right {n = 2} (omega arith) {i = n - 1} {j = 5} (omega (arith, p .deal .most)))) (omega arith)
 
 -- ---- the tree of a hand
 -- with a bet it goes on for the actions that are to come

@@ -1,4 +1,5 @@
--- Kuhn's tree as the builder goes through it: cards and histories as numbers, a hand before and after its first bet, and the code of a set. Definitions only; nothing is assumed.
+-- Kuhn's tree as the builder goes through it: cards and histories as numbers,
+-- a hand before and after its first bet, and the code of a set. Definitions only; nothing is assumed.
 use mathlib.Core.Path.{_≡_}
 use mathlib.Core.Bool.{true, false, cond}
 use mathlib.Core.List.{List, [], _∷_, _++_}
@@ -53,13 +54,15 @@ cardsIn n x = places n (cardAt x)
 -- the hand from history h on, once a seat has bet and r actions are to come
 unfoldable pub afterBet : ℕ → List ℕ → ℕ → List ℕ → Tree
 afterBet n cs zero h = end (payoff ante stake n cs h)
-afterBet n cs (suc r) h = decide (turn n h) (key cs h (turn n h)) (cons (afterBet n cs r (h ++ (PASS ∷ []))) (cons (afterBet n cs r (h ++ (BET ∷ []))) nil))
+afterBet n cs (suc r) h =
+    decide (turn n h) (key cs h (turn n h)) (cons (afterBet n cs r (h ++ (PASS ∷ []))) (cons (afterBet n cs r (h ++ (BET ∷ []))) nil))
 
 -- and while none has, and r seats are to act
 unfoldable pub beforeBet : ℕ → List ℕ → ℕ → List ℕ → Tree
 unfolding afterBet
 beforeBet n cs zero h = end (payoff ante stake n cs h)
-beforeBet n cs (suc r) h = decide (turn n h) (key cs h (turn n h)) (cons (beforeBet n cs r (h ++ (PASS ∷ []))) (cons (afterBet n cs (n - 1) (h ++ (BET ∷ []))) nil))
+beforeBet n cs (suc r) h = decide (turn n h) (key cs h (turn n h))
+    (cons (beforeBet n cs r (h ++ (PASS ∷ []))) (cons (afterBet n cs (n - 1) (h ++ (BET ∷ []))) nil))
 
 -- the same by the numbers of the cards and the history
 unfoldable pub afterAt : (n cards number r : ℕ) → Tree

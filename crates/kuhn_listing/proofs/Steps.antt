@@ -70,7 +70,8 @@ module _ (n : ℕ) (cs : List ℕ) where
   unfolding turns
   hand-more zero h f e = absurd (f refl)
   hand-more (suc r) h f e = ap (λ b. recordsOf n cs (turns n (suc r) b h)) e ∙ records-append (h ∷ []) (ts PASS ++ (ts BET ++ []))
-      ∙ ap (λ l. recordsOf n cs (h ∷ []) ++ l) (records-append (ts PASS) (ts BET ++ []) ∙ ap (λ l. recordsOf n cs (ts PASS) ++ recordsOf n cs l) (append-nil (ts BET)) ∙ ap (λ k. handRecords n cs k (h ++ (PASS ∷ [])) ++ handRecords n cs k (h ++ (BET ∷ []))) one-less)
+      ∙ ap (λ l. recordsOf n cs (h ∷ []) ++ l) (records-append (ts PASS) (ts BET ++ []) ∙ ap (λ l. recordsOf n cs (ts PASS) ++ recordsOf n cs l)
+      (append-nil (ts BET)) ∙ ap (λ k. handRecords n cs k (h ++ (PASS ∷ [])) ++ handRecords n cs k (h ++ (BET ∷ []))) one-less)
     where
       ts : ℕ → List (List ℕ)
       ts a = turns n r (ended n (h ++ (a ∷ []))) (h ++ (a ∷ []))

@@ -1,4 +1,5 @@
--- The listing of Kuhn's sets with n seats, from its tree: the cards of a node are those of its position (document 01, "The tree and its sets").
+-- The listing of Kuhn's sets with n seats, from its tree:
+-- the cards of a node are those of its position (document 01, "The tree and its sets").
 use mathlib.Core.List.{List}
 use Prim.Native.Nat.{ℕ}
 use Rattle.game_tree.specs.Tree.{Tree}

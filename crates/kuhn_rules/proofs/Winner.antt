@@ -53,7 +53,8 @@ module _ (n : ℕ) (h cards : List ℕ) where
       card q v = getD-take n cards q 0 v
 
       no-lower : (q : ℕ) → q < n → stands n h q ≡ true → or (not (stands n h q)) (leb (getD (take n cards) q 0) (getD (take n cards) p 0)) ≡ true → getD cards q 0 ≤ getD cards p 0
-      no-lower q v x e = or-cases (not (stands n h q)) (leb (getD (take n cards) q 0) (getD (take n cards) p 0)) e (λ z. true≢false (not (stands n h q)) z (ap not x)) (λ z. rw (card q v, card p w) at (leb-true (getD (take n cards) q 0) (getD (take n cards) p 0) z))
+      no-lower q v x e = or-cases (not (stands n h q)) (leb (getD (take n cards) q 0) (getD (take n cards) p 0)) e (λ z. true≢false
+          (not (stands n h q)) z (ap not x)) (λ z. rw (card q v, card p w) at (leb-true (getD (take n cards) q 0) (getD (take n cards) p 0) z))
 
       at-most : (top ≡ 0) ⊎ ((q : ℕ) × (q < n) × (stands n h q ≡ true) × (getD cards q 0 ≡ top)) → ((q : ℕ) → q < n → stands n h q ≡ true → getD cards q 0 ≤ getD cards p 0) → top ≤ getD cards p 0
       at-most (inl z) f = omega arith

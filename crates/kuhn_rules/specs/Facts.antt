@@ -21,7 +21,8 @@ Legal-moves = (n : ℕ) (cs h : List ℕ) (a : ℕ) → has a (legal n cs h (tur
 
 -- at every end just one seat wins
 abbrev pub One-winner : Type 0
-One-winner = (n : ℕ) (cs h : List ℕ) → 1 ≤ n → Reached n cs h → over n cs h ≡ true → (w : ℕ) × (w < n) × ((p : ℕ) → p < n → wins n cs h p ≡ eqb p w)
+One-winner = (n : ℕ) (cs h : List ℕ) → 1 ≤ n → Reached n cs h → over n cs h ≡ true → (w : ℕ) × (w < n)
+    × ((p : ℕ) → p < n → wins n cs h p ≡ eqb p w)
 
 -- payoffs add up to 0 at every end, at all stakes
 abbrev pub Zero-sum : Type 0

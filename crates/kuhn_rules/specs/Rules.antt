@@ -1,4 +1,5 @@
--- Kuhn's rules for n seats (document 01, "The two games"; Kuhn 1950 has two seats), in three layers: the betting depends on the history alone,
+-- Kuhn's rules for n seats (document 01, "The two games"; Kuhn 1950 has two seats),
+-- in three layers: the betting depends on the history alone,
 -- the deal on the cards, the money on both and on the stakes. A history lists the actions made, from the first.
 use mathlib.Core.Bool.{Bool, true, false, not, cond}
 use mathlib.Core.List.{List, [], _∷_}

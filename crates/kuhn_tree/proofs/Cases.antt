@@ -16,13 +16,16 @@ unfolding sets kuhnTree below next each and or some those has bet-made after-bet
 keys-in-order = (refl, refl)
 
 pub case-k : CaseK
-unfolding tableWorth tableBest nashConv best sum withKey value highest _·_ sets sumℕ before entriesOf addUp C kuhnTree below next each and or some those has bet-made after-bet ended left remaining legal every Finite.sum bets stands contribution wins paid-by-others payoff
+unfolding tableWorth tableBest nashConv best sum withKey value highest _·_ sets sumℕ before entriesOf addUp C kuhnTree below next each and or some
+    those has bet-made after-bet ended left remaining legal every Finite.sum bets stands contribution wins paid-by-others payoff
 case-k = ((refl, refl), refl, refl, refl, refl, refl)
 
 pub case-k-reply : CaseKReply
-unfolding replyTable best sum withKey value highest _·_ sets sumℕ before entriesOf C kuhnTree below next each and or some those has bet-made after-bet ended left remaining legal every Finite.sum bets stands contribution wins paid-by-others payoff
+unfolding replyTable best sum withKey value highest _·_ sets sumℕ before entriesOf C kuhnTree below next each and or some those has bet-made after-bet
+    ended left remaining legal every Finite.sum bets stands contribution wins paid-by-others payoff
 case-k-reply = refl
 
 pub case-l : CaseL
-unfolding tableWorth tableBest nashConv best sum withKey value highest _·_ sets sumℕ before entriesOf addUp C kuhnTree below next each and or some those has bet-made after-bet ended left remaining legal every Finite.sum bets stands contribution wins paid-by-others payoff
+unfolding tableWorth tableBest nashConv best sum withKey value highest _·_ sets sumℕ before entriesOf addUp C kuhnTree below next each and or some
+    those has bet-made after-bet ended left remaining legal every Finite.sum bets stands contribution wins paid-by-others payoff
 case-l = ((refl, refl), refl, refl, refl, refl, refl)

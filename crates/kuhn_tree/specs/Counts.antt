@@ -1,4 +1,5 @@
--- How many nodes, sets and entries Kuhn has with n seats, as numbers (document 01, the table of counts). Definitions only; nothing is assumed.
+-- How many nodes, sets and entries Kuhn has with n seats, as numbers (document 01, the table of counts).
+-- Definitions only; nothing is assumed.
 use Prim.Native.Nat.{ℕ, zero, suc, pred, _+_, _*_, _-_, _^_}
 
 -- the histories of a hand at which a seat acts

@@ -1,4 +1,5 @@
--- The facts about Kuhn's tree, statement by statement (document 01, "The tree and its sets" and "Whole units"). Each is proved in proofs/Facts.antt, which assumes nothing.
+-- The facts about Kuhn's tree, statement by statement (document 01, "The tree and its sets" and "Whole units").
+-- Each is proved in proofs/Facts.antt, which assumes nothing.
 -- Throughout: n seats, any ante and bet; table a table with D parts in each set, i a seat, z a rival table.
 use mathlib.Core.Path.{_≡_}
 use mathlib.Core.List.{List, [], _∷_, map}
@@ -24,7 +25,8 @@ FollowsRules = (ante bet n : ℕ) → 1 ≤ n → Follows ante bet n (kuhnTree a
 -- Its nodes, in order, stand for the reachable positions: each for one, and each of these has its node.
 abbrev pub NodesReached : Type 0
 NodesReached = (ante bet n : ℕ) → 1 ≤ n → (length (positions n (kuhnTree ante bet n) [] []) ≡ size (kuhnTree ante bet n))
-    × ((a : ℕ) → a < size (kuhnTree ante bet n) → Reached n (positionOf (kuhnTree ante bet n) n a .0) (positionOf (kuhnTree ante bet n) n a .1))
+    × ((a : ℕ) → a < size (kuhnTree ante bet n)
+    → Reached n (positionOf (kuhnTree ante bet n) n a .0) (positionOf (kuhnTree ante bet n) n a .1))
     × ((cs h : List ℕ) → Reached n cs h → (a : ℕ) × (a < size (kuhnTree ante bet n)) × (positionOf (kuhnTree ante bet n) n a ≡ (cs, h)))
 
 -- More fuel changes nothing.
@@ -37,12 +39,14 @@ Counted = (ante bet n : ℕ) → 1 ≤ n → Sized (kuhnTree ante bet n) (kuhnNo
 
 -- Document 01's table of counts, Kuhn's five rows.
 abbrev pub Counts : Type 0
-Counts = (ante bet : ℕ) → Sized (kuhnTree ante bet 2) 58 12 24 × Sized (kuhnTree ante bet 3) 617 48 96 × Sized (kuhnTree ante bet 4) 7886 160 320
+Counts = (ante bet : ℕ) → Sized (kuhnTree ante bet 2) 58 12 24 × Sized (kuhnTree ante bet 3) 617 48 96
+    × Sized (kuhnTree ante bet 4) 7886 160 320
     × Sized (kuhnTree ante bet 5) 116437 480 960 × Sized (kuhnTree ante bet 6) 1944020 1344 2688
 
 -- With 7 to 10 seats there are more than 4,000,000 nodes.
 abbrev pub TooLarge : Type 0
-TooLarge = (ante bet : ℕ) → (size (kuhnTree ante bet 7) ≡ 36196001) × (4000000 < size (kuhnTree ante bet 7)) × (4000000 < size (kuhnTree ante bet 8))
+TooLarge = (ante bet : ℕ) → (size (kuhnTree ante bet 7) ≡ 36196001) × (4000000 < size (kuhnTree ante bet 7))
+    × (4000000 < size (kuhnTree ante bet 8))
     × (4000000 < size (kuhnTree ante bet 9)) × (4000000 < size (kuhnTree ante bet 10))
 
 -- 3. The sets, numbered at their first nodes, are those of the rule in Order.
@@ -51,7 +55,8 @@ SetsInOrder = (ante bet n : ℕ) → 1 ≤ n → sets (kuhnTree ante bet n) ≡ 
 
 -- Kuhn 2 keys in order, from the tree and from the rule.
 abbrev pub keys2 : List Key
-keys2 = (0 ∷ 0 ∷ []) ∷ (1 ∷ 1 ∷ 0 ∷ []) ∷ (0 ∷ 0 ∷ 0 ∷ 1 ∷ []) ∷ (1 ∷ 1 ∷ 1 ∷ []) ∷ (1 ∷ 2 ∷ 0 ∷ []) ∷ (1 ∷ 2 ∷ 1 ∷ []) ∷ (0 ∷ 1 ∷ []) ∷ (1 ∷ 0 ∷ 0 ∷ [])
+keys2 = (0 ∷ 0 ∷ []) ∷ (1 ∷ 1 ∷ 0 ∷ []) ∷ (0 ∷ 0 ∷ 0 ∷ 1 ∷ []) ∷ (1 ∷ 1 ∷ 1 ∷ []) ∷ (1 ∷ 2 ∷ 0 ∷ []) ∷ (1 ∷ 2 ∷ 1 ∷ [])
+    ∷ (0 ∷ 1 ∷ []) ∷ (1 ∷ 0 ∷ 0 ∷ [])
     ∷ (0 ∷ 1 ∷ 0 ∷ 1 ∷ []) ∷ (1 ∷ 0 ∷ 1 ∷ []) ∷ (0 ∷ 2 ∷ []) ∷ (0 ∷ 2 ∷ 0 ∷ 1 ∷ []) ∷ []
 
 abbrev pub KeysInOrder : Type 0
@@ -98,9 +103,11 @@ rootUnits n D = U (C n) D (m n)
 -- 6. The reply to a valid table is a rival table, its worth is the best value, and no rival table is worth more.
 abbrev pub ReplyBest : Type 0
 ReplyBest = (ante bet n D i : ℕ) (table : Table) → 0 < D → ValidTable (kuhnTree ante bet n) D table
-    → BestReply (kuhnTree ante bet n) D (rootUnits n D) i table (tableBest (kuhnTree ante bet n) D (rootUnits n D) table i) (replyTable (kuhnTree ante bet n) D (rootUnits n D) table i)
+    → BestReply (kuhnTree ante bet n) D (rootUnits n D) i table (tableBest (kuhnTree ante bet n) D (rootUnits n D) table i)
+    (replyTable (kuhnTree ante bet n) D (rootUnits n D) table i)
 
--- At stakes 1 and 1 a worth and a best value fit a signed number of 64 bits, and NashConv an unsigned one: all that these can be, added up, is below 2^64.
+-- At stakes 1 and 1 a worth and a best value fit a signed number of 64 bits,
+-- and NashConv an unsigned one: all that these can be, added up, is below 2^64.
 abbrev pub UnitsFit : Type 0
 UnitsFit = (n D : ℕ) → 2 ≤ n → n ≤ 6 → D ≤ largestParts n
     → (rootUnits n D * largestPayoff 1 1 n < 2 ^ 63) × (n * (2 * (rootUnits n D * largestPayoff 1 1 n)) < 2 ^ 64)
@@ -112,7 +119,8 @@ kuhn2 = kuhnTree 1 1 2
 abbrev pub Case : ℕ → Table → (w₀ w₁ b₀ b₁ conv : ℤ) → Type 0
 Case D table w₀ w₁ b₀ b₁ conv = ValidTable kuhn2 D table
     × (tableWorth kuhn2 D (rootUnits 2 D) table 0 ≡ w₀) × (tableWorth kuhn2 D (rootUnits 2 D) table 1 ≡ w₁)
-    × (tableBest kuhn2 D (rootUnits 2 D) table 0 ≡ b₀) × (tableBest kuhn2 D (rootUnits 2 D) table 1 ≡ b₁) × (nashConv kuhn2 D (rootUnits 2 D) table 2 ≡ conv)
+    × (tableBest kuhn2 D (rootUnits 2 D) table 0 ≡ b₀) × (tableBest kuhn2 D (rootUnits 2 D) table 1 ≡ b₁)
+    × (nashConv kuhn2 D (rootUnits 2 D) table 2 ≡ conv)
 
 -- k. Always PASS.
 abbrev pub passes : Table

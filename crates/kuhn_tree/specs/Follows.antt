@@ -1,4 +1,5 @@
--- The positions of a tree's nodes, and what it is for a tree to follow Kuhn's rules from a position, without fuel. Definitions only; nothing is assumed.
+-- The positions of a tree's nodes, and what it is for a tree to follow Kuhn's rules from a position, without fuel.
+-- Definitions only; nothing is assumed.
 use mathlib.Core.Path.{_≡_}
 use mathlib.Core.Bool.{true}
 use mathlib.Core.List.{List, [], _∷_, _++_, map}
@@ -39,7 +40,8 @@ module _ (n : ℕ) where
 abbrev pub positionOf : Tree → ℕ → ℕ → Position
 positionOf t n a = getD (positions n t [] []) a ([], [])
 
--- each node stands for a reachable position: an end where the hand is over, with its payoffs; a chance node where a card is due; a decision where a seat acts, with its key
+-- each node stands for a reachable position: an end where the hand is over, with its payoffs;
+-- a chance node where a card is due; a decision where a seat acts, with its key
 module _ (ante bet n : ℕ) where
   unfoldable mutual
     unfolding dealt acted

@@ -9,11 +9,13 @@ use Rattle.game_tree.specs.Sets.{Decision}
 use Rattle.kuhn_rules.specs.Rules.{PASS, BET, ended, turn, key, left, remaining}
 use Rattle.kuhn_tree.specs.Tree.{m}
 
--- the histories from h on at which a seat acts, each before its longer ones; b says whether the hand has ended, r how many actions it may still have
+-- the histories from h on at which a seat acts, each before its longer ones;
+-- b says whether the hand has ended, r how many actions it may still have
 unfoldable pub turns : ℕ → ℕ → Bool → List ℕ → List (List ℕ)
 turns n zero b h = []
 turns n (suc r) true h = []
-turns n (suc r) false h = h ∷ (turns n r (ended n (h ++ (PASS ∷ []))) (h ++ (PASS ∷ [])) ++ (turns n r (ended n (h ++ (BET ∷ []))) (h ++ (BET ∷ [])) ++ []))
+turns n (suc r) false h = h
+    ∷ (turns n r (ended n (h ++ (PASS ∷ []))) (h ++ (PASS ∷ [])) ++ (turns n r (ended n (h ++ (BET ∷ []))) (h ++ (BET ∷ [])) ++ []))
 
 -- the histories of a hand at which a seat acts
 unfoldable pub histories : ℕ → List (List ℕ)

@@ -1,4 +1,5 @@
--- Kuhn's tree for n seats: a child for each card left, ascending, or for each legal action in legal order; ends carry the payoffs (document 01, "The tree and its sets").
+-- Kuhn's tree for n seats: a child for each card left, ascending, or for each legal action in legal order;
+-- ends carry the payoffs (document 01, "The tree and its sets").
 -- Definitions only; nothing is assumed.
 use mathlib.Core.Bool.{cond}
 use mathlib.Core.List.{List, [], _∷_, _++_}
@@ -27,7 +28,8 @@ module _ (ante bet n : ℕ) where
   below zero x cs h = end (payoff ante bet n cs h)
   below (suc r) nothing cs h = end (payoff ante bet n cs h)
   below (suc r) card cs h = chance (each (remaining n cs) (λ c. below r (next n (cs ++ (c ∷ [])) h) (cs ++ (c ∷ [])) h))
-  below (suc r) action cs h = decide (turn n h) (key cs h (turn n h)) (each (legal n cs h (turn n h)) (λ a. below r (next n cs (h ++ (a ∷ []))) cs (h ++ (a ∷ []))))
+  below (suc r) action cs h = decide (turn n h) (key cs h (turn n h))
+      (each (legal n cs h (turn n h)) (λ a. below r (next n cs (h ++ (a ∷ []))) cs (h ++ (a ∷ []))))
 
 -- the most actions in a hand (document 01: m is 2n - 1)
 abbrev pub m : ℕ → ℕ

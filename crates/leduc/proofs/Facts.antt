@@ -67,7 +67,8 @@ module _ (s : LeducState) (z : Sized s) where
 
     saved-late : or (hidden (s .public)) (closes h₁) ≡ true
     unfolding and or
-    saved-late = go (hidden (s .public)) (closes h₁) (fails-first (and (not (hidden (s .public))) (not (closes h₁))) 16 [] (fails-rest (and (hidden (s .public)) (and (closes h₁) (not (ended h₁ h₂)))) 15 ((and (not (hidden (s .public))) (not (closes h₁)) refuses 17) ∷ []) public-passed))
+    saved-late = go (hidden (s .public)) (closes h₁) (fails-first (and (not (hidden (s .public))) (not (closes h₁))) 16 [] (fails-rest (and (hidden
+        (s .public)) (and (closes h₁) (not (ended h₁ h₂)))) 15 ((and (not (hidden (s .public))) (not (closes h₁)) refuses 17) ∷ []) public-passed))
       where
         go : (a b : Bool) → and (not a) (not b) ≡ false → or a b ≡ true
         go true b q = refl

@@ -12,7 +12,8 @@ use Rattle.prelude.specs.Finite.{and}
 use Rattle.leduc_betting.specs.Betting.{counted, ended}
 use Rattle.leduc_betting.specs.Cards.{remaining}
 use Rattle.leduc_rules.specs.Rules.{due, live, key}
-use Rattle.leduc_positions.specs.Positions.{cardsOf, seenOf, roundOne, roundTwo, initial, with-card, with-action, position-checks, in-playOf, legal-of, payoff-of, saved-checks, mark}
+use Rattle.leduc_positions.specs.Positions.{cardsOf, seenOf, roundOne, roundTwo, initial, with-card, with-action}
+use Rattle.leduc_positions.specs.Positions.{position-checks, in-playOf, legal-of, payoff-of, saved-checks, mark}
 use Rattle.leduc_positions.specs.declared.LeducState.{LeducState}
 use Rattle.leduc.specs.declared.Moved.{Moved}
 use Rattle.leduc.specs.declared.Written.{Written}
@@ -43,7 +44,8 @@ started = record { refusal = Refusals.accepted; state = initial }
 
 -- deal: the card of an outcome is the one that stands there among those left
 abbrev pub deal-checks : LeducState → ℕ → List Check
-deal-checks s k = (not (and (due (cardsOf s) (s .public) (roundOne s) (roundTwo s)) (ltb k (length (remaining (seenOf s))))) refuses Refusals.unfit) ∷ []
+deal-checks s k =
+    (not (and (due (cardsOf s) (s .public) (roundOne s) (roundTwo s)) (ltb k (length (remaining (seenOf s))))) refuses Refusals.unfit) ∷ []
 
 unfoldable pub deal-refusal : LeducState → ℕ → ℕ
 deal-refusal s k = first (position-checks s ++ deal-checks s k)

@@ -20,14 +20,18 @@ pub record Sized (s : LeducState) : Type 0 where
 -- number 19: the test of a position says whether no length is above its part of the array and legal moves reach it
 abbrev pub Reachable-by-moves : Type 0
 Reachable-by-moves = (s : LeducState)
-    → (reachable s ≡ true) ↔ ((s .dealt ≤ 2) × (s .acted1 ≤ 4) × (s .acted2 ≤ 4) × Reached (cardsOf s) (s .public) (roundOne s) (roundTwo s))
+    → (reachable s ≡ true)
+    ↔ ((s .dealt ≤ 2) × (s .acted1 ≤ 4) × (s .acted2 ≤ 4) × Reached (cardsOf s) (s .public) (roundOne s) (roundTwo s))
 
--- the saved-position check accepts exactly the reachable positions with both cards dealt and no card due, whose mark says whether the hand has ended
+-- the saved-position check accepts exactly the reachable positions with both cards dealt and no card due,
+-- whose mark says whether the hand has ended
 abbrev pub Saved-accepts : Type 0
 Saved-accepts = (s : LeducState) (m : ℕ) → Sized s
     → (saved-refusal s m ≡ 0)
-    ↔ ((s .dealt ≡ 2) × (reachable s ≡ true) × (due (cardsOf s) (s .public) (roundOne s) (roundTwo s) ≡ false) × (m ≡ mark (ended (roundOne s) (roundTwo s))))
+    ↔ ((s .dealt ≡ 2) × (reachable s ≡ true) × (due (cardsOf s) (s .public) (roundOne s) (roundTwo s) ≡ false)
+    × (m ≡ mark (ended (roundOne s) (roundTwo s))))
 
 -- a reachable position that waits for its public card is no saved one: it is refused with 16, whatever its mark
 abbrev pub Waiting-refused : Type 0
-Waiting-refused = (s : LeducState) (m : ℕ) → Sized s → reachable s ≡ true → s .dealt ≡ 2 → public-due (s .public) (roundOne s) (roundTwo s) ≡ true → saved-refusal s m ≡ Refusals.no-public
+Waiting-refused = (s : LeducState) (m : ℕ) → Sized s → reachable s ≡ true → s .dealt ≡ 2
+    → public-due (s .public) (roundOne s) (roundTwo s) ≡ true → saved-refusal s m ≡ Refusals.no-public

@@ -50,7 +50,8 @@ fn key_head(state: LeducState, agent: usize) -> [u8; 4]
 
 // The key of a seat: its number, its card, the public card, and each round's length and actions.
 pub fn write_key(state: LeducState, agent: usize, out: &mut [u8])
-    requires { ⌜ (agent < state .dealt) × (state .dealt ≤ 2) × (state .acted1 ≤ 4) × (state .acted2 ≤ 4) × (5 + state .acted1 + state .acted2 ≤ length (now out)) ⌝ }
+    requires { ⌜ (agent < state .dealt) × (state .dealt ≤ 2) × (state .acted1 ≤ 4) × (state .acted2 ≤ 4)
+        × (5 + state .acted1 + state .acted2 ≤ length (now out)) ⌝ }
     ensures { λ r. ⌜ now (out .exit) ≡ written 0 (key-of state agent) (now (out .entry)) ⌝ }
 {
     let acted1 = state.acted1;

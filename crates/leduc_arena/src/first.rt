@@ -59,7 +59,8 @@ fn public(w: &mut [u64], at: usize, c: usize, d: usize, n: usize, paid: usize) -
     next
 }
 
-// Lays out FOLD, CALL and, while left raises may come, RAISE after a raise; below a RAISE left falls. The number of the history is n, and the seat has paid so much.
+// Lays out FOLD, CALL and, while left raises may come, RAISE after a raise;
+// below a RAISE left falls. The number of the history is n, and the seat has paid so much.
 fn raised(
     w: &mut [u64],
     at: usize,

@@ -87,7 +87,9 @@ unfoldable mutual
   agreesAll (cons t f) (cons u g) = and (agrees t u) (agreesAll f g)
 
 all-agree : agrees (leducTree ante raise₁ raise₂) dealsTree ≡ true
-unfolding agrees equal told same keyOf historyOf fan codeOf codeFrom numberFrom leducTree below next each and or some those has ends-with folded closes behind raises may options in-play turn ended left remaining public-due due key matched bet seated after-round contribution folds pairs beats wins payoff byteFor endTree raisedTree calledTree roundTree only rowTo join showdownFor secondTree publicTree firstTree dealTree
+unfolding agrees equal told same keyOf historyOf fan codeOf codeFrom numberFrom leducTree below next each and or some those has ends-with folded
+    closes behind raises may options in-play turn ended left remaining public-due due key matched bet seated after-round contribution folds pairs
+    beats wins payoff byteFor endTree raisedTree calledTree roundTree only rowTo join showdownFor secondTree publicTree firstTree dealTree
 all-agree = refl
 
 -- ---- what holds the one holds the other
@@ -149,7 +151,8 @@ mutual
   agrees-alike (chance f) (decide i l g) e = true≢false false e refl
   agrees-alike (decide j k f) (end q) e = true≢false false e refl
   agrees-alike (decide j k f) (chance g) e = true≢false false e refl
-  agrees-alike (decide j k f) (decide i l g) e = decide-alike j i k l f g (eqb-true _ _ (and-left _ _ e)) (eqb-true _ _ (and-left _ _ (and-right _ _ e))) (and-left _ _ (and-right _ _ (and-right _ _ e))) (all-alike f g (and-right _ _ (and-right _ _ (and-right _ _ e))))
+  agrees-alike (decide j k f) (decide i l g) e = decide-alike j i k l f g (eqb-true _ _ (and-left _ _ e)) (eqb-true _ _ (and-left _ _
+      (and-right _ _ e))) (and-left _ _ (and-right _ _ (and-right _ _ e))) (all-alike f g (and-right _ _ (and-right _ _ (and-right _ _ e))))
 
   all-alike : (f g : Trees) → agreesAll f g ≡ true → AllAlike f g
   all-alike nil nil e = none-alike

@@ -137,7 +137,8 @@ module _ (k₀ k₁ base step inc : ℕ) (close : ℕ → ℕ → Tree) (j n x :
       last-fits zero e g = two-fit _ _ h i g
       last-fits (suc r) e g = absurd (omega arith)
 
-      pub lays-last : (r : ℕ) → r ≡ 0 → Room at w (size (raisedTree k₀ k₁ base step inc close r j n x)) → {y : List ℕ} {m : ℕ} → m ≡ n + base → Chosen at j 2 (cond (eqb j 0) k₀ k₁ + m) p u y → Built 2 plain at w y (raisedTree k₀ k₁ base step inc close r j n x) p
+      pub lays-last : (r : ℕ) → r ≡ 0 → Room at w (size (raisedTree k₀ k₁ base step inc close r j n x)) → {y : List ℕ} {m : ℕ} → m ≡ n + base
+          → Chosen at j 2 (cond (eqb j 0) k₀ k₁ + m) p u y → Built 2 plain at w y (raisedTree k₀ k₁ base step inc close r j n x) p
       unfolding raisedTree
       lays-last zero e g f c = lays-two _ _ h i g (rw f at c)
       lays-last (suc r) e g f c = absurd (omega arith)
@@ -149,12 +150,15 @@ module _ (k₀ k₁ base step inc : ℕ) (close : ℕ → ℕ → Tree) (j n x :
 
       -- and its RAISE
       module _ {z : List ℕ} {o : ℕ} where
-        pub again-fits : (r : ℕ) → 0 < r → Room at w (size (raisedTree k₀ k₁ base step inc close r j n x)) → Built 2 plain p u z (raisedTree k₀ k₁ base step inc close (r - 1) (1 - j) (2 * n + 2 * step) (x + inc)) o → (o < 2097152) × (at < length z)
+        pub again-fits : (r : ℕ) → 0 < r → Room at w (size (raisedTree k₀ k₁ base step inc close r j n x)) → Built 2 plain p u z
+            (raisedTree k₀ k₁ base step inc close (r - 1) (1 - j) (2 * n + 2 * step) (x + inc)) o → (o < 2097152) × (at < length z)
         unfolding raisedTree
         again-fits zero l g b = absurd (omega arith)
         again-fits (suc r) l g b = let e : suc r - 1 ≡ r = omega arith in three-fit _ _ h i (rw e at b) g
 
-        pub lays-again : (r : ℕ) → 0 < r → Room at w (size (raisedTree k₀ k₁ base step inc close r j n x)) → Built 2 plain p u z (raisedTree k₀ k₁ base step inc close (r - 1) (1 - j) (2 * n + 2 * step) (x + inc)) o → {y : List ℕ} {m : ℕ} → m ≡ n + base → Chosen at j 3 (cond (eqb j 0) k₀ k₁ + m) o z y → Built 2 plain at w y (raisedTree k₀ k₁ base step inc close r j n x) o
+        pub lays-again : (r : ℕ) → 0 < r → Room at w (size (raisedTree k₀ k₁ base step inc close r j n x))
+            → Built 2 plain p u z (raisedTree k₀ k₁ base step inc close (r - 1) (1 - j) (2 * n + 2 * step) (x + inc)) o → {y : List ℕ} {m : ℕ}
+            → m ≡ n + base → Chosen at j 3 (cond (eqb j 0) k₀ k₁ + m) o z y → Built 2 plain at w y (raisedTree k₀ k₁ base step inc close r j n x) o
         unfolding raisedTree
         lays-again zero l g b f c = absurd (omega arith)
         lays-again (suc r) l g b f c = let e : suc r - 1 ≡ r = omega arith in lays-three _ _ h i (rw e at b) g (rw f at c)

@@ -25,6 +25,7 @@ unfoldable pub codeOf : ℕ → Key → ℕ
 unfolding codeFrom
 codeOf j k = codeFrom (getD k 1 0) (getD k 2 0) (take (getD k 3 0) (drop 4 k)) (drop (5 + getD k 3 0) k)
 
--- all codes are below it: histories of a first round below 22, of a second round in play below 11, the public card below 7, the own card below 6
+-- all codes are below it: histories of a first round below 22,
+-- of a second round in play below 11, the public card below 7, the own card below 6
 abbrev pub codes : ℕ
 codes = 10164

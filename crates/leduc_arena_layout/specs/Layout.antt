@@ -1,4 +1,5 @@
--- Leduc's tree as the builder writes it: a decision's key is its code, and an end's payoffs are its bytes. Definitions only; nothing is assumed.
+-- Leduc's tree as the builder writes it: a decision's key is its code, and an end's payoffs are its bytes.
+-- Definitions only; nothing is assumed.
 use mathlib.Core.Bool.{Bool, true, false, not, cond}
 use mathlib.Core.Path.{_≡_}
 use mathlib.Core.List.{List, [], _∷_}
@@ -34,7 +35,8 @@ module _ (k₀ k₁ base step size : ℕ) (close : ℕ → ℕ → Tree) where
   unfoldable pub raisedTree : (r j n x : ℕ) → Tree
   unfolding endTree
   raisedTree zero j n x = acts j n (cons (endTree (2 * j) x) (cons (close (2 * n + step) (x + size)) nil))
-  raisedTree (suc r) j n x = acts j n (cons (endTree (2 * j) x) (cons (close (2 * n + step) (x + size)) (cons (raisedTree r (1 - j) (2 * n + 2 * step) (x + size)) nil)))
+  raisedTree (suc r) j n x = acts j n
+      (cons (endTree (2 * j) x) (cons (close (2 * n + step) (x + size)) (cons (raisedTree r (1 - j) (2 * n + 2 * step) (x + size)) nil)))
 
   -- after a CALL of seat 0 CALL or RAISE; a round has at most two raises
   unfoldable pub calledTree : ℕ → Tree
@@ -59,7 +61,8 @@ rowTo p g (suc n) = join (rowTo p g n) (only (p n) g n)
 
 -- how the showdown goes for seat 0, by the cards of the seats and the public card: a pair wins, else the higher rank
 unfoldable pub showdownFor : (c d p : ℕ) → ℕ
-showdownFor c d p = cond (eqb (c / 2) (p / 2)) 2 (cond (eqb (d / 2) (p / 2)) 0 (cond (ltb (c / 2) (d / 2)) 0 (cond (ltb (d / 2) (c / 2)) 2 1)))
+showdownFor c d p =
+    cond (eqb (c / 2) (p / 2)) 2 (cond (eqb (d / 2) (p / 2)) 0 (cond (ltb (c / 2) (d / 2)) 0 (cond (ltb (d / 2) (c / 2)) 2 1)))
 
 -- round 2: n is the number of round 1's history, times 462, x what each seat has paid, p the public card
 unfoldable pub secondTree : (c d n x p : ℕ) → Tree

@@ -42,7 +42,8 @@ pub fn showdown(c: usize, d: usize, p: usize) -> usize
     TIE
 }
 
-// Lays out FOLD, CALL and, while left raises may come, RAISE after a raise; below a RAISE left falls. The number of the history is n, and the seat has paid so much.
+// Lays out FOLD, CALL and, while left raises may come, RAISE after a raise;
+// below a RAISE left falls. The number of the history is n, and the seat has paid so much.
 fn raised(
     w: &mut [u64],
     at: usize,

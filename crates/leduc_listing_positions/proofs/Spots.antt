@@ -111,7 +111,8 @@ card-to-seat q cards at c l w e = ap (λ cs. record { cards = cs; public = q .pu
 
 -- the public card
 pub card-for-all : (q : Position) (c : ℕ) → 2 ≤ length (q .cards) → record { cards = q .cards; public = Card c; first = q .first; second = q .second } ≡ dealt q c
-card-for-all q c l = ap (λ b. cond b (record { cards = q .cards ++ (c ∷ []); public = q .public; first = q .first; second = q .second }) (record { cards = q .cards; public = Card c; first = q .first; second = q .second })) (sym (le-ltb (length (q .cards)) 2 l))
+card-for-all q c l = ap (λ b. cond b (record { cards = q .cards ++ (c ∷ []); public = q .public; first = q .first; second = q .second })
+    (record { cards = q .cards; public = Card c; first = q .first; second = q .second })) (sym (le-ltb (length (q .cards)) 2 l))
 
 -- an action
 pub action-in-second : (q : Position) (h : List ℕ) (at a : ℕ) → closes (q .first) ≡ true → at < length h → q .second ≡ take at h

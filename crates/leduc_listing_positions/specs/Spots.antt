@@ -6,7 +6,12 @@ use Rattle.leduc_listing_positions.specs.declared.Spot.{Spot}
 
 -- the position that a spot of the code holds
 abbrev pub placed : Spot → Position
-placed s = record { cards = take (s .dealt) (s .cards); public = s .public; first = take (s .acted1) (s .first); second = take (s .acted2) (s .second) }
+placed s = record {
+  cards = take (s .dealt) (s .cards);
+  public = s .public;
+  first = take (s .acted1) (s .first);
+  second = take (s .acted2) (s .second);
+}
 
 -- how many cards and actions it holds, but for the public card
 abbrev pub made : Spot → ℕ

@@ -164,7 +164,8 @@ pub struct Gains {
 
 pub fn settled(cards: [u8; 2], public: Public, round1: &[u8], round2: &[u8]) -> Gains
     requires { ⌜ (length (now round1) ≤ 4) × (length (now round2) ≤ 4) ⌝ }
-    ensures { λ r. ⌜ (r .zero ≡ payoff ante raise₁ raise₂ cards public (now (round1 .entry)) (now (round2 .entry)) 0) × (r .one ≡ payoff ante raise₁ raise₂ cards public (now (round1 .entry)) (now (round2 .entry)) 1) ⌝ }
+    ensures { λ r. ⌜ (r .zero ≡ payoff ante raise₁ raise₂ cards public (now (round1 .entry)) (now (round2 .entry)) 0)
+        × (r .one ≡ payoff ante raise₁ raise₂ cards public (now (round1 .entry)) (now (round2 .entry)) 1) ⌝ }
 {
     let pot = contributions(round1, round2);
     let first = is_winner(cards, public, round1, round2, 0, 1);

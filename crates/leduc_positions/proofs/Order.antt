@@ -67,4 +67,9 @@ saved-second s e = passes-rest (round-checks false false (s .acted1) (roundOne s
 -- a position that passes numbers 10 to 17 holds no round that is too long
 pub saved-short : (s : LeducState) → first (saved-checks s) ≡ 0 → (s .acted1 ≤ 4) × (s .acted2 ≤ 4)
 saved-short s e =
-    (fits-length (s .acted1) (roundOne s) (fails-first (malformed (s .acted1) (roundOne s)) 12 (action-checks false false [] (roundOne s) ++ second-checks (hidden (s .public)) (s .acted2) (roundOne s) (roundTwo s)) (saved-rounds s e)), fits-length (s .acted2) (roundTwo s) (fails-first (malformed (s .acted2) (roundTwo s)) 12 (action-checks (barred-by (roundOne s)) (hidden (s .public)) [] (roundTwo s) ++ public-checks (hidden (s .public)) (roundOne s) (roundTwo s)) (saved-second s e)))
+    let one = fails-first (malformed s.acted1 (roundOne s)) 12
+    (action-checks false false [] (roundOne s) ++ second-checks (hidden s.public) s.acted2 (roundOne s) (roundTwo s)) (saved-rounds s e) in
+    let two = fails-first (malformed s.acted2 (roundTwo s)) 12
+    (action-checks (barred-by (roundOne s)) (hidden s.public) [] (roundTwo s) ++ public-checks (hidden s.public) (roundOne s) (roundTwo s))
+    (saved-second s e) in
+    (fits-length s.acted1 (roundOne s) one, fits-length s.acted2 (roundTwo s) two)

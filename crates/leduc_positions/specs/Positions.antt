@@ -38,20 +38,42 @@ initial = record { cards = replicate 2 0; dealt = 0; public = Hidden; history = 
 
 -- one card more: a seat's, or the public one once both have theirs
 abbrev pub with-private : LeducState → ℕ → LeducState
-with-private s c = record { cards = set (s .cards) (s .dealt) c; dealt = s .dealt + 1; public = s .public; history = s .history; acted1 = s .acted1; acted2 = s .acted2 }
+with-private s c = record {
+  cards = set (s .cards) (s .dealt) c;
+  dealt = s .dealt + 1;
+  public = s .public;
+  history = s .history;
+  acted1 = s .acted1;
+  acted2 = s .acted2;
+}
 
 abbrev pub with-public : LeducState → ℕ → LeducState
-with-public s c = record { cards = s .cards; dealt = s .dealt; public = Card c; history = s .history; acted1 = s .acted1; acted2 = s .acted2 }
+with-public s c =
+    record { cards = s .cards; dealt = s .dealt; public = Card c; history = s .history; acted1 = s .acted1; acted2 = s .acted2 }
 
 abbrev pub with-card : LeducState → ℕ → LeducState
 with-card s c = cond (ltb (s .dealt) 2) (with-private s c) (with-public s c)
 
 -- one action more: of round 1, or of round 2 once round 1 has closed
 abbrev pub with-first : LeducState → ℕ → LeducState
-with-first s a = record { cards = s .cards; dealt = s .dealt; public = s .public; history = set (s .history) (s .acted1) a; acted1 = s .acted1 + 1; acted2 = s .acted2 }
+with-first s a = record {
+  cards = s .cards;
+  dealt = s .dealt;
+  public = s .public;
+  history = set (s .history) (s .acted1) a;
+  acted1 = s .acted1 + 1;
+  acted2 = s .acted2;
+}
 
 abbrev pub with-second : LeducState → ℕ → LeducState
-with-second s a = record { cards = s .cards; dealt = s .dealt; public = s .public; history = set (s .history) (4 + s .acted2) a; acted1 = s .acted1; acted2 = s .acted2 + 1 }
+with-second s a = record {
+  cards = s .cards;
+  dealt = s .dealt;
+  public = s .public;
+  history = set (s .history) (4 + s .acted2) a;
+  acted1 = s .acted1;
+  acted2 = s .acted2 + 1;
+}
 
 abbrev pub with-action : LeducState → ℕ → LeducState
 with-action s a = cond (closes (roundOne s)) (with-second s a) (with-first s a)

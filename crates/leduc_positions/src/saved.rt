@@ -14,7 +14,9 @@ ghost use Rattle.leduc_positions.specs.Positions.{roundOne, roundTwo, sa
 
 // Numbers 13 to 17, of both rounds.
 fn rounds_refusal(state: LeducState) -> u64
-    ensures { λ r. ⌜ r ≡ first (round-checks false false (state .acted1) (roundOne state) ++ (round-checks (barred-by (roundOne state)) (hidden (state .public)) (state .acted2) (roundTwo state) ++ public-checks (hidden (state .public)) (roundOne state) (roundTwo state))) ⌝ }
+    ensures { λ r. ⌜ r ≡ first (round-checks false false (state .acted1) (roundOne state)
+        ++ (round-checks (barred-by (roundOne state)) (hidden (state .public)) (state .acted2) (roundTwo state)
+        ++ public-checks (hidden (state .public)) (roundOne state) (roundTwo state))) ⌝ }
 {
     let acted1 = state.acted1;
     let acted2 = state.acted2;

@@ -21,7 +21,8 @@ ghost use lib.ListN.{getD, take};
 ghost use Rattle.leduc_betting.specs.Betting.{closes, ended, counted};
 ghost use Rattle.leduc_betting.specs.Cards.{remaining};
 ghost use Rattle.leduc_rules.specs.Rules.{due, live};
-ghost use Rattle.leduc_positions.specs.Positions.{reachable, cardsOf, seenOf, roundOne, roundTwo, in-playOf, legal-of, with-card, with-action, payoff-of, mark};
+ghost use Rattle.leduc_positions.specs.Positions.{reachable, cardsOf, seenOf, roundOne, roundTwo, in-playOf};
+ghost use Rattle.leduc_positions.specs.Positions.{legal-of, with-card, with-action, payoff-of, mark};
 
 // Whether a position can be reached from the start by legal moves.
 pub fn is_reachable(state: LeducState) -> bool

@@ -112,7 +112,8 @@ seat-paid : (n : ℕ) (q : Pot) → (of-seat (n % 2) (seated n q) ≡ q .acting)
 unfolding seated
 seat-paid n q = go (tested (eqb (n % 2) 0))
   where
-    go : Tested (eqb (n % 2) 0) → (of-seat (n % 2) (cond (eqb (n % 2) 0) q (record { acting = q .other; other = q .acting })) ≡ q .acting) × (of-seat (1 - n % 2) (cond (eqb (n % 2) 0) q (record { acting = q .other; other = q .acting })) ≡ q .other)
+    go : Tested (eqb (n % 2) 0) → (of-seat (n % 2) (cond (eqb (n % 2) 0) q (record { acting = q .other; other = q .acting })) ≡ q .acting)
+        × (of-seat (1 - n % 2) (cond (eqb (n % 2) 0) q (record { acting = q .other; other = q .acting })) ≡ q .other)
     go (holds e) =
         let z : n % 2 ≡ 0 = eqb-true (n % 2) 0 e in
         (rw z, rw z)

@@ -1,4 +1,5 @@
--- What holds of Leduc's rules, proved in proofs/Facts.antt. cs are the seats' cards, p the public card, h₁ and h₂ the histories of the rounds.
+-- What holds of Leduc's rules, proved in proofs/Facts.antt.
+-- cs are the seats' cards, p the public card, h₁ and h₂ the histories of the rounds.
 use mathlib.Core.Path.{_≡_}
 use mathlib.Core.Bool.{Bool, true, false}
 use mathlib.Core.List.{List, [], _∷_}
@@ -24,8 +25,10 @@ Zero-sum = (ante raise₁ raise₂ : ℕ) (cs : List ℕ) (p : Public) (h₁ h�
 
 -- the seat to act is behind exactly when it has paid less than the other, at all positive stakes
 abbrev pub Behind-pays-less : Type 0
-Behind-pays-less = (ante raise₁ raise₂ : ℕ) → 0 < raise₁ → 0 < raise₂ → (cs : List ℕ) (p : Public) (h₁ h₂ : List ℕ) → Reached cs p h₁ h₂ → live cs p h₁ h₂ ≡ true
-    → behind (in-play h₁ h₂) ≡ ltb (contribution ante raise₁ raise₂ h₁ h₂ (turn h₁ h₂)) (contribution ante raise₁ raise₂ h₁ h₂ (1 - turn h₁ h₂))
+Behind-pays-less = (ante raise₁ raise₂ : ℕ) → 0 < raise₁ → 0 < raise₂ → (cs : List ℕ) (p : Public) (h₁ h₂ : List ℕ)
+    → Reached cs p h₁ h₂ → live cs p h₁ h₂ ≡ true
+    → behind (in-play h₁ h₂) ≡ ltb (contribution ante raise₁ raise₂ h₁ h₂ (turn h₁ h₂))
+    (contribution ante raise₁ raise₂ h₁ h₂ (1 - turn h₁ h₂))
 
 -- the cards left are listed in ascending order,
 abbrev pub Ascending : Type 0
@@ -52,12 +55,16 @@ Key-tells = (cs cs′ : List ℕ) (p p′ : Public) (h₁ h₁′ h₂ h₂′ :
 -- and so every earlier key of the seat, in round 2 and in round 1
 abbrev pub Key-recalls : Type 0
 Key-recalls = (cs cs′ : List ℕ) (p p′ : Public) (h₁ h₁′ h₂ h₂′ : List ℕ) (s s′ : ℕ) → key cs p h₁ h₂ s ≡ key cs′ p′ h₁′ h₂′ s′
-    → (k : ℕ) → (key cs p h₁ (take k h₂) s ≡ key cs′ p′ h₁′ (take k h₂′) s′) × (key cs Hidden (take k h₁) [] s ≡ key cs′ Hidden (take k h₁′) [] s′)
+    → (k : ℕ) → (key cs p h₁ (take k h₂) s ≡ key cs′ p′ h₁′ (take k h₂′) s′)
+    × (key cs Hidden (take k h₁) [] s ≡ key cs′ Hidden (take k h₁′) [] s′)
 
 -- where legal moves lead, what a key shows of the public card tells that card, and whether it lies there
 abbrev pub Public-told : Type 0
-Public-told = (cs cs′ : List ℕ) (p p′ : Public) (h₁ h₁′ h₂ h₂′ : List ℕ) → Reached cs p h₁ h₂ → Reached cs′ p′ h₁′ h₂′ → shown-public p ≡ shown-public p′ → p ≡ p′
+Public-told = (cs cs′ : List ℕ) (p p′ : Public) (h₁ h₁′ h₂ h₂′ : List ℕ) → Reached cs p h₁ h₂ → Reached cs′ p′ h₁′ h₂′
+    → shown-public p ≡ shown-public p′ → p ≡ p′
 
--- once the histories are well formed (13), an action of round 2 before round 1 has closed is refused with 14, whatever it is; so that error has no number of its own
+-- once the histories are well formed (13), an action of round 2 before round 1 has closed is refused with 14, whatever it is;
+-- so that error has no number of its own
 abbrev pub Second-too-early : Type 0
-Second-too-early = (blind : Bool) (h₁ h : List ℕ) (a : ℕ) → closes h₁ ≡ false → first (action-checks (barred-by h₁) blind [] (a ∷ h)) ≡ Refusals.closed
+Second-too-early = (blind : Bool) (h₁ h : List ℕ) (a : ℕ) → closes h₁ ≡ false
+    → first (action-checks (barred-by h₁) blind [] (a ∷ h)) ≡ Refusals.closed

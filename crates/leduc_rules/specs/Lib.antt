@@ -1,4 +1,5 @@
--- Leduc hold'em (document 01, "The two games"; Southey et al. 2005): the deal, the keys and the money, and the positions that the rules reach.
+-- Leduc hold'em (document 01, "The two games"; Southey et al. 2005):
+-- the deal, the keys and the money, and the positions that the rules reach.
 pub mod Rules
 pub mod Stakes
 pub mod Reached

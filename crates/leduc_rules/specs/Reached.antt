@@ -12,13 +12,18 @@ use Rattle.leduc_rules.specs.Rules.{public-due, live}
 use Rattle.leduc_betting.specs.declared.Public.{Public}
 use Rattle.leduc_betting.specs.declared.Public.the-variants.{Hidden, Card}
 
--- the start; a card for a seat that has none; the public card, when it is due; a legal action of round 1, and of round 2 once round 1 has closed
+-- the start; a card for a seat that has none; the public card, when it is due;
+-- a legal action of round 1, and of round 2 once round 1 has closed
 pub data Reached : List ℕ → Public → List ℕ → List ℕ → Type 0 where
   start : Reached [] Hidden [] []
-  deal : {cs h₁ h₂ : List ℕ} {p : Public} (c : ℕ) → Reached cs p h₁ h₂ → ltb (length cs) 2 ≡ true → left (seen cs p) c ≡ true → Reached (cs ++ (c ∷ [])) p h₁ h₂
-  reveal : {cs h₁ h₂ : List ℕ} {p : Public} (c : ℕ) → Reached cs p h₁ h₂ → public-due p h₁ h₂ ≡ true → left (seen cs p) c ≡ true → Reached cs (Card c) h₁ h₂
-  act₁ : {cs h₁ h₂ : List ℕ} {p : Public} (a : ℕ) → Reached cs p h₁ h₂ → live cs p h₁ h₂ ≡ true → closes h₁ ≡ false → may h₁ a ≡ true → Reached cs p (h₁ ++ (a ∷ [])) h₂
-  act₂ : {cs h₁ h₂ : List ℕ} {p : Public} (a : ℕ) → Reached cs p h₁ h₂ → live cs p h₁ h₂ ≡ true → closes h₁ ≡ true → may h₂ a ≡ true → Reached cs p h₁ (h₂ ++ (a ∷ []))
+  deal : {cs h₁ h₂ : List ℕ} {p : Public} (c : ℕ) → Reached cs p h₁ h₂ → ltb (length cs) 2 ≡ true → left (seen cs p) c ≡ true
+      → Reached (cs ++ (c ∷ [])) p h₁ h₂
+  reveal : {cs h₁ h₂ : List ℕ} {p : Public} (c : ℕ) → Reached cs p h₁ h₂ → public-due p h₁ h₂ ≡ true → left (seen cs p) c ≡ true
+      → Reached cs (Card c) h₁ h₂
+  act₁ : {cs h₁ h₂ : List ℕ} {p : Public} (a : ℕ) → Reached cs p h₁ h₂ → live cs p h₁ h₂ ≡ true → closes h₁ ≡ false → may h₁ a ≡ true
+      → Reached cs p (h₁ ++ (a ∷ [])) h₂
+  act₂ : {cs h₁ h₂ : List ℕ} {p : Public} (a : ℕ) → Reached cs p h₁ h₂ → live cs p h₁ h₂ ≡ true → closes h₁ ≡ true → may h₂ a ≡ true
+      → Reached cs p h₁ (h₂ ++ (a ∷ []))
 
 -- the cards are of the deck and differ; no seat has acted before both have a card; both rounds were played by the rules;
 -- the public card lies there only once round 1 has closed, and no action of round 2 without it

@@ -44,7 +44,9 @@ pub fn cards_fit(cards: [u8; 2], dealt: usize, public: Public) -> bool
 
 // Whether the actions of both rounds can have been made by the rules, with both cards dealt or not and the public card there or not.
 pub fn rounds_fit(round1: &[u8], round2: &[u8], full: bool, blind: bool) -> bool
-    ensures { λ r. ⌜ r ≡ and (or full (eqb (length (now (round1 .entry))) 0)) (and (played [] (now (round1 .entry))) (and (played [] (now (round2 .entry))) (and (or blind (closes (now (round1 .entry)))) (or (not blind) (eqb (length (now (round2 .entry))) 0))))) ⌝ }
+    ensures { λ r. ⌜ r ≡ and (or full (eqb (length (now (round1 .entry))) 0))
+        (and (played [] (now (round1 .entry))) (and (played [] (now (round2 .entry)))
+        (and (or blind (closes (now (round1 .entry)))) (or (not blind) (eqb (length (now (round2 .entry))) 0))))) ⌝ }
 {
     if early(full, round1.len()) {
         return false;

@@ -86,7 +86,8 @@ fn is_waiting(round1: &[u8], round2: &[u8]) -> bool
 // Numbers 13 to 17, of round 2 and the public card, after round 1.
 pub fn second_refusal(round1: &[u8], round2: &[u8], blind: bool) -> u64
     requires { ⌜ length (now round2) ≤ 4 ⌝ }
-    ensures { λ r. ⌜ r ≡ first (round-checks (barred-by (now (round1 .entry))) blind (length (now (round2 .entry))) (now (round2 .entry)) ++ public-checks blind (now (round1 .entry)) (now (round2 .entry))) ⌝ }
+    ensures { λ r. ⌜ r ≡ first (round-checks (barred-by (now (round1 .entry))) blind (length (now (round2 .entry))) (now (round2 .entry))
+        ++ public-checks blind (now (round1 .entry)) (now (round2 .entry))) ⌝ }
 {
     let r = history_refusal(round2, is_barred(round1), blind);
     if r != refusals::ACCEPTED {

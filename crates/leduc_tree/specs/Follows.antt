@@ -20,7 +20,8 @@ acts q = live (q .cards) (q .public) (q .first) (q .second)
 abbrev pub afterLegal : Position → List Position
 afterLegal q = map (acted q) (legal (q .cards) (q .public) (q .first) (q .second) (actor q))
 
--- each node stands for a reachable position: an end where the hand has ended, with its payoffs; a chance node where a card is due; a decision where a seat acts, with its key
+-- each node stands for a reachable position: an end where the hand has ended, with its payoffs;
+-- a chance node where a card is due; a decision where a seat acts, with its key
 module _ (ante raise₁ raise₂ : ℕ) where
   unfoldable mutual
     pub Follows : Tree → Position → Type 0

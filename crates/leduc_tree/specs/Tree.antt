@@ -1,4 +1,5 @@
--- Leduc's tree: a child for each card left, ascending, or for each legal action in legal order; ends carry the payoffs (document 01, "The tree and its sets").
+-- Leduc's tree: a child for each card left, ascending, or for each legal action in legal order;
+-- ends carry the payoffs (document 01, "The tree and its sets").
 -- Definitions only; nothing is assumed.
 use mathlib.Core.Bool.{Bool, cond}
 use mathlib.Core.List.{List, [], _∷_, _++_, map}

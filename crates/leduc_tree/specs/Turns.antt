@@ -1,4 +1,5 @@
--- The positions at which a seat acts, in the order of their nodes, and which of them are the first of their set. Definitions only; nothing is assumed.
+-- The positions at which a seat acts, in the order of their nodes, and which of them are the first of their set.
+-- Definitions only; nothing is assumed.
 use mathlib.Core.Bool.{Bool, cond}
 use mathlib.Core.List.{List, [], _∷_, _++_, map}
 use Prim.Native.Nat.{ℕ, zero, suc, _-_}
@@ -6,7 +7,8 @@ use lib.Dec.{eqb}
 use lib.ListN.{length, getD}
 use Rattle.game_tree.specs.Sets.{Decision}
 use Rattle.leduc_betting.specs.Cards.{seen, remaining}
-use Rattle.leduc_tree.specs.Tree.{Position, start, actor, choices, key, afterDeal, afterAction, Next, card, action, nothing, next, fuel}
+use Rattle.leduc_tree.specs.Tree.{Position, start, actor, choices, key, afterDeal}
+use Rattle.leduc_tree.specs.Tree.{afterAction, Next, card, action, nothing, next, fuel}
 
 -- the lists of g, one after another
 unfoldable pub joined : List Position → (Position → List Position) → List Position

@@ -38,7 +38,8 @@ checked u t = and (eqb (size t) 9457) (and (hands-fit u t) (and (regular t) (rec
 
 module _ (ante raise₁ raise₂ : ℕ) where
   is-checked : checked (hand ante raise₁ raise₂ (withCards 0 1)) (leducTree ante raise₁ raise₂) ≡ true
-  unfolding checked size hands-fit shaped hand regular keyed recalled splits every heights levels recall actionsOf depthOf levelOf past leducTree below next each and or some those has ends-with folded closes behind raises may options in-play turn ended left remaining public-due due key
+  unfolding checked size hands-fit shaped hand regular keyed recalled splits every heights levels recall actionsOf depthOf levelOf past leducTree
+      below next each and or some those has ends-with folded closes behind raises may options in-play turn ended left remaining public-due due key
   is-checked = refl
 
   pub node-count : size (leducTree ante raise₁ raise₂) ≡ 9457

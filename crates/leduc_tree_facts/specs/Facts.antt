@@ -1,5 +1,7 @@
--- The counts of Leduc's tree, what the reply theorem asks of it, and what it says, statement by statement (document 01, "The tree and its sets" and "Whole units"). Each is proved in
--- proofs/Facts.antt, which assumes nothing. Throughout: any ante and raises; table a table with D parts in each set, i a seat, z a rival table.
+-- The counts of Leduc's tree, what the reply theorem asks of it, and what it says,
+-- statement by statement (document 01, "The tree and its sets" and "Whole units"). Each is proved in
+-- proofs/Facts.antt, which assumes nothing. Throughout: any ante and raises;
+-- table a table with D parts in each set, i a seat, z a rival table.
 use mathlib.Core.Path.{_≡_}
 use mathlib.Core.Bool.{true}
 use mathlib.Core.List.{[], _∷_}
@@ -52,7 +54,8 @@ units D = U C D m
 
 abbrev pub ReplyBest : Type 0
 ReplyBest = (ante raise₁ raise₂ D i : ℕ) (table : Table) → i < 2 → 0 < D → ValidTable (leducTree ante raise₁ raise₂) D table
-    → BestReply (leducTree ante raise₁ raise₂) D (units D) i table (tableBest (leducTree ante raise₁ raise₂) D (units D) table i) (replyTable (leducTree ante raise₁ raise₂) D (units D) table i)
+    → BestReply (leducTree ante raise₁ raise₂) D (units D) i table (tableBest (leducTree ante raise₁ raise₂) D (units D) table i)
+    (replyTable (leducTree ante raise₁ raise₂) D (units D) table i)
 
 -- 5. The tree is the deal of a card to each seat, and below each deal a hand.
 abbrev pub DealsFirst : Type 0
@@ -62,4 +65,5 @@ DealsFirst = (ante raise₁ raise₂ : ℕ)
 -- The betting shape below every deal is the same, with 315 nodes.
 abbrev pub OneShape : Type 0
 OneShape = (ante raise₁ raise₂ c d : ℕ) → left [] c ≡ true → left (c ∷ []) d ≡ true
-    → (bare (hand ante raise₁ raise₂ (withCards c d)) ≡ bare (hand ante raise₁ raise₂ (withCards 0 1))) × (size (hand ante raise₁ raise₂ (withCards c d)) ≡ 315)
+    → (bare (hand ante raise₁ raise₂ (withCards c d)) ≡ bare (hand ante raise₁ raise₂ (withCards 0 1)))
+    × (size (hand ante raise₁ raise₂ (withCards c d)) ≡ 315)

@@ -1,4 +1,5 @@
--- The listing of a tree's sets (document 01, "The tree and its sets": "Listing writes 24 bytes per set"). Definitions only; nothing is assumed.
+-- The listing of a tree's sets (document 01, "The tree and its sets": "Listing writes 24 bytes per set").
+-- Definitions only; nothing is assumed.
 use mathlib.Core.List.{List, [], _∷_, _++_, map}
 use Prim.Native.Nat.{ℕ}
 use lib.ListN.{length, getD, take, replicate}

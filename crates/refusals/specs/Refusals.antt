@@ -1,4 +1,5 @@
 -- The refusal numbers by name, and the order of the checks (document 01, "What comes back when a call is refused").
+-- A number's comment is its sentence, up to a semicolon: the header, the library and docs/API.md have it word by word.
 use mathlib.Core.Bool.{Bool, true, false}
 use mathlib.Core.List.{List, [], _∷_}
 use Prim.Native.Nat.{ℕ}
@@ -7,7 +8,7 @@ use Prim.Native.Nat.{ℕ}
 abbrev pub accepted : ℕ
 accepted = 0
 
--- the game number is neither 0 (Kuhn) nor 1 (Leduc)
+-- the game is neither Kuhn nor Leduc; Kuhn has the number 0, Leduc 1
 abbrev pub game : ℕ
 game = 1
 
@@ -15,7 +16,7 @@ game = 1
 abbrev pub seats : ℕ
 seats = 2
 
--- a tree is needed and has more than 4,000,000 nodes, which is Kuhn with 7 to 10 seats
+-- the tree has more than 4,000,000 nodes, which is Kuhn with 7 to 10 seats; asked by calls that need a tree
 abbrev pub tree : ℕ
 tree = 3
 
@@ -23,7 +24,7 @@ tree = 3
 abbrev pub memory : ℕ
 memory = 4
 
--- the seat is not below the seat count, in a call that evaluates one seat
+-- the seat is not below the seat count; asked by calls that evaluate one seat
 abbrev pub seat : ℕ
 seat = 5
 
@@ -31,11 +32,11 @@ seat = 5
 abbrev pub parts : ℕ
 parts = 6
 
--- the table's length is not exactly the entry count
+-- the table's or profile's length is not exactly the entry count
 abbrev pub table : ℕ
 table = 7
 
--- in some set the parts, one byte each, do not add up to D
+-- in some set the parts do not add up to D; a part is one byte
 abbrev pub sum : ℕ
 sum = 8
 
@@ -55,7 +56,7 @@ card = 11
 abbrev pub card-twice : ℕ
 card-twice = 12
 
--- a history is too long (Kuhn above 2 × seats − 1, Leduc above 4 in a round) or holds an unknown action
+-- a history is too long or holds an unknown action; too long is above 2 × seats − 1 for Kuhn, above 4 in a round for Leduc
 abbrev pub history : ℕ
 history = 13
 
@@ -79,12 +80,12 @@ early-public = 17
 abbrev pub end-mark : ℕ
 end-mark = 18
 
--- a position handed to a rules call cannot be reached from the start by legal moves
+-- the position cannot be reached from the start by legal moves; asked of every position handed to a rules call
 abbrev pub unreachable : ℕ
 unreachable = 19
 
--- the call does not fit the position: a step where no seat acts, a deal where no card is due or whose outcome is not below the fan,
--- a key for a seat without a card, a payoff before the end
+-- the call does not fit the position; that is a step where no seat acts, a deal where no card is due or whose outcome is not below
+-- the fan, a key for a seat without a card, a payoff before the end
 abbrev pub unfit : ℕ
 unfit = 20
 

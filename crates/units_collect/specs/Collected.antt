@@ -17,18 +17,21 @@ pub record Storable (a u D b d : ℕ) : Type 0 where
   pub walk : Walkable a u D d
   pub base : b ≤ 8388608
 
--- the words below place b, where the tree stands, stay; whatever tree is read there at place a, its units are stored, from u, and no other word changes
+-- the words below place b, where the tree stands, stay;
+-- whatever tree is read there at place a, its units are stored, from u, and no other word changes
 pub record Collected (table : List ℕ) (D i b a u d : ℕ) (old new : List ℕ) : Type 0 where
   pub same : Alike b old new
   pub long : length new ≡ length old
-  pub is : (w : List ℕ) (n : ℕ) (T t : Tree) (l : ℕ → ℕ → Key → ℕ) → Alike b w old → Readable n T l w table D a d t → a + size t ≤ b → b + (a + size t) ≤ length old
+  pub is : (w : List ℕ) (n : ℕ) (T t : Tree) (l : ℕ → ℕ → Key → ℕ) → Alike b w old → Readable n T l w table D a d t → a + size t ≤ b
+      → b + (a + size t) ≤ length old
       → Stocked D (strategyOf T table) i b new a u t × Kept (b + a) (b + (a + size t)) old new
 
 -- the same of a row, where the child with number x has g x units, for each row and g of which R holds
 pub record CollectedAll (R : Tree → Trees → (ℕ → ℕ) → Type 0) (table : List ℕ) (D i b a d : ℕ) (old new : List ℕ) : Type 0 where
   pub same : Alike b old new
   pub long : length new ≡ length old
-  pub is : (w : List ℕ) (n : ℕ) (T : Tree) (f : Trees) (g : ℕ → ℕ) (l : ℕ → ℕ → Key → ℕ) → Alike b w old → ReadableAll n T l w table D a d f → R T f g → a + sizes f ≤ b
+  pub is : (w : List ℕ) (n : ℕ) (T : Tree) (f : Trees) (g : ℕ → ℕ) (l : ℕ → ℕ → Key → ℕ) → Alike b w old → ReadableAll n T l w table D a d f
+      → R T f g → a + sizes f ≤ b
       → b + (a + sizes f) ≤ length old → StockedAll D (strategyOf T table) i b new a g 0 f × Kept (b + a) (b + (a + sizes f)) old new
 
 -- a row that ends at place z, u units for each of its trees

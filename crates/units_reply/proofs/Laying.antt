@@ -86,7 +86,8 @@ module _ (table : Table) (x e i D h b k : ℕ) (old : List ℕ) (out written : L
 
       chosen : Noted (S .stage) new × (choice ≡ S .stage .choice y)
       chosen = C S m y (subst (λ j. Known (S .stage) j y n) own (subst (Known (S .stage) j y) (sym (c ∙ v)) g)) (l ∙ ap (λ j. firstEntry (S .stage .tree) j y) own)
-          (known-of (S .stage) (λ j y n. S .stage .levels j y ≤ 32) (levels-most (S .stage .tree) (S .stage .levels) 32 32 (NatL.le-refl 32) (S .stage .level)) i y n (subst (λ j. Known (S .stage) j y n) own (subst (Known (S .stage) j y) (sym (c ∙ v)) g)))
+          (known-of (S .stage) (λ j y n. S .stage .levels j y ≤ 32) (levels-most (S .stage .tree) (S .stage .levels) 32 32 (NatL.le-refl 32)
+          (S .stage .level)) i y n (subst (λ j. Known (S .stage) j y n) own (subst (Known (S .stage) j y) (sym (c ∙ v)) g)))
 
       at : (s : ℕ) → cond (eqb s choice) D 0 ≡ replied S j y s
       at s = ap (λ u. cond (eqb s u) D 0) (chosen .1) ∙ ap (λ u. cond (eqb s (S .stage .choice y)) u 0) (sym (t .parts))
@@ -185,7 +186,9 @@ module _ (table : Table) (count i D h b k : ℕ) (old out : List ℕ) where
             B ∙ sym (append-assoc done (d ∷ []) rest),
             ap (λ z. z + 1) C ∙ sym (length-append done (d ∷ [])),
             ap (λ z. e + z) (says .1) ∙ ap (λ z. z + d .2) E ∙ ap (λ z. entriesOf done + z) (sym (NatL.add-zero (d .2))) ∙ sym (entriesOf-append done (d ∷ [])),
-            laid .1 ∙ ap (λ z. sets z e (listed (d .2) (replied S (d .0) (d .1)))) F ∙ ap (λ z. sets (sets out 0 (laidOut done (replied S))) z (listed (d .2) (replied S (d .0) (d .1)))) (E ∙ sym (laidOut-length (replied S) done) ∙ sym (NatL.zero-add (length (laidOut done (replied S)))))
+            laid .1 ∙ ap (λ z. sets z e (listed (d .2) (replied S (d .0) (d .1))))
+                F ∙ ap (λ z. sets (sets out 0 (laidOut done (replied S))) z (listed (d .2) (replied S (d .0) (d .1))))
+                (E ∙ sym (laidOut-length (replied S) done) ∙ sym (NatL.zero-add (length (laidOut done (replied S)))))
                 ∙ sets-join out (laidOut done (replied S)) (listed (d .2) (replied S (d .0) (d .1))) 0 ∙ ap (λ z. sets out 0 (laidOut done (replied S) ++ z)) (sym (append-nil (listed (d .2) (replied S (d .0) (d .1))))) ∙ ap (sets out 0) (sym (laidOut-append (replied S) done (d ∷ []))),
           )
 

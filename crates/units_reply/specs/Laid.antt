@@ -27,9 +27,11 @@ module _ {i h b k : ℕ} (S : Scene i h b k) where
 
 -- the entries of a set are written from entry e on; x is the word of a member
 abbrev pub LaidSet : (table : Table) (x e i D h b k : ℕ) (old new out written : List ℕ) → Type 0
-LaidSet table x e i D h b k old new out written = (S : Scene i h b k) → Noted (S .stage) old → Tabled S table D → (j : ℕ) (y : Key) (n : ℕ) → Known (S .stage) j y n → e ≡ firstEntry (S .stage .tree) j y
+LaidSet table x e i D h b k old new out written = (S : Scene i h b k) → Noted (S .stage) old → Tabled S table D → (j : ℕ) (y : Key) (n : ℕ)
+    → Known (S .stage) j y n → e ≡ firstEntry (S .stage .tree) j y
     → actorOf x ≡ j → actionsOf x ≡ n → Noted (S .stage) new × (written ≡ sets out e (listed n (replied S j y)))
 
 -- the whole reply is, for so many sets
 abbrev pub Laid : (table : Table) (count i D h b k : ℕ) (old new out written : List ℕ) → Type 0
-Laid table count i D h b k old new out written = (S : Scene i h b k) → Noted (S .stage) old → Tabled S table D → count ≡ setCount (S .stage .tree) → Noted (S .stage) new × (written ≡ sets out 0 (tableOf (S .stage .tree) (replied S)))
+Laid table count i D h b k old new out written = (S : Scene i h b k) → Noted (S .stage) old → Tabled S table D
+    → count ≡ setCount (S .stage .tree) → Noted (S .stage) new × (written ≡ sets out 0 (tableOf (S .stage .tree) (replied S)))

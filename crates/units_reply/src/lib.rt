@@ -41,7 +41,8 @@ fn pure(a: usize, c: usize, d: usize) -> u8
 // Writes the first of three bytes from place at on, three of them or two.
 fn write(out: &mut [u8], at: usize, count: usize, x: u8, y: u8, z: u8)
     requires { ⌜ at ≤ 8388608 ⌝ }
-    ensures { λ _. ⌜ (count ≡ 2 → now (out .exit) ≡ sets (now (out .entry)) at (x ∷ y ∷ [])) × (count ≡ 3 → now (out .exit) ≡ sets (now (out .entry)) at (x ∷ y ∷ z ∷ [])) ⌝ }
+    ensures { λ _. ⌜ (count ≡ 2 → now (out .exit) ≡ sets (now (out .entry)) at (x ∷ y ∷ []))
+        × (count ≡ 3 → now (out .exit) ≡ sets (now (out .entry)) at (x ∷ y ∷ z ∷ [])) ⌝ }
 {
     put(out, at, x);
     put(out, at + 1, y);

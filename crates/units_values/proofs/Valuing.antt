@@ -55,7 +55,8 @@ module _ (i d h b k a : ℕ) (old : List ℕ) where
       pub value-chance : (kindOf x ≡ END → ⊥) → (kindOf x ≡ DECISION → ⊥) → ValuedAll i (d - 1) h b k (a + 1) (nextOf x) old new r → Valued i d h b k a old new r
       unfolding Held Says gain size
       value-chance z y v S m (end f) u lev le g = absurd (z (ap kindOf (says S m (end f) u lev g) ∙ g .stands .held .0))
-      value-chance z y v S m (chance f) u lev le g = v S m (λ j. u / fan f) f (pred lev) (omega arith) (subst (λ j. HereAll S (pred lev) j (λ j. u / fan f) 0 f) one (kids-chance S lev a u f g)) (ap nextOf (says S m (chance f) u lev g) ∙ g .stands .held .0 .1 ∙ omega arith)
+      value-chance z y v S m (chance f) u lev le g = v S m (λ j. u / fan f) f (pred lev) (omega arith) (subst (λ j. HereAll S (pred lev) j
+          (λ j. u / fan f) 0 f) one (kids-chance S lev a u f g)) (ap nextOf (says S m (chance f) u lev g) ∙ g .stands .held .0 .1 ∙ omega arith)
         where
           one : suc a ≡ a + 1
           one = omega arith
@@ -86,7 +87,8 @@ module _ (i d h b k a : ℕ) (old : List ℕ) where
               let o : Here S lev a u (decide i n f) = subst (λ y. Here S lev a u (decide y n f)) q g in
               let p : lev ≡ suc (pred lev) = omega (arith, levels-some (S .stage .levels) lev (decide i n f) (o .stands .level)) in
               subst (λ y. Noted (S .stage) new × (r ≡ gained S u (decide y n f) % 2 ^ 64)) (sym q)
-              (v S m n u (pred lev) f (omega arith) (ap setOf (says S m (decide i n f) u lev o) ∙ o .stands .held .0 .3) (ap actionsOf (says S m (decide i n f) u lev o) ∙ o .stands .held .0 .2) (subst (λ y. Here S y a u (decide i n f)) p o))
+              (v S m n u (pred lev) f (omega arith) (ap setOf (says S m (decide i n f) u lev o) ∙ o .stands .held .0 .3)
+              (ap actionsOf (says S m (decide i n f) u lev o) ∙ o .stands .held .0 .2) (subst (λ y. Here S y a u (decide i n f)) p o))
 
 -- ---- a row, tree by tree
 module _ (i d h b k a z : ℕ) (old : List ℕ) where

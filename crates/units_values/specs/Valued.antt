@@ -25,7 +25,8 @@ pub record Scene (i h b k : ℕ) : Type 0 where
   pub root : ℕ
   pub stocked : Stocked parts strategy i b (stage .words) 0 root (stage .tree)
   pub pays : Pays 60 i (stage .tree)
-  pub decided : Every (λ j y n. j ≡ i → stage .choice y ≡ topmost (setGain parts strategy i (stage .choice) (stage .tree) root y) (pred n)) (stage .tree)
+  pub decided : Every (λ j y n. j ≡ i
+      → stage .choice y ≡ topmost (setGain parts strategy i (stage .choice) (stage .tree) root y) (pred n)) (stage .tree)
   pub bounded : (y : Key) (a : ℕ) → setGain parts strategy i (stage .choice) (stage .tree) root y a < 2 ^ 64
   pub small : root < 144115188075855872
   pub fair : (j : ℕ) (y : Key) (a : ℕ) → strategy j y a ≤ parts
@@ -59,22 +60,27 @@ module _ {i h b k : ℕ} (S : Scene i h b k) where
 
 -- r is the value of the tree at place a, if no path of it has more than d nodes
 abbrev pub Valued : (i d h b k a : ℕ) (old new : List ℕ) (r : ℕ) → Type 0
-Valued i d h b k a old new r = (S : Scene i h b k) → Noted (S .stage) old → (t : Tree) (u x : ℕ) → x ≤ d → Here S x a u t → Noted (S .stage) new × (r ≡ gained S u t % 2 ^ 64)
+Valued i d h b k a old new r = (S : Scene i h b k) → Noted (S .stage) old → (t : Tree) (u x : ℕ) → x ≤ d → Here S x a u t
+    → Noted (S .stage) new × (r ≡ gained S u t % 2 ^ 64)
 
 -- of the row from place a to z
 abbrev pub ValuedAll : (i d h b k a z : ℕ) (old new : List ℕ) (r : ℕ) → Type 0
-ValuedAll i d h b k a z old new r = (S : Scene i h b k) → Noted (S .stage) old → (g : ℕ → ℕ) (f : Trees) (x : ℕ) → x ≤ d → HereAll S x a g 0 f → z ≡ a + sizes f → Noted (S .stage) new × (r ≡ gainedAll S g 0 f % 2 ^ 64)
+ValuedAll i d h b k a z old new r = (S : Scene i h b k) → Noted (S .stage) old → (g : ℕ → ℕ) (f : Trees) (x : ℕ) → x ≤ d
+    → HereAll S x a g 0 f → z ≡ a + sizes f → Noted (S .stage) new × (r ≡ gainedAll S g 0 f % 2 ^ 64)
 
 -- of the own node at place a with word x
 abbrev pub ValuedOwn : (i d h b k a x : ℕ) (old new : List ℕ) (r : ℕ) → Type 0
-ValuedOwn i d h b k a x old new r = (S : Scene i h b k) → Noted (S .stage) old → (y : Key) (u z : ℕ) (f : Trees) → z ≤ d → setOf x ≡ firstEntry (S .stage .tree) i y → actionsOf x ≡ fan f → Here S (suc z) a u (decide i y f)
+ValuedOwn i d h b k a x old new r = (S : Scene i h b k) → Noted (S .stage) old → (y : Key) (u z : ℕ) (f : Trees) → z ≤ d
+    → setOf x ≡ firstEntry (S .stage .tree) i y → actionsOf x ≡ fan f → Here S (suc z) a u (decide i y f)
     → Noted (S .stage) new × (r ≡ gained S u (decide i y f) % 2 ^ 64)
 
 -- r is the choice of the set with first entry e and n actions
 abbrev pub Chosen : (i d h b k e n : ℕ) (old new : List ℕ) (r : ℕ) → Type 0
-Chosen i d h b k e n old new r = (S : Scene i h b k) → Noted (S .stage) old → (y : Key) → Known (S .stage) i y n → e ≡ firstEntry (S .stage .tree) i y → S .stage .levels i y ≤ d → Noted (S .stage) new × (r ≡ S .stage .choice y)
+Chosen i d h b k e n old new r = (S : Scene i h b k) → Noted (S .stage) old → (y : Key) → Known (S .stage) i y n
+    → e ≡ firstEntry (S .stage .tree) i y → S .stage .levels i y ≤ d → Noted (S .stage) new × (r ≡ S .stage .choice y)
 
 -- r is the sum behind an action of that set
 abbrev pub Totalled : (i d h b k e a : ℕ) (old new : List ℕ) (r : ℕ) → Type 0
-Totalled i d h b k e a old new r = (S : Scene i h b k) → Noted (S .stage) old → (y : Key) (n : ℕ) → Known (S .stage) i y n → e ≡ firstEntry (S .stage .tree) i y → S .stage .levels i y ≤ d → a < n
+Totalled i d h b k e a old new r = (S : Scene i h b k) → Noted (S .stage) old → (y : Key) (n : ℕ) → Known (S .stage) i y n
+    → e ≡ firstEntry (S .stage .tree) i y → S .stage .levels i y ≤ d → a < n
     → Noted (S .stage) new × (r ≡ behindAction S y a)

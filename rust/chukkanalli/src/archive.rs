@@ -79,7 +79,7 @@ pub struct ValuesAnswer {
 // SAFETY, of every call below: numbers and positions go by value, each pointer is valid for its length, and a slice that can be written
 // overlaps no other.
 
-/// The refusal of a seat count: 0 or 2.
+/// The refusal of a seat count itself. Refuses with 2.
 pub fn kuhn_validate(seats: u64) -> u64 {
     unsafe { exports::chukkanalli_kuhn_validate(seats) }
 }

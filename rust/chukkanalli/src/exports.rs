@@ -1,4 +1,4 @@
-//! The calls of libchukkanalli.a, as include/chukkanalli.h declares them. Nothing checks these lines against it: the tests run them.
+//! The calls of libchukkanalli.a, as crates/chukkanalli exports them: rust/audit holds these lines to it.
 
 use crate::archive::{ListingAnswer, Moved, NashConvAnswer, Payoffs, ReplyAnswer, ValuesAnswer, WorthsAnswer, Written};
 use crate::{KuhnPosition, LeducPosition};

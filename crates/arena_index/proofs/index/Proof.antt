@@ -16,7 +16,8 @@ same-length : tie.Need-same-length
 same-length c = search needs
 
 returns : tie.Need-returns
-returns c = λ n code t e k. c .before .before .link .ensures n code _ _ t e refl k (c .before .before .before .before .before .before .number .ensures n code _ t e k)
+returns c = λ n code t e k. c.before.before.link.ensures n code _ _ t e refl k
+    (c.before.before.before.before.before.before.number.ensures n code _ t e k)
 
 pub index-spec : {M : Type 1} → statement M
 index-spec = tie.close (tie.spec number-requires add-link link-requires same-length returns)

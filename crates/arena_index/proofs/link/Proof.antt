@@ -23,28 +23,20 @@ link-node-requires : tie.Need-link-node-requires Inv-loop μ-loop
 link-node-requires c κs = search needs
 
 loop-less : tie.Need-loop-less Inv-loop μ-loop
-loop-less c = omega (arith, c .before .before .before .before .loop-test .taken)
+loop-less c = omega (arith, c.before.before.before.before.loop-test.taken)
 
 loop-again : tie.Need-loop-again Inv-loop μ-loop
-loop-again c =
-    (linked-more _ _ _ _ _ _ _ (omega (arith, c .before .before .before .before .before .loop .inv .1, c .before .before .before .before .loop-test .taken)) (omega (arith, c .before .before .before .before .loop-test .taken)) (c .before .before .before .before .before .loop .inv .0) (c .before .before .link-node .ensures), omega (arith, c .before .before .before .before .before .loop .inv .1), ap length (c .before .before .link-node .ensures) ∙ linked-long _ _ _ _ ∙ c .before .before .before .before .before .loop .inv .2)
+loop-again c = let s2 = c .before .before in let s1 = s2 .before .before in let s0 = s1 .before in (
+  linked-more _ _ _ _ _ _ _ (omega (arith, s0.loop.inv.1, s1.loop-test.taken)) (omega (arith, s1.loop-test.taken)) s0.loop.inv.0 s2.link-node.ensures,
+  omega (arith, s0.loop.inv.1),
+  ap length s2.link-node.ensures ∙ linked-long _ _ _ _ ∙ s0.loop.inv.2,
+)
 
 same-length : tie.Need-same-length Inv-loop μ-loop
-same-length c = c .before .loop .inv .2
+same-length c = c.before.loop.inv.2
 
 returns : tie.Need-returns Inv-loop μ-loop
-returns c = linked-start _ _ _ _ _ (omega (arith, c .loop-test .left)) (c .before .before .before .pre .0) (c .before .loop .inv .0)
+returns c = linked-start _ _ _ _ _ (omega (arith, c.loop-test.left)) c.before.before.before.pre.0 c.before.loop.inv.0
 
 pub link-spec : {M : Type 1} → statement M
-link-spec =
-    tie.close
-    (tie.spec
-    Inv-loop
-    μ-loop
-    loop-holds
-    sub-a
-    link-node-requires
-    loop-less
-    loop-again
-    same-length
-    returns)
+link-spec = tie.close (tie.spec Inv-loop μ-loop loop-holds sub-a link-node-requires loop-less loop-again same-length returns)

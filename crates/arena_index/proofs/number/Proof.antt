@@ -20,7 +20,7 @@ word-requires : tie.Need-word-requires Inv-loop μ-loop
 word-requires c κs = search needs
 
 meet-requires : tie.Need-meet-requires Inv-loop μ-loop
-meet-requires c κs = (omega arith, omega (arith, c .before .before .before .before .loop .inv .2, c .before .before .before .loop-test .taken))
+meet-requires c κs = (omega arith, omega (arith, c.before.before.before.before.loop.inv.2, c.before.before.before.loop-test.taken))
 
 add-a : tie.Need-add-a Inv-loop μ-loop
 add-a c = omega arith
@@ -29,27 +29,19 @@ loop-less : tie.Need-loop-less Inv-loop μ-loop
 loop-less c = omega arith
 
 loop-again : tie.Need-loop-again Inv-loop μ-loop
-loop-again c =
-    let m = c .before .before .meet .ensures in
-    (walked-more _ _ _ _ _ _ _ _ (c .before .before .before .before .before .before .loop-test .taken) (c .before .before .before .before .before .before .before .loop .inv .0) (c .before .before .before .before .word .ensures) m, omega (arith, c .before .before .before .before .before .before .loop-test .taken), omega (arith, c .before .before .before .before .before .before .before .loop .inv .2, met-few _ _ _ _ _ _ m .0), met-few _ _ _ _ _ _ m .1 ∙ c .before .before .before .before .before .before .before .loop .inv .3)
+loop-again c = let s1 = c .before .before .before .before in let s0 = s1 .before .before in
+    let m = c.before.before.meet.ensures in (
+      walked-more _ _ _ _ _ _ _ _ s0.loop-test.taken s0.before.loop.inv.0 s1.word.ensures m,
+      omega (arith, s0.loop-test.taken),
+      omega (arith, s0.before.loop.inv.2, met-few _ _ _ _ _ _ m .0),
+      met-few _ _ _ _ _ _ m .1 ∙ s0.before.loop.inv.3,
+    )
 
 same-length : tie.Need-same-length Inv-loop μ-loop
-same-length c = c .before .loop .inv .3
+same-length c = c.before.loop.inv.3
 
 returns : tie.Need-returns Inv-loop μ-loop
-returns c = walked-end _ _ _ _ _ (omega (arith, c .before .loop .inv .1, c .loop-test .left)) (c .before .loop .inv .0)
+returns c = walked-end _ _ _ _ _ (omega (arith, c.before.loop.inv.1, c.loop-test.left)) c.before.loop.inv.0
 
 pub number-spec : {M : Type 1} → statement M
-number-spec =
-    tie.close
-    (tie.spec
-    Inv-loop
-    μ-loop
-    loop-holds
-    word-requires
-    meet-requires
-    add-a
-    loop-less
-    loop-again
-    same-length
-    returns)
+number-spec = tie.close (tie.spec Inv-loop μ-loop loop-holds word-requires meet-requires add-a loop-less loop-again same-length returns)

@@ -33,20 +33,11 @@ same-length : tie.Need-same-length
 same-length c = search needs
 
 returns : tie.Need-returns
-returns c = pushed-by _ _ _ _ _ _ (now (c .before .before .before .before .before .before .before .before .before .before .before .before .before .before .before .args .w)) _ _ (c .before .before .before .before .before .before .before .before .before .before .before .before .word .ensures)
-    (c .before .before .before .before .before .before .before .decision .ensures ∙ rw (c .before .before .before .before .before .before .before .before .before .before .actor .ensures, c .before .before .before .before .before .before .before .before .before .actions .ensures, c .before .before .before .before .before .before .before .before .next .ensures) refl) (c .before .before .before .before .before .before .put .ensures) (c .before .before .put2 .ensures)
+returns c = let s2 = c .before .before .before .before .before .before in let s1 = s2 .before .before in let s0 = s1 .before .before in
+    pushed-by _ _ _ _ _ _ (now s0.before.before.before.before.before.args.w) _ _ s0.before.before.word.ensures
+    (s2.before.decision.ensures ∙ rw (s0.actor.ensures, s1.before.actions.ensures, s1.next.ensures) refl) s2.put.ensures c.before.before.put2.ensures
 
 pub push-spec : {M : Type 1} → statement M
 push-spec =
-    tie.close
-    (tie.spec
-    add-head
-    word-requires
-    actor-requires
-    actions-requires
-    next-requires
-    decision-requires
-    put-requires
-    put-requires-2
-    same-length
+    tie.close (tie.spec add-head word-requires actor-requires actions-requires next-requires decision-requires put-requires put-requires-2 same-length
     returns)

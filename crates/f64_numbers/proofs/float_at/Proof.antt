@@ -14,7 +14,7 @@ unpack-requires c κs = search needs
 
 -- src/lib.rt:35:1
 returns : tie.Need-returns
-returns c = c .unpack .ensures ∙ ap (ofBits binary64) (c .before .word .ensures)
+returns c = c.unpack.ensures ∙ ap (ofBits binary64) c.before.word.ensures
 
 pub float-at-spec : {M : Type 1} → statement M
 float-at-spec = tie.close (tie.spec word-requires unpack-requires returns)

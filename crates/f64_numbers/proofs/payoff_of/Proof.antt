@@ -18,11 +18,13 @@ payoff-requires c κs = search needs
 
 -- src/lib.rt:53:5
 int-to-float-result : tie.Need-int-to-float-result
-int-to-float-result c = subst (λ (z : ℤ). T (inFloat binary64 z)) (sym (ap (λ (z : ℤ). toZ w64 (ofZ w64 z)) (c .before .payoff .ensures) ∙ payoff-back (c .before .before .args .x) (c .before .before .args .seat))) (payoff-held (c .before .before .args .x) (c .before .before .args .seat))
+int-to-float-result c = subst (λ (z : ℤ). T (inFloat binary64 z)) (sym (ap (λ (z : ℤ). toZ w64 (ofZ w64 z)) c.before.payoff.ensures ∙ payoff-back
+    c.before.before.args.x c.before.before.args.seat)) (payoff-held c.before.before.args.x c.before.before.args.seat)
 
 -- src/lib.rt:49:1
 returns : tie.Need-returns
-returns c = ap (ofInt binary64) (ap (λ (z : ℤ). toZ w64 (ofZ w64 z)) (c .before .payoff .ensures) ∙ payoff-back (c .before .before .args .x) (c .before .before .args .seat))
+returns c = ap (ofInt binary64)
+    (ap (λ (z : ℤ). toZ w64 (ofZ w64 z)) c.before.payoff.ensures ∙ payoff-back c.before.before.args.x c.before.before.args.seat)
 
 pub payoff-of-spec : {M : Type 1} → statement M
 payoff-of-spec = tie.close (tie.spec payoff-requires int-to-float-result returns)

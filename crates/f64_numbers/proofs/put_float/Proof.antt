@@ -19,7 +19,8 @@ same-length c = search needs
 
 -- src/lib.rt:42:1
 returns : tie.Need-returns
-returns c = let s0 = c .before .before .before .before .before .before in let s1 = c .before .before .before in (c .before .before .put .ensures ∙ ap (λ y. set (now (s0 .args .w)) (s0 .args .i) y) (s1 .pack .ensures .0), s1 .pack .ensures .1)
+returns c = let s1 = c .before .before .before in let s0 = s1 .before .before .before in
+    (c.before.before.put.ensures ∙ ap (λ y. set (now s0.args.w) s0.args.i y) s1.pack.ensures.0, s1.pack.ensures.1)
 
 pub put-float-spec : {M : Type 1} → statement M
 put-float-spec = tie.close (tie.spec pack-requires put-requires same-length returns)

@@ -6,11 +6,11 @@ use Rattle.f64_numbers.proofs.unpack.Tie as tie
 
 -- src/lib.rt:30:9
 float-from-bits-result : tie.Need-float-from-bits-result
-float-from-bits-result c = within (c .before .args .x) (c .if1 .left)
+float-from-bits-result c = within c.before.args.x c.if1.left
 
 -- src/lib.rt:24:1
 returns : tie.Need-returns
-returns c = zero-over-zero ∙ above (c .before .args .x) (c .if1 .taken)
+returns c = zero-over-zero ∙ above c.before.args.x c.if1.taken
 
 -- src/lib.rt:24:1
 returns-2 : tie.Need-returns-2

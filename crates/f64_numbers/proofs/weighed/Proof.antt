@@ -8,7 +8,7 @@ entry-requires : tie.Need-entry-requires
 entry-requires c κs = search needs
 
 returns : tie.Need-returns
-returns c = ap (λ y. plus (c .before .before .args .sum) (times y (c .before .before .args .gain))) (c .entry .ensures)
+returns c = ap (λ y. plus c.before.before.args.sum (times y c.before.before.args.gain)) c.entry.ensures
 
 pub weighed-spec : {M : Type 1} → statement M
 weighed-spec = tie.close (tie.spec entry-requires returns)

@@ -90,7 +90,7 @@ abbrev deal-μ-loop : deal-lts.MeasureT-loop
 deal-μ-loop w profile a end seat depth count p sums₀ at₀ sums at = end - at
 
 deal-fan-requires : (t : ℕ) → deal-lts.Need-fan-requires (deal-callees t) (deal-at t) deal.Post deal-Inv-loop deal-μ-loop
-deal-fan-requires t c κs = omega (arith, c .before .before .pre .1 .place)
+deal-fan-requires t c κs = omega (arith, c.before.before.pre.1.place)
 
 deal-weight-requires : (t : ℕ) → deal-lts.Need-weight-requires (deal-callees t) (deal-at t) deal.Post deal-Inv-loop deal-μ-loop
 deal-weight-requires t c κs = search needs
@@ -99,28 +99,34 @@ deal-none-requires : (t : ℕ) → deal-lts.Need-none-requires (deal-callees t) 
 deal-none-requires t c κs = search needs
 
 deal-loop-holds : (t : ℕ) → deal-lts.Need-loop-holds (deal-callees t) (deal-at t) deal.Post deal-Inv-loop deal-μ-loop
-deal-loop-holds t c = (both.deal-start _ _ _ _ _ _ (c .none .result) (c .none .ensures), c .before .before .before .before .before .pre .1)
+deal-loop-holds t c = (both.deal-start _ _ _ _ _ _ c.none.result c.none.ensures, c.before.before.before.before.before.pre.1)
 
 deal-gains-requires : (t : ℕ) → deal-lts.Need-gains-requires (deal-callees t) (deal-at t) deal.Post deal-Inv-loop deal-μ-loop
-deal-gains-requires t c κs = (omega (arith, c .before .before .before .before .before .before .before .pre .0), c .before .loop .inv .1)
+deal-gains-requires t c κs = (omega (arith, c.before.before.before.before.before.before.before.pre.0), c.before.loop.inv.1)
 
 deal-more-requires : (t : ℕ) → deal-lts.Need-more-requires (deal-callees t) (deal-at t) deal.Post deal-Inv-loop deal-μ-loop
 deal-more-requires t c κs = search needs
 
 deal-behind-requires : (t : ℕ) → deal-lts.Need-behind-requires (deal-callees t) (deal-at t) deal.Post deal-Inv-loop deal-μ-loop
-deal-behind-requires t c κs = omega (arith, c .before .before .before .loop .inv .1 .place)
+deal-behind-requires t c κs = omega (arith, c.before.before.before.loop.inv.1.place)
 
 deal-returns : (t : ℕ) → deal-lts.Need-returns (deal-callees t) (deal-at t) deal.Post deal-Inv-loop deal-μ-loop
-deal-returns t c = let s0 = c .before .before .before .before .before in let s1 = c .before .before .before in both.deal-stuck _ _ _ _ _ _ _ _ _ _ (s0 .loop .sums) (s1 .gains .result) (c .before .before .more .result) (c .before .before .before .before .before .before .before .before .fan .ensures) (c .before .before .before .before .before .before .before .weight .ensures) (s0 .loop .inv .0) (c .before .before .before .before .loop-test .taken) (s1 .gains .ensures) (c .before .behind .ensures) (c .if1 .taken)
+deal-returns t c = let s1 = c .before .before .before in let s0 = s1 .before .before in
+    both.deal-stuck _ _ _ _ _ _ _ _ _ _ s0.loop.sums s1.gains.result c.before.before.more.result s0.before.before.before.fan.ensures
+    s0.before.before.weight.ensures s0.loop.inv.0 s1.before.loop-test.taken s1.gains.ensures c.before.behind.ensures c.if1.taken
 
 deal-loop-less : (t : ℕ) → deal-lts.Need-loop-less (deal-callees t) (deal-at t) deal.Post deal-Inv-loop deal-μ-loop
-deal-loop-less t c = omega (arith, c .if1 .left, c .before .before .before .before .loop-test .taken)
+deal-loop-less t c = omega (arith, c.if1.left, c.before.before.before.before.loop-test.taken)
 
 deal-loop-again : (t : ℕ) → deal-lts.Need-loop-again (deal-callees t) (deal-at t) deal.Post deal-Inv-loop deal-μ-loop
-deal-loop-again t c = let s0 = c .before .before .before .before .before in let s1 = c .before .before .before in (both.deal-more _ _ _ _ _ _ _ _ _ _ (s0 .loop .sums) (s1 .gains .result) (c .before .before .more .result) (c .before .before .before .before .before .before .before .before .fan .ensures) (c .before .before .before .before .before .before .before .weight .ensures) (s0 .loop .inv .0) (c .before .before .before .before .loop-test .taken) (s1 .gains .ensures) (c .before .behind .ensures) (c .before .before .more .ensures), both.walk-along _ _ _ _ (c .before .before .before .before .before .before .before .before .before .before .before .pre .1) (c .before .behind .ensures .near))
+deal-loop-again t c = let s3 = c .before .before in let s2 = s3 .before in let s1 = s2 .before .before in let s0 = s1 .before .before in (
+  both.deal-more _ _ _ _ _ _ _ _ _ _ s1.loop.sums s2.gains.result s3.more.result s0.before.fan.ensures s0.weight.ensures s1.loop.inv.0
+      s2.before.loop-test.taken s2.gains.ensures c.before.behind.ensures s3.more.ensures,
+  both.walk-along _ _ _ _ s0.before.before.before.before.pre.1 c.before.behind.ensures.near,
+)
 
 deal-returns-2 : (t : ℕ) → deal-lts.Need-returns-2 (deal-callees t) (deal-at t) deal.Post deal-Inv-loop deal-μ-loop
-deal-returns-2 t c = both.deal-end _ _ _ _ _ _ _ (c .before .loop .sums) (c .before .loop .inv .0) (c .loop-test .left)
+deal-returns-2 t c = both.deal-end _ _ _ _ _ _ _ c.before.loop.sums c.before.loop.inv.0 c.loop-test.left
 
 decide-set-requires : (t : ℕ) → decide-lts.Need-set-requires (decide-callees t) (decide-at t) decide.Post
 decide-set-requires t c κs = search needs
@@ -129,59 +135,72 @@ decide-actions-requires : (t : ℕ) → decide-lts.Need-actions-requires (decide
 decide-actions-requires t c κs = search needs
 
 decide-add-end : (t : ℕ) → decide-lts.Need-add-end (decide-callees t) (decide-at t) decide.Post
-decide-add-end t c = record { fits = omega (arith, c .before .set .ensures, c .actions .ensures) }
+decide-add-end t c = record { fits = omega (arith, c.before.set.ensures, c.actions.ensures) }
 
 decide-none-requires : (t : ℕ) → decide-lts.Need-none-requires (decide-callees t) (decide-at t) decide.Post
 decide-none-requires t c κs = search needs
 
 decide-returns : (t : ℕ) → decide-lts.Need-returns (decide-callees t) (decide-at t) decide.Post
-decide-returns t c = both.decide-few _ _ _ _ _ _ (c .none .result) (omega (arith, c .before .if1 .taken, c .before .before .actions .ensures))
+decide-returns t c = both.decide-few _ _ _ _ _ _ c.none.result (omega (arith, c.before.if1.taken, c.before.before.actions.ensures))
 
 decide-none-requires-2 : (t : ℕ) → decide-lts.Need-none-requires-2 (decide-callees t) (decide-at t) decide.Post
 decide-none-requires-2 t c κs = search needs
 
 decide-returns-2 : (t : ℕ) → decide-lts.Need-returns-2 (decide-callees t) (decide-at t) decide.Post
-decide-returns-2 t c = both.decide-none _ _ _ _ _ _ (c .none2 .result) (omega (arith, c .before .if2 .taken, c .before .before .before .before .set .ensures, c .before .before .before .actions .ensures))
+decide-returns-2 t c = both.decide-none _ _ _ _ _ _ c.none2.result
+    (omega (arith, c.before.if2.taken, c.before.before.before.before.set.ensures, c.before.before.before.actions.ensures))
 
 decide-gains-requires : (t : ℕ) → decide-lts.Need-gains-requires (decide-callees t) (decide-at t) decide.Post
-decide-gains-requires t c κs = let s0 = c .before .before .before .before .before .before in (omega (arith, s0 .pre .0), s0 .pre .1)
+decide-gains-requires t c κs = let s0 = c .before .before .before .before .before .before in (omega (arith, s0.pre.0), s0.pre.1)
 
 decide-none-requires-3 : (t : ℕ) → decide-lts.Need-none-requires-3 (decide-callees t) (decide-at t) decide.Post
 decide-none-requires-3 t c κs = search needs
 
 decide-moved-requires : (t : ℕ) → decide-lts.Need-moved-requires (decide-callees t) (decide-at t) decide.Post
-decide-moved-requires t c κs = (omega (arith, c .before .before .before .before .before .set .ensures), omega (arith, c .before .before .before .if1 .left), omega (arith, c .before .before .if2 .left))
+decide-moved-requires t c κs = (omega (arith, c.before.before.before.before.before.set.ensures), omega (arith, c.before.before.before.if1.left), omega (arith, c.before.before.if2.left))
 
 decide-behind-requires : (t : ℕ) → decide-lts.Need-behind-requires (decide-callees t) (decide-at t) decide.Post
-decide-behind-requires t c κs = omega (arith, c .before .before .before .before .before .before .before .before .before .pre .1 .place)
+decide-behind-requires t c κs = omega (arith, c.before.before.before.before.before.before.before.before.before.pre.1.place)
 
 decide-gains-requires-2 : (t : ℕ) → decide-lts.Need-gains-requires-2 (decide-callees t) (decide-at t) decide.Post
-decide-gains-requires-2 t c κs = let s0 = c .before .before .before .before .before .before .before .before .before .before in (omega (arith, s0 .pre .0), both.walk-along _ _ _ _ (s0 .pre .1) (c .behind .ensures .near))
+decide-gains-requires-2 t c κs = let s0 = c .before .before .before .before .before .before .before .before .before .before in
+    (omega (arith, s0.pre.0), both.walk-along _ _ _ _ s0.pre.1 c.behind.ensures.near)
 
 decide-moved-requires-2 : (t : ℕ) → decide-lts.Need-moved-requires-2 (decide-callees t) (decide-at t) decide.Post
-decide-moved-requires-2 t c κs = (omega (arith, c .before .before .before .before .before .before .before .before .set .ensures), omega (arith, c .before .before .before .before .before .before .if1 .left), omega (arith, c .before .before .before .before .before .if2 .left))
+decide-moved-requires-2 t c κs = let s0 = c .before .before .before .before .before in
+    (omega (arith, s0.before.before.before.set.ensures), omega (arith, s0.before.if1.left), omega (arith, s0.if2.left))
 
 decide-returns-3 : (t : ℕ) → decide-lts.Need-returns-3 (decide-callees t) (decide-at t) decide.Post
-decide-returns-3 t c =
-    let y = c .before .before .before .before .before .before .before .before .before .actions .ensures in
-    let one = both.decide-more _ _ _ _ _ _ _ _ _ (c .before .before .before .before .before .none3 .result) (c .before .before .before .before .before .before .gains .result) (c .before .before .before .before .moved .result) (c .before .before .before .before .before .before .before .before .before .before .set .ensures) (both.decide-start _ _ _ _ _ _ (c .before .before .before .before .before .none3 .result) (c .before .before .before .before .before .none3 .ensures)) (c .before .before .before .before .before .before .gains .ensures) (c .before .before .before .before .moved .ensures) _ (omega (arith, y, c .before .before .before .before .before .before .before .before .if1 .left)) (c .before .before .before .behind .ensures) in
-    both.decide-last _ _ _ _ _ _ _ _ _ (c .before .before .before .before .moved .result) (c .before .before .gains2 .result) (c .before .moved2 .result) (c .before .before .before .before .before .before .before .before .before .before .set .ensures) one (c .before .before .gains2 .ensures) (c .before .moved2 .ensures) (omega (arith, y, c .if3 .taken))
+decide-returns-3 t c = let s3 = c .before .before in let s2 = s3 .before .before in let s1 = s2 .before in let s0 = s1 .before .before .before in
+    let y = s0.before.actions.ensures in
+    let one = both.decide-more _ _ _ _ _ _ _ _ _ s1.none3.result s1.before.gains.result s2.moved.result s0.before.before.set.ensures
+    (both.decide-start _ _ _ _ _ _ s1.none3.result s1.none3.ensures) s1.before.gains.ensures s2.moved.ensures _ (omega (arith, y, s0.if1.left))
+    s3.before.behind.ensures in
+    both.decide-last _ _ _ _ _ _ _ _ _ s2.moved.result s3.gains2.result c.before.moved2.result s0.before.before.set.ensures one s3.gains2.ensures
+    c.before.moved2.ensures (omega (arith, y, c.if3.taken))
 
 decide-behind-requires-2 : (t : ℕ) → decide-lts.Need-behind-requires-2 (decide-callees t) (decide-at t) decide.Post
-decide-behind-requires-2 t c κs = omega (arith, c .before .before .before .behind .ensures .near)
+decide-behind-requires-2 t c κs = omega (arith, c.before.before.before.behind.ensures.near)
 
 decide-gains-requires-3 : (t : ℕ) → decide-lts.Need-gains-requires-3 (decide-callees t) (decide-at t) decide.Post
-decide-gains-requires-3 t c κs = let s0 = c .before .before .before .before .before .before .before .before .before .before .before .before .before .before in (omega (arith, s0 .pre .0), both.walk-along _ _ _ _ (s0 .pre .1) (c .behind2 .ensures .near))
+decide-gains-requires-3 t c κs =
+    let s0 = c .before .before .before .before .before .before .before .before .before .before .before .before .before .before in
+    (omega (arith, s0.pre.0), both.walk-along _ _ _ _ s0.pre.1 c.behind2.ensures.near)
 
 decide-moved-requires-3 : (t : ℕ) → decide-lts.Need-moved-requires-3 (decide-callees t) (decide-at t) decide.Post
-decide-moved-requires-3 t c κs = (omega (arith, c .before .before .before .before .before .before .before .before .before .before .before .before .set .ensures), omega (arith, c .before .before .before .before .before .before .before .before .before .before .if1 .left, c .before .before .if3 .left), omega (arith, c .before .before .before .before .before .before .before .before .before .if2 .left))
+decide-moved-requires-3 t c κs = let s0 = c .before .before .before .before .before .before .before .before .before in
+    (omega (arith, s0.before.before.before.set.ensures), omega (arith, s0.before.if1.left, c.before.before.if3.left), omega (arith, s0.if2.left))
 
 decide-returns-4 : (t : ℕ) → decide-lts.Need-returns-4 (decide-callees t) (decide-at t) decide.Post
-decide-returns-4 t c =
-    let y = c .before .before .before .before .before .before .before .before .before .before .before .before .actions .ensures in
-    let one = both.decide-more _ _ _ _ _ _ _ _ _ (c .before .before .before .before .before .before .before .before .none3 .result) (c .before .before .before .before .before .before .before .before .before .gains .result) (c .before .before .before .before .before .before .before .moved .result) (c .before .before .before .before .before .before .before .before .before .before .before .before .before .set .ensures) (both.decide-start _ _ _ _ _ _ (c .before .before .before .before .before .before .before .before .none3 .result) (c .before .before .before .before .before .before .before .before .none3 .ensures)) (c .before .before .before .before .before .before .before .before .before .gains .ensures) (c .before .before .before .before .before .before .before .moved .ensures) _ (omega (arith, y, c .before .before .before .before .before .before .before .before .before .before .before .if1 .left)) (c .before .before .before .before .before .before .behind .ensures) in
-    let two = both.decide-more _ _ _ _ _ _ _ _ _ (c .before .before .before .before .before .before .before .moved .result) (c .before .before .before .before .before .gains2 .result) (c .before .before .before .before .moved2 .result) (c .before .before .before .before .before .before .before .before .before .before .before .before .before .set .ensures) one (c .before .before .before .before .before .gains2 .ensures) (c .before .before .before .before .moved2 .ensures) _ (omega (arith, y, c .before .before .before .before .before .before .before .before .before .before .before .if1 .left)) (c .before .before .behind2 .ensures) in
-    both.decide-last _ _ _ _ _ _ _ _ _ (c .before .before .before .before .moved2 .result) (c .before .gains3 .result) (c .moved3 .result) (c .before .before .before .before .before .before .before .before .before .before .before .before .before .set .ensures) two (c .before .gains3 .ensures) (c .moved3 .ensures) (omega (arith, y, c .before .before .before .before .before .before .before .before .before .before .before .if1 .left, c .before .before .before .if3 .left))
+decide-returns-4 t c = let s6 = c .before .before in let s5 = s6 .before .before in let s4 = s5 .before in let s3 = s4 .before .before in
+    let s2 = s3 .before in let s1 = s2 .before .before .before in let s0 = s1 .before .before in
+    let y = s1.before.actions.ensures in
+    let one = both.decide-more _ _ _ _ _ _ _ _ _ s2.none3.result s2.before.gains.result s3.moved.result s0.set.ensures (both.decide-start _ _ _ _ _ _
+    s2.none3.result s2.none3.ensures) s2.before.gains.ensures s3.moved.ensures _ (omega (arith, y, s1.if1.left)) s4.before.behind.ensures in
+    let two = both.decide-more _ _ _ _ _ _ _ _ _ s3.moved.result s4.gains2.result s5.moved2.result s0.set.ensures one s4.gains2.ensures
+    s5.moved2.ensures _ (omega (arith, y, s1.if1.left)) s6.behind2.ensures in
+    both.decide-last _ _ _ _ _ _ _ _ _ s5.moved2.result c.before.gains3.result c.moved3.result s0.set.ensures two c.before.gains3.ensures
+    c.moved3.ensures (omega (arith, y, s1.if1.left, s6.before.if3.left))
 
 gains-word-requires : (t : ℕ) → gains-lts.Need-word-requires (gains-callees t) (gains-at t) gains.Post
 gains-word-requires t c κs = search needs
@@ -190,25 +209,27 @@ gains-kind-requires : (t : ℕ) → gains-lts.Need-kind-requires (gains-callees 
 gains-kind-requires t c κs = search needs
 
 gains-paid-requires : (t : ℕ) → gains-lts.Need-paid-requires (gains-callees t) (gains-at t) gains.Post
-gains-paid-requires t c κs = c .before .before .before .before .before .pre .1 .seat
+gains-paid-requires t c κs = c.before.before.before.before.before.pre.1.seat
 
 gains-returns : (t : ℕ) → gains-lts.Need-returns (gains-callees t) (gains-at t) gains.Post
-gains-returns t c = both.gains-end _ _ _ _ _ (c .paid .result) _ (c .before .before .before .word .ensures) (sym (c .before .before .kind .ensures) ∙ c .before .if1 .taken) (c .paid .ensures)
+gains-returns t c = both.gains-end _ _ _ _ _ c.paid.result _ c.before.before.before.word.ensures
+    (sym c.before.before.kind.ensures ∙ c.before.if1.taken) c.paid.ensures
 
 gains-worths-requires : (t : ℕ) → gains-lts.Need-worths-requires (gains-callees t) (gains-at t) gains.Post
-gains-worths-requires t c κs = let s0 = c .before .before .before .before .before in (omega (arith, s0 .pre .0), s0 .pre .1)
+gains-worths-requires t c κs = let s0 = c .before .before .before .before .before in (omega (arith, s0.pre.0), s0.pre.1)
 
 gains-unpaid-requires : (t : ℕ) → gains-lts.Need-unpaid-requires (gains-callees t) (gains-at t) gains.Post
 gains-unpaid-requires t c κs = search needs
 
 gains-returns-2 : (t : ℕ) → gains-lts.Need-returns-2 (gains-callees t) (gains-at t) gains.Post
-gains-returns-2 t c = both.gains-other _ _ _ _ _ (c .unpaid .result) _ (c .before .before .before .before .word .ensures) (c .before .worths .result) (λ q. c .before .before .if1 .left (c .before .before .before .kind .ensures ∙ q)) (c .before .worths .ensures) (c .unpaid .ensures)
+gains-returns-2 t c = both.gains-other _ _ _ _ _ c.unpaid.result _ c.before.before.before.before.word.ensures c.before.worths.result
+    (λ q. c.before.before.if1.left (c.before.before.before.kind.ensures ∙ q)) c.before.worths.ensures c.unpaid.ensures
 
 worths-none-requires : (t : ℕ) → worths-lts.Need-none-requires (worths-callees t) (worths-at t) worths.Post
 worths-none-requires t c κs = search needs
 
 worths-returns : (t : ℕ) → worths-lts.Need-returns (worths-callees t) (worths-at t) worths.Post
-worths-returns t c = both.worths-shallow _ _ _ _ _ (c .none .result) (c .before .if1 .taken)
+worths-returns t c = both.worths-shallow _ _ _ _ _ c.none.result c.before.if1.taken
 
 worths-word-requires : (t : ℕ) → worths-lts.Need-word-requires (worths-callees t) (worths-at t) worths.Post
 worths-word-requires t c κs = search needs
@@ -220,94 +241,53 @@ worths-none-requires-2 : (t : ℕ) → worths-lts.Need-none-requires-2 (worths-c
 worths-none-requires-2 t c κs = search needs
 
 worths-returns-2 : (t : ℕ) → worths-lts.Need-returns-2 (worths-callees t) (worths-at t) worths.Post
-worths-returns-2 t c = both.worths-end _ _ _ _ _ (c .none2 .result) _ (c .before .before .before .word .ensures) (sym (c .before .before .kind .ensures) ∙ c .before .if2 .taken) (c .none2 .ensures)
+worths-returns-2 t c = both.worths-end _ _ _ _ _ c.none2.result _ c.before.before.before.word.ensures
+    (sym c.before.before.kind.ensures ∙ c.before.if2.taken) c.none2.ensures
 
 worths-add-deal : (t : ℕ) → worths-lts.Need-add-deal (worths-callees t) (worths-at t) worths.Post
-worths-add-deal t c = record { fits = omega (arith, c .before .before .before .before .before .before .before .pre .1 .place) }
+worths-add-deal t c = record { fits = omega (arith, c.before.before.before.before.before.before.before.pre.1.place) }
 
 worths-next-requires : (t : ℕ) → worths-lts.Need-next-requires (worths-callees t) (worths-at t) worths.Post
 worths-next-requires t c κs = search needs
 
 worths-sub-deal : (t : ℕ) → worths-lts.Need-sub-deal (worths-callees t) (worths-at t) worths.Post
-worths-sub-deal t c = omega (arith, c .before .before .before .before .before .if1 .left)
+worths-sub-deal t c = omega (arith, c.before.before.before.before.before.if1.left)
 
 worths-deal-requires : (t : ℕ) → worths-lts.Need-deal-requires (worths-callees t) (worths-at t) worths.Post
-worths-deal-requires t c κs = let s0 = c .before .before .before .before .before .before .before .before in let s1 = c .before .before .before .before .before in (omega (arith, s0 .pre .0, s1 .if1 .left), both.walk-down _ _ _ (s0 .pre .1) (s1 .if1 .left))
+worths-deal-requires t c κs = let s1 = c .before .before .before .before .before in let s0 = s1 .before .before .before in
+    (omega (arith, s0.pre.0, s1.if1.left), both.walk-down _ _ _ s0.pre.1 s1.if1.left)
 
 worths-returns-3 : (t : ℕ) → worths-lts.Need-returns-3 (worths-callees t) (worths-at t) worths.Post
-worths-returns-3 t c = both.worths-chance _ _ _ _ _ (c .deal .result) _ (c .before .before .before .before .before .word .ensures) _ (sym (c .before .before .before .before .kind .ensures) ∙ c .before .before .if3 .taken) (c .before .next .ensures) (c .deal .ensures)
+worths-returns-3 t c = both.worths-chance _ _ _ _ _ c.deal.result _ c.before.before.before.before.before.word.ensures _
+    (sym c.before.before.before.before.kind.ensures ∙ c.before.before.if3.taken) c.before.next.ensures c.deal.ensures
 
 worths-add-decide : (t : ℕ) → worths-lts.Need-add-decide (worths-callees t) (worths-at t) worths.Post
-worths-add-decide t c = record { fits = omega (arith, c .before .before .before .before .before .before .before .pre .1 .place) }
+worths-add-decide t c = record { fits = omega (arith, c.before.before.before.before.before.before.before.pre.1.place) }
 
 worths-sub-decide : (t : ℕ) → worths-lts.Need-sub-decide (worths-callees t) (worths-at t) worths.Post
-worths-sub-decide t c = omega (arith, c .before .before .before .before .if1 .left)
+worths-sub-decide t c = omega (arith, c.before.before.before.before.if1.left)
 
 worths-decide-requires : (t : ℕ) → worths-lts.Need-decide-requires (worths-callees t) (worths-at t) worths.Post
-worths-decide-requires t c κs = let s0 = c .before .before .before .before .before .before .before in let s1 = c .before .before .before .before in (omega (arith, s0 .pre .0, s1 .if1 .left), both.walk-down _ _ _ (s0 .pre .1) (s1 .if1 .left))
+worths-decide-requires t c κs = let s1 = c .before .before .before .before in let s0 = s1 .before .before .before in
+    (omega (arith, s0.pre.0, s1.if1.left), both.walk-down _ _ _ s0.pre.1 s1.if1.left)
 
 worths-returns-4 : (t : ℕ) → worths-lts.Need-returns-4 (worths-callees t) (worths-at t) worths.Post
-worths-returns-4 t c = let s0 = c .before .before .before in both.worths-decision _ _ _ _ _ (c .decide .result) _ (c .before .before .before .before .word .ensures) (λ q. c .before .before .if2 .left (s0 .kind .ensures ∙ q)) (λ q. c .before .if3 .left (s0 .kind .ensures ∙ q)) (c .decide .ensures)
+worths-returns-4 t c = let s0 = c .before .before .before in
+    both.worths-decision _ _ _ _ _ c.decide.result _ s0.before.word.ensures (λ q. c.before.before.if2.left (s0.kind.ensures ∙ q))
+    (λ q. c.before.if3.left (s0.kind.ensures ∙ q)) c.decide.ensures
 
 pub +deal+decide+gains+worths-spec : {M : Type 1} → statement M
-+deal+decide+gains+worths-spec = close μ-deal μ-decide μ-gains μ-worths (λ t. deal-lts.spec (deal-callees t) (deal-at t)
-    deal.Post
-    deal-Inv-loop
-    deal-μ-loop
-    (deal-fan-requires t)
-    (deal-weight-requires t)
-    (deal-none-requires t)
-    (deal-loop-holds t)
-    (deal-gains-requires t)
-    (deal-more-requires t)
-    (deal-behind-requires t)
-    (deal-returns t)
-    (deal-loop-less t)
-    (deal-loop-again t)
-    (deal-returns-2 t))
-    (λ t. decide-lts.spec (decide-callees t) (decide-at t)
-    decide.Post
-    (decide-set-requires t)
-    (decide-actions-requires t)
-    (decide-add-end t)
-    (decide-none-requires t)
-    (decide-returns t)
-    (decide-none-requires-2 t)
-    (decide-returns-2 t)
-    (decide-gains-requires t)
-    (decide-none-requires-3 t)
-    (decide-moved-requires t)
-    (decide-behind-requires t)
-    (decide-gains-requires-2 t)
-    (decide-moved-requires-2 t)
-    (decide-returns-3 t)
-    (decide-behind-requires-2 t)
-    (decide-gains-requires-3 t)
-    (decide-moved-requires-3 t)
-    (decide-returns-4 t))
-    (λ t. gains-lts.spec (gains-callees t) (gains-at t)
-    gains.Post
-    (gains-word-requires t)
-    (gains-kind-requires t)
-    (gains-paid-requires t)
-    (gains-returns t)
-    (gains-worths-requires t)
-    (gains-unpaid-requires t)
-    (gains-returns-2 t))
-    λ t. worths-lts.spec (worths-callees t) (worths-at t)
-    worths.Post
-    (worths-none-requires t)
-    (worths-returns t)
-    (worths-word-requires t)
-    (worths-kind-requires t)
-    (worths-none-requires-2 t)
-    (worths-returns-2 t)
-    (worths-add-deal t)
-    (worths-next-requires t)
-    (worths-sub-deal t)
-    (worths-deal-requires t)
-    (worths-returns-3 t)
-    (worths-add-decide t)
-    (worths-sub-decide t)
-    (worths-decide-requires t)
-    (worths-returns-4 t)
++deal+decide+gains+worths-spec =
+    close μ-deal μ-decide μ-gains μ-worths
+    (λ t. deal-lts.spec (deal-callees t) (deal-at t) deal.Post deal-Inv-loop deal-μ-loop (deal-fan-requires t) (deal-weight-requires t)
+    (deal-none-requires t) (deal-loop-holds t) (deal-gains-requires t) (deal-more-requires t) (deal-behind-requires t) (deal-returns t)
+    (deal-loop-less t) (deal-loop-again t) (deal-returns-2 t))
+    (λ t. decide-lts.spec (decide-callees t) (decide-at t) decide.Post (decide-set-requires t) (decide-actions-requires t) (decide-add-end t)
+    (decide-none-requires t) (decide-returns t) (decide-none-requires-2 t) (decide-returns-2 t) (decide-gains-requires t) (decide-none-requires-3 t)
+    (decide-moved-requires t) (decide-behind-requires t) (decide-gains-requires-2 t) (decide-moved-requires-2 t) (decide-returns-3 t)
+    (decide-behind-requires-2 t) (decide-gains-requires-3 t) (decide-moved-requires-3 t) (decide-returns-4 t))
+    (λ t. gains-lts.spec (gains-callees t) (gains-at t) gains.Post (gains-word-requires t) (gains-kind-requires t) (gains-paid-requires t)
+    (gains-returns t) (gains-worths-requires t) (gains-unpaid-requires t) (gains-returns-2 t))
+    λ t. worths-lts.spec (worths-callees t) (worths-at t) worths.Post (worths-none-requires t) (worths-returns t) (worths-word-requires t)
+    (worths-kind-requires t) (worths-none-requires-2 t) (worths-returns-2 t) (worths-add-deal t) (worths-next-requires t) (worths-sub-deal t)
+    (worths-deal-requires t) (worths-returns-3 t) (worths-add-decide t) (worths-sub-decide t) (worths-decide-requires t) (worths-returns-4 t)

@@ -39,22 +39,11 @@ weighed-requires-2 : tie.Need-weighed-requires-2
 weighed-requires-2 c κs = search needs
 
 returns : tie.Need-returns
-returns c =
-    let e = part-at (now (c .before .before .before .before .before .args .profile)) (c .before .before .before .before .before .args .first) (c .before .before .before .before .before .args .end) (c .before .before .before .before .before .args .action) nan (omega (arith, c .before .before .before .before .before .pre .1)) in
-    (c .before .before .weighed .ensures ∙ ap (λ y. plus (c .before .before .before .before .before .args .v .first) (times y (c .before .before .before .before .before .args .g .first))) e, c .weighed2 .ensures ∙ ap (λ y. plus (c .before .before .before .before .before .args .v .second) (times y (c .before .before .before .before .before .args .g .second))) e)
+returns c = let s0 = c .before .before .before .before .before in let a = s0 .args in
+    let e = part-at (now a.profile) a.first a.end a.action nan (omega (arith, s0.pre.1)) in
+    (c.before.before.weighed.ensures ∙ ap (λ y. plus a.v.first (times y a.g.first)) e, c.weighed2.ensures ∙ ap (λ y. plus a.v.second (times y a.g.second)) e)
 
 pub moved-spec : {M : Type 1} → statement M
 moved-spec =
-    tie.close
-    (tie.spec
-    mul-weighed
-    sub-weighed
-    part-weighed-start
-    part-weighed-end
-    weighed-requires
-    mul-weighed-2
-    sub-weighed-2
-    part-weighed-start-2
-    part-weighed-end-2
-    weighed-requires-2
-    returns)
+    tie.close (tie.spec mul-weighed sub-weighed part-weighed-start part-weighed-end weighed-requires mul-weighed-2 sub-weighed-2 part-weighed-start-2
+    part-weighed-end-2 weighed-requires-2 returns)

@@ -14,7 +14,7 @@ payoff-of-requires-2 : tie.Need-payoff-of-requires-2
 payoff-of-requires-2 c κs = search needs
 
 returns : tie.Need-returns
-returns c = (ap (λ y. plus y nought) (c .before .payoff-of .ensures), ap (λ y. plus y nought) (c .payoff-of2 .ensures))
+returns c = (ap (λ y. plus y nought) c.before.payoff-of.ensures, ap (λ y. plus y nought) c.payoff-of2.ensures)
 
 pub paid-spec : {M : Type 1} → statement M
 paid-spec = tie.close (tie.spec payoff-of-requires add-payoff-of payoff-of-requires-2 returns)

@@ -62,25 +62,38 @@ abbrev deal-callees : ℕ → deal-lts.Claims
 deal-callees t = (before-bet-reads.Asked, before-bet-reads.Learnt, children-below t, children.Post, chance-reads.Asked, chance-reads.Learnt, put-reads.Asked, put-reads.Learnt)
 
 child-is-dealt-requires : (t : ℕ) → child-lts.Need-is-dealt-requires (child-callees t) (child-at t) child.Post
-child-is-dealt-requires t c κs = omega (arith, deals.dealt-few (c .before .args .n) (c .before .args .cards) (c .before .args .dealt) (c .before .args .left) (c .before .pre .1 .0 .0))
+child-is-dealt-requires t c κs = let a = c .before .args in omega (arith, deals.dealt-few a.n a.cards a.dealt a.left c.before.pre.1.0.0)
 
 child-returns : (t : ℕ) → child-lts.Need-returns (child-callees t) (child-at t) child.Post
-child-returns t c = let s0 = c .before .before .before in rw (deals.child-none (s0 .args .n) (s0 .args .cards) (s0 .args .dealt) (s0 .args .left) (s0 .pre .1 .0 .0) (s0 .args .card) (sym (c .before .is-dealt .ensures) ∙ c .if1 .taken)) (building.row-none _ _ _ _)
+child-returns t c = let a = c .before .before .before .args in
+    rw (deals.child-none a.n a.cards a.dealt a.left c.before.before.before.pre.1.0.0 a.card (sym c.before.is-dealt.ensures ∙ c.if1.taken))
+    (building.row-none _ _ _ _)
 
 child-with-card-requires : (t : ℕ) → child-lts.Need-with-card-requires (child-callees t) (child-at t) child.Post
-child-with-card-requires t c κs = let s0 = c .before .before .before .before in (deals.dealt-few (s0 .args .n) (s0 .args .cards) (s0 .args .dealt) (s0 .args .left) (s0 .pre .1 .0 .0), s0 .pre .1 .0 .0 .small, omega (arith, s0 .pre .1 .0 .0 .most, s0 .pre .1 .0 .1))
+child-with-card-requires t c κs = let s0 = c .before .before .before .before in let a = s0 .args in
+    (deals.dealt-few a.n a.cards a.dealt a.left s0.pre.1.0.0, s0.pre.1.0.0.small, omega (arith, s0.pre.1.0.0.most, s0.pre.1.0.1))
 
 child-add-deal : (t : ℕ) → child-lts.Need-add-deal (child-callees t) (child-at t) child.Post
-child-add-deal t c = let s0 = c .before .before .before .before .before in record { fits = omega (arith, deals.dealt-few (s0 .args .n) (s0 .args .cards) (s0 .args .dealt) (s0 .args .left) (s0 .pre .1 .0 .0)) }
+child-add-deal t c = let s0 = c .before .before .before .before .before in let a = s0 .args in
+    record { fits = omega (arith, deals.dealt-few a.n a.cards a.dealt a.left s0.pre.1.0.0) }
 
 child-deal-requires : (t : ℕ) → child-lts.Need-deal-requires (child-callees t) (child-at t) child.Post
-child-deal-requires t c κs = let s0 = c .before .before .before .before .before in let s1 = c .before .before .before in (omega (arith, s0 .pre .0), (deals.deals-on (s0 .args .n) (s0 .args .cards) (s0 .args .dealt) (s0 .args .left) (s0 .pre .1 .0 .0) (s0 .args .card) _ (s0 .pre .1 .0 .1) (sym (s1 .is-dealt .ensures) ∙ c .before .before .if1 .left) (c .with-card .ensures), deals.room-one _ _ _ _ (deals.child-some (s0 .args .n) (s0 .args .cards) (s0 .args .dealt) (s0 .args .left) (s0 .pre .1 .0 .0) (s0 .args .card) _ (s0 .pre .1 .0 .1) (sym (s1 .is-dealt .ensures) ∙ c .before .before .if1 .left) (c .with-card .ensures)) (s0 .pre .1 .1)))
+child-deal-requires t c κs = let s1 = c .before .before in let s0 = s1 .before .before .before in let a = s0 .args in (
+  omega (arith, s0.pre.0),
+  (
+    deals.deals-on a.n a.cards a.dealt a.left s0.pre.1.0.0 a.card _ s0.pre.1.0.1 (sym s1.before.is-dealt.ensures ∙ s1.if1.left) c.with-card.ensures,
+    deals.room-one _ _ _ _ (deals.child-some a.n a.cards a.dealt a.left s0.pre.1.0.0 a.card _ s0.pre.1.0.1
+        (sym s1.before.is-dealt.ensures ∙ s1.if1.left) c.with-card.ensures) s0.pre.1.1,
+  ),
+)
 
 child-same-length : (t : ℕ) → child-lts.Need-same-length (child-callees t) (child-at t) child.Post
 child-same-length t c = search needs
 
 child-returns-2 : (t : ℕ) → child-lts.Need-returns-2 (child-callees t) (child-at t) child.Post
-child-returns-2 t c = let s0 = c .before .before .before .before .before .before .before .before in rw (deals.child-some (s0 .args .n) (s0 .args .cards) (s0 .args .dealt) (s0 .args .left) (s0 .pre .1 .0 .0) (s0 .args .card) _ (s0 .pre .1 .0 .1) (sym (c .before .before .before .before .before .before .is-dealt .ensures) ∙ c .before .before .before .before .before .if1 .left) (c .before .before .before .with-card .ensures)) (building.row-one _ _ _ _ _ _ _ (c .before .before .deal .ensures))
+child-returns-2 t c = let s2 = c .before .before in let s1 = s2 .before .before .before in let s0 = s1 .before .before .before in let a = s0 .args in
+    rw (deals.child-some a.n a.cards a.dealt a.left s0.pre.1.0.0 a.card _ s0.pre.1.0.1 (sym s1.before.is-dealt.ensures ∙ s1.if1.left)
+    s2.before.with-card.ensures) (building.row-one _ _ _ _ _ _ _ s2.deal.ensures)
 
 abbrev children-Inv-loop : children-lts.InvT-loop
 children-Inv-loop w₀ at n cards dealt left next₀ card₀ w next card = Row n (codeOf n) at w₀ w (childrenTo n cards dealt left card) next × (card ≤ n + 1)
@@ -95,7 +108,7 @@ children-loop-holds : (t : ℕ) →
     children.Post
     children-Inv-loop
     children-μ-loop
-children-loop-holds t c = (deals.children-start (c .before .args .n) (c .before .args .cards) (c .before .args .dealt) (c .before .args .left) (c .before .args .at) (now (c .before .args .w)) (c .before .pre .1 .1), omega arith)
+children-loop-holds t c = let a = c .before .args in (deals.children-start a.n a.cards a.dealt a.left a.at (now a.w) c.before.pre.1.1, omega arith)
 
 children-child-requires : (t : ℕ) →
     children-lts.Need-child-requires
@@ -104,7 +117,10 @@ children-child-requires : (t : ℕ) →
     children.Post
     children-Inv-loop
     children-μ-loop
-children-child-requires t c κs = let s0 = c .before .before .before .before in (omega (arith, s0 .pre .0), ((s0 .pre .1 .0, c .before .loop-test .taken), deals.child-room (s0 .args .n) (s0 .args .cards) (s0 .args .dealt) (s0 .args .left) (s0 .args .at) (now (s0 .args .w)) (s0 .pre .1 .1) _ _ _ (c .before .loop-test .taken) (c .before .before .loop .inv .0)))
+children-child-requires t c κs = let s1 = c .before in let s0 = s1 .before .before .before in let a = s0 .args in (
+  omega (arith, s0.pre.0),
+  ((s0.pre.1.0, s1.loop-test.taken), deals.child-room a.n a.cards a.dealt a.left a.at (now a.w) s0.pre.1.1 _ _ _ s1.loop-test.taken s1.before.loop.inv.0),
+)
 
 children-add-card : (t : ℕ) →
     children-lts.Need-add-card
@@ -113,7 +129,7 @@ children-add-card : (t : ℕ) →
     children.Post
     children-Inv-loop
     children-μ-loop
-children-add-card t c = omega (arith, c .before .before .before .before .before .before .before .pre .1 .0 .most, c .before .before .before .before .loop-test .taken)
+children-add-card t c = omega (arith, c.before.before.before.before.before.before.before.pre.1.0.most, c.before.before.before.before.loop-test.taken)
 
 children-loop-less : (t : ℕ) →
     children-lts.Need-loop-less
@@ -122,7 +138,7 @@ children-loop-less : (t : ℕ) →
     children.Post
     children-Inv-loop
     children-μ-loop
-children-loop-less t c = omega (arith, c .before .before .before .before .loop-test .taken)
+children-loop-less t c = omega (arith, c.before.before.before.before.loop-test.taken)
 
 children-loop-again : (t : ℕ) →
     children-lts.Need-loop-again
@@ -131,7 +147,11 @@ children-loop-again : (t : ℕ) →
     children.Post
     children-Inv-loop
     children-μ-loop
-children-loop-again t c = let s0 = c .before .before .before .before .before .before .before in let s1 = c .before .before .before .before in (deals.children-on (s0 .args .n) (s0 .args .cards) (s0 .args .dealt) (s0 .args .left) (s0 .args .at) (now (s0 .args .w)) (s0 .pre .1 .1) _ _ _ (s1 .loop-test .taken) (c .before .before .before .before .before .loop .inv .0) _ _ (c .before .before .child .ensures), omega (arith, s1 .loop-test .taken))
+children-loop-again t c = let s1 = c .before .before .before .before in let s0 = s1 .before .before .before in let a = s0 .args in (
+  deals.children-on a.n a.cards a.dealt a.left a.at (now a.w) s0.pre.1.1 _ _ _ s1.loop-test.taken s1.before.loop.inv.0 _ _
+      c.before.before.child.ensures,
+  omega (arith, s1.loop-test.taken),
+)
 
 children-same-length : (t : ℕ) →
     children-lts.Need-same-length
@@ -140,7 +160,7 @@ children-same-length : (t : ℕ) →
     children.Post
     children-Inv-loop
     children-μ-loop
-children-same-length t c = c .before .loop .inv .0 .kept .long
+children-same-length t c = c.before.loop.inv.0.kept.long
 
 children-returns : (t : ℕ) →
     children-lts.Need-returns
@@ -149,30 +169,41 @@ children-returns : (t : ℕ) →
     children.Post
     children-Inv-loop
     children-μ-loop
-children-returns t c =
-    let e : c .before .loop .card ≡ c .before .before .before .args .n + 1 = omega (arith, c .before .loop .inv .1, c .loop-test .left) in
-    subst (λ d. Row (c .before .before .before .args .n) (codeOf (c .before .before .before .args .n)) (c .before .before .before .args .at) (now (c .before .before .before .args .w)) (c .before .loop .w) (childrenTo (c .before .before .before .args .n) (c .before .before .before .args .cards) (c .before .before .before .args .dealt) (c .before .before .before .args .left) d) (c .before .loop .next)) e (c .before .loop .inv .0)
+children-returns t c = let s0 = c .before in let a = s0 .before .before .args in
+    let e : s0.loop.card ≡ a.n + 1 = omega (arith, s0.loop.inv.1, c.loop-test.left) in
+    subst (λ d. Row a.n (codeOf a.n) a.at (now a.w) s0.loop.w (childrenTo a.n a.cards a.dealt a.left d) s0.loop.next) e s0.loop.inv.0
 
 deal-before-bet-requires : (t : ℕ) → deal-lts.Need-before-bet-requires (deal-callees t) (deal-at t) deal.Post
-deal-before-bet-requires t c κs = let s0 = c .before .before .before in (deals.hand-starts (s0 .args .n) (s0 .args .cards) (s0 .args .dealt) (s0 .args .left) (s0 .args .at) (now (s0 .args .w)) (s0 .pre .1 .0) (s0 .pre .1 .1) (c .before .if1 .taken), deals.hand-room (s0 .args .n) (s0 .args .cards) (s0 .args .dealt) (s0 .args .left) (s0 .args .at) (now (s0 .args .w)) (s0 .pre .1 .0) (s0 .pre .1 .1) (c .before .if1 .taken))
+deal-before-bet-requires t c κs = let s0 = c .before .before .before in let a = s0 .args in (
+  deals.hand-starts a.n a.cards a.dealt a.left a.at (now a.w) s0.pre.1.0 s0.pre.1.1 c.before.if1.taken,
+  deals.hand-room a.n a.cards a.dealt a.left a.at (now a.w) s0.pre.1.0 s0.pre.1.1 c.before.if1.taken,
+)
 
 deal-same-length : (t : ℕ) → deal-lts.Need-same-length (deal-callees t) (deal-at t) deal.Post
 deal-same-length t c = search needs
 
 deal-returns : (t : ℕ) → deal-lts.Need-returns (deal-callees t) (deal-at t) deal.Post
-deal-returns t c = let s0 = c .before .before .before .before .before .before in deals.deal-ends (s0 .args .n) (s0 .args .cards) (s0 .args .dealt) (s0 .args .left) (s0 .args .at) (now (s0 .args .w)) (s0 .pre .1 .0) (s0 .pre .1 .1) (c .before .before .before .before .if1 .taken) _ _ (c .before .before .before-bet .ensures)
+deal-returns t c = let s1 = c .before .before .before .before in let s0 = s1 .before .before in let a = s0 .args in
+    deals.deal-ends a.n a.cards a.dealt a.left a.at (now a.w) s0.pre.1.0 s0.pre.1.1 s1.if1.taken _ _ c.before.before.before-bet.ensures
 
 deal-add-children : (t : ℕ) → deal-lts.Need-add-children (deal-callees t) (deal-at t) deal.Post
-deal-add-children t c = record { fits = omega (arith, c .before .before .before .pre .1 .1 .places) }
+deal-add-children t c = record { fits = omega (arith, c.before.before.before.pre.1.1.places) }
 
 deal-sub-children : (t : ℕ) → deal-lts.Need-sub-children (deal-callees t) (deal-at t) deal.Post
-deal-sub-children t c = omega (arith, c .before .if1 .left)
+deal-sub-children t c = omega (arith, c.before.if1.left)
 
 deal-children-requires : (t : ℕ) → deal-lts.Need-children-requires (deal-callees t) (deal-at t) deal.Post
-deal-children-requires t c κs = let s0 = c .before .before .before in (omega (arith, s0 .pre .0, c .before .if1 .left), (deals.deals-row (s0 .args .n) (s0 .args .cards) (s0 .args .dealt) (s0 .args .left) (s0 .args .at) (now (s0 .args .w)) (s0 .pre .1 .0) (s0 .pre .1 .1) (c .before .if1 .left), deals.row-room (s0 .args .n) (s0 .args .cards) (s0 .args .dealt) (s0 .args .left) (s0 .args .at) (now (s0 .args .w)) (s0 .pre .1 .0) (s0 .pre .1 .1) (c .before .if1 .left)))
+deal-children-requires t c κs = let s1 = c .before in let s0 = s1 .before .before in let a = s0 .args in (
+  omega (arith, s0.pre.0, s1.if1.left),
+  (
+    deals.deals-row a.n a.cards a.dealt a.left a.at (now a.w) s0.pre.1.0 s0.pre.1.1 s1.if1.left,
+    deals.row-room a.n a.cards a.dealt a.left a.at (now a.w) s0.pre.1.0 s0.pre.1.1 s1.if1.left,
+  ),
+)
 
 deal-chance-requires : (t : ℕ) → deal-lts.Need-chance-requires (deal-callees t) (deal-at t) deal.Post
-deal-chance-requires t c κs = let s0 = c .before .before .before .before .before .before .before in deals.behind-few (s0 .args .n) (s0 .args .cards) (s0 .args .dealt) (s0 .args .left) (s0 .args .at) (now (s0 .args .w)) (s0 .pre .1 .0) (s0 .pre .1 .1) (c .before .before .before .before .before .if1 .left) _ _ (c .before .before .before .children .ensures)
+deal-chance-requires t c κs = let s1 = c .before .before .before in let s0 = s1 .before .before .before .before in let a = s0 .args in
+    deals.behind-few a.n a.cards a.dealt a.left a.at (now a.w) s0.pre.1.0 s0.pre.1.1 s1.before.before.if1.left _ _ s1.children.ensures
 
 deal-put-requires : (t : ℕ) → deal-lts.Need-put-requires (deal-callees t) (deal-at t) deal.Post
 deal-put-requires t c κs = search needs
@@ -181,40 +212,17 @@ deal-same-length-2 : (t : ℕ) → deal-lts.Need-same-length-2 (deal-callees t) 
 deal-same-length-2 t c = search needs
 
 deal-returns-2 : (t : ℕ) → deal-lts.Need-returns-2 (deal-callees t) (deal-at t) deal.Post
-deal-returns-2 t c = let s0 = c .before .before .before .before .before .before .before .before .before .before .before in deals.deal-goes-on (s0 .args .n) (s0 .args .cards) (s0 .args .dealt) (s0 .args .left) (s0 .args .at) (now (s0 .args .w)) (s0 .pre .1 .0) (s0 .pre .1 .1) (c .before .before .before .before .before .before .before .before .before .if1 .left) _ _ (c .before .before .before .before .before .before .before .children .ensures) _ _ (c .before .before .before .chance .ensures) (c .before .before .put .ensures)
+deal-returns-2 t c = let s2 = c .before .before in let s1 = s2 .before .before .before .before .before in
+    let s0 = s1 .before .before .before .before in let a = s0 .args in
+    deals.deal-goes-on a.n a.cards a.dealt a.left a.at (now a.w) s0.pre.1.0 s0.pre.1.1 s1.before.before.if1.left _ _ s1.children.ensures _ _
+    s2.before.chance.ensures s2.put.ensures
 
 pub +child+children+deal-spec : {M : Type 1} → statement M
-+child+children+deal-spec = close μ-child μ-children μ-deal (λ t. child-lts.spec (child-callees t) (child-at t)
-    child.Post
-    (child-is-dealt-requires t)
-    (child-returns t)
-    (child-with-card-requires t)
-    (child-add-deal t)
-    (child-deal-requires t)
-    (child-same-length t)
-    (child-returns-2 t))
-    (λ t. children-lts.spec
-    (child-below t, child.Post)
-    (children-at t)
-    children.Post
-    children-Inv-loop
-    children-μ-loop
-    (children-loop-holds t)
-    (children-child-requires t)
-    (children-add-card t)
-    (children-loop-less t)
-    (children-loop-again t)
-    (children-same-length t)
-    (children-returns t))
-    λ t. deal-lts.spec (deal-callees t) (deal-at t)
-    deal.Post
-    (deal-before-bet-requires t)
-    (deal-same-length t)
-    (deal-returns t)
-    (deal-add-children t)
-    (deal-sub-children t)
-    (deal-children-requires t)
-    (deal-chance-requires t)
-    (deal-put-requires t)
-    (deal-same-length-2 t)
-    (deal-returns-2 t)
++child+children+deal-spec =
+    close μ-child μ-children μ-deal
+    (λ t. child-lts.spec (child-callees t) (child-at t) child.Post (child-is-dealt-requires t) (child-returns t) (child-with-card-requires t)
+    (child-add-deal t) (child-deal-requires t) (child-same-length t) (child-returns-2 t))
+    (λ t. children-lts.spec (child-below t, child.Post) (children-at t) children.Post children-Inv-loop children-μ-loop (children-loop-holds t)
+    (children-child-requires t) (children-add-card t) (children-loop-less t) (children-loop-again t) (children-same-length t) (children-returns t))
+    λ t. deal-lts.spec (deal-callees t) (deal-at t) deal.Post (deal-before-bet-requires t) (deal-same-length t) (deal-returns t) (deal-add-children t)
+    (deal-sub-children t) (deal-children-requires t) (deal-chance-requires t) (deal-put-requires t) (deal-same-length-2 t) (deal-returns-2 t)

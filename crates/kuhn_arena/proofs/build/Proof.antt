@@ -4,14 +4,13 @@ use Rattle.kuhn_arena.proofs.build.Statement.{statement}
 use Rattle.kuhn_arena.proofs.build.Tie as tie
 
 deal-requires : tie.Need-deal-requires
-deal-requires c κs =
-    (starts (c .before .before .args .n) (c .before .before .pre .0) (c .before .before .pre .1), start-room (c .before .before .args .n) (c .before .before .pre .0) (c .before .before .pre .1) _ (c .before .before .pre .2))
+deal-requires c κs = let s0 = c .before .before in (starts s0.args.n s0.pre.0 s0.pre.1, start-room s0.args.n s0.pre.0 s0.pre.1 _ s0.pre.2)
 
 same-length : tie.Need-same-length
 same-length c = search needs
 
 returns : tie.Need-returns
-returns c = let s0 = c .before .before .before .before .before in built-tree (s0 .args .n) (s0 .pre .0) (s0 .pre .1) _ _ _ (c .before .before .deal .ensures)
+returns c = let s0 = c .before .before .before .before .before in built-tree s0.args.n s0.pre.0 s0.pre.1 _ _ _ c.before.before.deal.ensures
 
 pub build-spec : {M : Type 1} → statement M
 build-spec = tie.close (tie.spec deal-requires same-length returns)

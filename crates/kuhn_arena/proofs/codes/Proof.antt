@@ -14,7 +14,7 @@ array-read-result : tie.Need-array-read-result
 array-read-result c = search needs
 
 returns : tie.Need-returns
-returns c = by-seats (λ n. getD (0 ∷ 0 ∷ 24 ∷ 128 ∷ 640 ∷ 3072 ∷ 14336 ∷ []) n 0 ≡ codeCount n) refl refl refl refl refl (c .args .n) (c .pre .0) (c .pre .1)
+returns c = by-seats (λ n. getD (0 ∷ 0 ∷ 24 ∷ 128 ∷ 640 ∷ 3072 ∷ 14336 ∷ []) n 0 ≡ codeCount n) refl refl refl refl refl c.args.n c.pre.0 c.pre.1
 
 pub codes-spec : {M : Type 1} → statement M
 codes-spec = tie.close (tie.spec mul-result array-read-result returns)

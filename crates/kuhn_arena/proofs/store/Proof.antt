@@ -11,56 +11,33 @@ codes-requires : tie.Need-codes-requires
 codes-requires c κs = search needs
 
 mul-clear : tie.Need-mul-clear
-mul-clear c =
-    let n = c .before .before .before .before .before .before .before .args .n in
-    let two = c .before .before .before .before .before .before .before .pre .0 in
-    let six = c .before .before .before .before .before .before .before .pre .1 in
-    let r = start.place-behind n two six _ _ _ (c .before .before .before .before .build .ensures) in
-    let e = c .before .codes .ensures in
-    record { fits = omega (arith, e, start.codes-few n two six) }
+mul-clear c = let s1 = c .before .before .before .before in let s0 = s1 .before .before .before in
+    let n = s0.args.n in let two = s0.pre.0 in let six = s0.pre.1 in let r = start.place-behind n two six _ _ _ s1.build.ensures in
+    let e = c.before.codes.ensures in record { fits = omega (arith, e, start.codes-few n two six) }
 
 add-clear : tie.Need-add-clear
-add-clear c =
-    let n = c .before .before .before .before .before .before .before .args .n in
-    let two = c .before .before .before .before .before .before .before .pre .0 in
-    let six = c .before .before .before .before .before .before .before .pre .1 in
-    let r = start.place-behind n two six _ _ _ (c .before .before .before .before .build .ensures) in
-    let e = c .before .codes .ensures in
-    record { fits = omega (arith, r, e, start.codes-few n two six, start.nodes-few n two six) }
+add-clear c = let s1 = c .before .before .before .before in let s0 = s1 .before .before .before in
+    let n = s0.args.n in let two = s0.pre.0 in let six = s0.pre.1 in let r = start.place-behind n two six _ _ _ s1.build.ensures in
+    let e = c.before.codes.ensures in record { fits = omega (arith, r, e, start.codes-few n two six, start.nodes-few n two six) }
 
 clear-requires : tie.Need-clear-requires
 clear-requires c κs = search needs
 
 index-requires : tie.Need-index-requires
-index-requires c κs =
-    let n = c .before .before .before .before .before .before .before .before .before .before .before .args .n in
-    let two = c .before .before .before .before .before .before .before .before .before .before .before .pre .0 in
-    let six = c .before .before .before .before .before .before .before .before .before .before .before .pre .1 in
-    let r = start.place-behind n two six _ _ _ (c .before .before .before .before .before .before .before .before .build .ensures) in
-    let e = c .before .before .before .before .before .codes .ensures in
-    (omega (arith, r, start.nodes-few n two six), omega (arith, e, start.codes-few n two six))
+index-requires c κs = let s2 = c .before .before .before .before .before in let s1 = s2 .before .before .before in
+    let s0 = s1 .before .before .before in
+    let n = s0.args.n in let two = s0.pre.0 in let six = s0.pre.1 in let r = start.place-behind n two six _ _ _ s1.build.ensures in
+    let e = s2.codes.ensures in (omega (arith, r, start.nodes-few n two six), omega (arith, e, start.codes-few n two six))
 
 same-length : tie.Need-same-length
 same-length c = search needs
 
 returns : tie.Need-returns
-returns c =
-    let n = c .before .before .before .before .before .before .before .before .before .before .before .before .before .before .args .n in
-    let two = c .before .before .before .before .before .before .before .before .before .before .before .before .before .before .pre .0 in
-    let six = c .before .before .before .before .before .before .before .before .before .before .before .before .before .before .pre .1 in
-    let r = start.place-behind n two six _ _ _ (c .before .before .before .before .before .before .before .before .before .before .before .build .ensures) in
-    let e = c .before .before .before .before .before .before .before .before .codes .ensures in
-    start.stored n two six _ _ _ _ r e (c .before .before .index .ensures) (start.coded n two six _ _ _ _ _ (c .before .before .before .before .before .before .before .before .before .before .before .build .ensures) e (c .before .before .before .before .before .before .clear .ensures) (c .before .before .before .before .before .before .before .before .before .before .before .before .before .before .pre .2))
+returns c = let s2 = c .before .before .before .before .before .before in let s1 = s2 .before .before .before .before .before in
+    let s0 = s1 .before .before .before in
+    let n = s0.args.n in let two = s0.pre.0 in let six = s0.pre.1 in let r = start.place-behind n two six _ _ _ s1.build.ensures in
+    let e = s2.before.before.codes.ensures in
+    start.stored n two six _ _ _ _ r e c.before.before.index.ensures (start.coded n two six _ _ _ _ _ s1.build.ensures e s2.clear.ensures s0.pre.2)
 
 pub store-spec : {M : Type 1} → statement M
-store-spec =
-    tie.close
-    (tie.spec
-    build-requires
-    codes-requires
-    mul-clear
-    add-clear
-    clear-requires
-    index-requires
-    same-length
-    returns)
+store-spec = tie.close (tie.spec build-requires codes-requires mul-clear add-clear clear-requires index-requires same-length returns)

@@ -13,10 +13,10 @@ add-result : tie.Need-add-result
 add-result c = search needs
 
 returns : tie.Need-returns
-returns c = sym (ap (λ x. x % c .before .args .n) (c .if1 .taken) ∙ mod-self (c .before .args .n))
+returns c = sym (ap (λ x. x % c.before.args.n) c.if1.taken ∙ mod-self c.before.args.n)
 
 returns-2 : tie.Need-returns-2
-returns-2 c = sym (mod-eq-of-lt (omega (arith, c .if1 .left, c .before .pre .0)))
+returns-2 c = sym (mod-eq-of-lt (omega (arith, c.if1.left, c.before.pre.0)))
 
 pub following-spec : {M : Type 1} → statement M
 following-spec = tie.close (tie.spec add-if1 add-result returns returns-2)

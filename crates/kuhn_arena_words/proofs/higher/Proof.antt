@@ -14,12 +14,14 @@ card-of-requires-2 : tie.Need-card-of-requires-2
 card-of-requires-2 c κs = search needs
 
 returns : tie.Need-returns
-returns c = let s0 = c .before .before .before in sym (ap (λ t. cond t (s0 .args .second) (s0 .args .first))
-    (lt-ltb (cardAt (c .before .before .before .args .cards) (c .before .before .before .args .first)) (cardAt (c .before .before .before .args .cards) (c .before .before .before .args .second)) (omega (arith, c .if1 .taken, c .before .before .card-of .ensures, c .before .card-of2 .ensures))))
+returns c = let a = c .before .before .before .args in
+    sym (ap (λ t. cond t a.second a.first) (lt-ltb (cardAt a.cards a.first) (cardAt a.cards a.second)
+    (omega (arith, c.if1.taken, c.before.before.card-of.ensures, c.before.card-of2.ensures))))
 
 returns-2 : tie.Need-returns-2
-returns-2 c = let s0 = c .before .before .before in sym (ap (λ t. cond t (s0 .args .second) (s0 .args .first))
-    (le-ltb (cardAt (c .before .before .before .args .cards) (c .before .before .before .args .first)) (cardAt (c .before .before .before .args .cards) (c .before .before .before .args .second)) (omega (arith, c .if1 .left, c .before .before .card-of .ensures, c .before .card-of2 .ensures))))
+returns-2 c = let a = c .before .before .before .args in
+    sym (ap (λ t. cond t a.second a.first) (le-ltb (cardAt a.cards a.first) (cardAt a.cards a.second)
+    (omega (arith, c.if1.left, c.before.before.card-of.ensures, c.before.card-of2.ensures))))
 
 pub higher-spec : {M : Type 1} → statement M
 higher-spec = tie.close (tie.spec card-of-requires card-of-requires-2 returns returns-2)

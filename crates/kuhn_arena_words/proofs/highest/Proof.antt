@@ -14,10 +14,10 @@ abbrev μ-loop : tie.MeasureT-loop
 μ-loop n cards top₀ seat₀ top seat = n - seat
 
 loop-holds : tie.Need-loop-holds Inv-loop μ-loop
-loop-holds c = (top-one (c .args .cards), c .pre .0)
+loop-holds c = (top-one c.args.cards, c.pre.0)
 
 higher-requires : tie.Need-higher-requires Inv-loop μ-loop
-higher-requires c κs = (omega (arith, c .before .loop .inv .0 .seated), omega arith)
+higher-requires c κs = (omega (arith, c.before.loop.inv.0.seated), omega arith)
 
 add-seat : tie.Need-add-seat Inv-loop μ-loop
 add-seat c = search needs
@@ -26,12 +26,10 @@ loop-less : tie.Need-loop-less Inv-loop μ-loop
 loop-less c = search needs
 
 loop-again : tie.Need-loop-again Inv-loop μ-loop
-loop-again c = (top-more _ _ _ _ (c .before .before .loop .inv .0) (c .higher .ensures), omega arith)
+loop-again c = (top-more _ _ _ _ c.before.before.loop.inv.0 c.higher.ensures, omega arith)
 
 returns : tie.Need-returns Inv-loop μ-loop
-returns c = subst (λ k. Top k (c .before .before .args .cards) (c .before .loop .top)) (omega arith) (c .before .loop .inv .0)
+returns c = subst (λ k. Top k c.before.before.args.cards c.before.loop.top) (omega arith) c.before.loop.inv.0
 
 pub highest-spec : {M : Type 1} → statement M
-highest-spec =
-    tie.close
-    (tie.spec Inv-loop μ-loop loop-holds higher-requires add-seat loop-less loop-again returns)
+highest-spec = tie.close (tie.spec Inv-loop μ-loop loop-holds higher-requires add-seat loop-less loop-again returns)

@@ -11,7 +11,7 @@ shl-result : tie.Need-shl-result
 shl-result c = search needs
 
 returns : tie.Need-returns
-returns c = let e = unit-shifted (c .args .seat) (c .pre) in (e, omega (arith, e, unit-most (c .args .seat) (c .pre)))
+returns c = let e = unit-shifted c.args.seat c.pre in (e, omega (arith, e, unit-most c.args.seat c.pre))
 
 pub unit-spec : {M : Type 1} → statement M
 unit-spec = tie.close (tie.spec mul-result shl-result returns)

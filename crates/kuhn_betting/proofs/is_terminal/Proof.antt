@@ -13,10 +13,11 @@ add-result : tie.Need-add-result
 add-result c = search needs
 
 returns : tie.Need-returns
-returns c = let s0 = c .before .before .before in sym (ended-bet _ _ _ _ (s0 .pre .1) (s0 .pre .0) (c .before .first-bet .ensures .1 .0) (c .if1 .taken) (c .before .first-bet .ensures .1 .1 (c .if1 .taken)))
+returns c = let s0 = c .before .before .before in
+    sym (ended-bet _ _ _ _ s0.pre.1 s0.pre.0 c.before.first-bet.ensures.1.0 c.if1.taken (c.before.first-bet.ensures.1.1 c.if1.taken))
 
 returns-2 : tie.Need-returns-2
-returns-2 c = sym (ended-quiet _ _ _ (c .before .before .before .pre .0) (λ k w. c .before .first-bet .ensures .1 .0 k (omega arith)))
+returns-2 c = sym (ended-quiet _ _ _ c.before.before.before.pre.0 (λ k w. c.before.first-bet.ensures.1.0 k (omega arith)))
 
 pub is-terminal-spec : {M : Type 1} → statement M
 is-terminal-spec = tie.close (tie.spec first-bet-requires add-result returns returns-2)

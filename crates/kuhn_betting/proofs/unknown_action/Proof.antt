@@ -25,7 +25,8 @@ shared-slice-read-if1 : tie.Need-shared-slice-read-if1 Inv-loop μ-loop
 shared-slice-read-if1 c = search needs
 
 returns : tie.Need-returns Inv-loop μ-loop
-returns c = sym (unknown-take _ _ (c .before .before .before .before .pre) ∙ some-here _ _ (c .before .before .before .loop .i) (search needs) (lt-ltb _ _ (c .if1 .taken)))
+returns c = sym (unknown-take _ _ c.before.before.before.before.pre ∙ some-here _ _ c.before.before.before.loop.i (search needs)
+    (lt-ltb _ _ c.if1.taken))
 
 add-i : tie.Need-add-i Inv-loop μ-loop
 add-i c = search needs
@@ -34,21 +35,10 @@ loop-less : tie.Need-loop-less Inv-loop μ-loop
 loop-less c = search needs
 
 loop-again : tie.Need-loop-again Inv-loop μ-loop
-loop-again c = (search needs, none-more _ _ (c .before .before .before .loop .inv .1) (le-ltb _ _ (c .if1 .left)))
+loop-again c = (search needs, none-more _ _ c.before.before.before.loop.inv.1 (le-ltb _ _ c.if1.left))
 
 returns-2 : tie.Need-returns-2 Inv-loop μ-loop
-returns-2 c = sym (unknown-take _ _ (c .before .before .pre) ∙ none-passed _ _ _ (c .before .loop .inv .0) (search needs) (c .before .loop .inv .1))
+returns-2 c = sym (unknown-take _ _ c.before.before.pre ∙ none-passed _ _ _ c.before.loop.inv.0 (search needs) c.before.loop.inv.1)
 
 pub unknown-action-spec : {M : Type 1} → statement M
-unknown-action-spec =
-    tie.close
-    (tie.spec
-    Inv-loop
-    μ-loop
-    loop-holds
-    shared-slice-read-if1
-    returns
-    add-i
-    loop-less
-    loop-again
-    returns-2)
+unknown-action-spec = tie.close (tie.spec Inv-loop μ-loop loop-holds shared-slice-read-if1 returns add-i loop-less loop-again returns-2)

@@ -28,7 +28,8 @@ wide-requires : tie.Need-wide-requires Inv-loop μ-loop
 wide-requires c κs = search needs
 
 returns : tie.Need-returns Inv-loop μ-loop
-returns c = sym (strange-take _ _ _ (c .before .before .before .before .before .before .pre) ∙ some-here _ _ (c .before .before .before .before .loop .i) (search needs) (lt-ltb _ _ (rw (c .before .wide .ensures) at (c .if1 .taken))))
+returns c = let s0 = c .before .before .before .before in
+    sym (strange-take _ _ _ s0.before.before.pre ∙ some-here _ _ s0.loop.i (search needs) (lt-ltb _ _ (rw c.before.wide.ensures at c.if1.taken)))
 
 add-i : tie.Need-add-i Inv-loop μ-loop
 add-i c = search needs
@@ -37,22 +38,10 @@ loop-less : tie.Need-loop-less Inv-loop μ-loop
 loop-less c = search needs
 
 loop-again : tie.Need-loop-again Inv-loop μ-loop
-loop-again c = (search needs, none-more _ _ (c .before .before .before .before .loop .inv .1) (le-ltb _ _ (rw (c .before .wide .ensures) at (c .if1 .left))))
+loop-again c = (search needs, none-more _ _ c.before.before.before.before.loop.inv.1 (le-ltb _ _ (rw c.before.wide.ensures at c.if1.left)))
 
 returns-2 : tie.Need-returns-2 Inv-loop μ-loop
-returns-2 c = sym (strange-take _ _ _ (c .before .before .before .pre) ∙ none-passed _ _ _ (c .before .loop .inv .0) (search needs) (c .before .loop .inv .1))
+returns-2 c = sym (strange-take _ _ _ c.before.before.before.pre ∙ none-passed _ _ _ c.before.loop.inv.0 (search needs) c.before.loop.inv.1)
 
 pub card-outside-spec : {M : Type 1} → statement M
-card-outside-spec =
-    tie.close
-    (tie.spec
-    Inv-loop
-    μ-loop
-    loop-holds
-    shared-slice-read-wide
-    wide-requires
-    returns
-    add-i
-    loop-less
-    loop-again
-    returns-2)
+card-outside-spec = tie.close (tie.spec Inv-loop μ-loop loop-holds shared-slice-read-wide wide-requires returns add-i loop-less loop-again returns-2)

@@ -29,7 +29,8 @@ contains-requires : tie.Need-contains-requires Inv-loop μ-loop
 contains-requires c κs = search needs
 
 returns : tie.Need-returns Inv-loop μ-loop
-returns c = sym (twice-take _ _ (c .before .before .before .before .before .before .before .pre) ∙ some-here _ _ (c .before .before .before .before .before .loop .i) (search needs) (rw (← (c .before .before .wide .ensures)) (sym (c .before .contains .ensures) ∙ c .if1 .taken)))
+returns c = sym (twice-take _ _ c.before.before.before.before.before.before.before.pre ∙ some-here _ _ c.before.before.before.before.before.loop.i
+    (search needs) (rw (← c.before.before.wide.ensures) (sym c.before.contains.ensures ∙ c.if1.taken)))
 
 add-i : tie.Need-add-i Inv-loop μ-loop
 add-i c = search needs
@@ -38,23 +39,15 @@ loop-less : tie.Need-loop-less Inv-loop μ-loop
 loop-less c = search needs
 
 loop-again : tie.Need-loop-again Inv-loop μ-loop
-loop-again c = (search needs, none-more _ _ (c .before .before .before .before .before .loop .inv .1) (rw (← (c .before .before .wide .ensures)) (sym (c .before .contains .ensures) ∙ c .if1 .left)))
+loop-again c = (
+  search needs,
+  none-more _ _ c.before.before.before.before.before.loop.inv.1 (rw (← c.before.before.wide.ensures) (sym c.before.contains.ensures ∙ c.if1.left)),
+)
 
 returns-2 : tie.Need-returns-2 Inv-loop μ-loop
-returns-2 c = sym (twice-take _ _ (c .before .before .before .pre) ∙ none-passed _ _ _ (c .before .loop .inv .0) (search needs) (c .before .loop .inv .1))
+returns-2 c = sym (twice-take _ _ c.before.before.before.pre ∙ none-passed _ _ _ c.before.loop.inv.0 (search needs) c.before.loop.inv.1)
 
 pub card-twice-spec : {M : Type 1} → statement M
 card-twice-spec =
-    tie.close
-    (tie.spec
-    Inv-loop
-    μ-loop
-    loop-holds
-    shared-slice-read-wide
-    wide-requires
-    contains-requires
-    returns
-    add-i
-    loop-less
-    loop-again
+    tie.close (tie.spec Inv-loop μ-loop loop-holds shared-slice-read-wide wide-requires contains-requires returns add-i loop-less loop-again
     returns-2)

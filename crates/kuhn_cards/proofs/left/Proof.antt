@@ -9,10 +9,10 @@ contains-requires : tie.Need-contains-requires
 contains-requires c κs = search needs
 
 returns : tie.Need-returns
-returns c = (ap (λ b. cond b 0 1) (sym (c .if1 .taken) ∙ c .before .contains .ensures), search needs)
+returns c = (ap (λ b. cond b 0 1) (sym c.if1.taken ∙ c.before.contains.ensures), search needs)
 
 returns-2 : tie.Need-returns-2
-returns-2 c = (ap (λ b. cond b 0 1) (sym (c .if1 .left) ∙ c .before .contains .ensures), search needs)
+returns-2 c = (ap (λ b. cond b 0 1) (sym c.if1.left ∙ c.before.contains.ensures), search needs)
 
 pub left-spec : {M : Type 1} → statement M
 left-spec = tie.close (tie.spec contains-requires returns returns-2)

@@ -10,7 +10,8 @@ use Rattle.kuhn_cards.proofs.nth_remaining.Statement.{statement}
 use Rattle.kuhn_cards.proofs.nth_remaining.Tie as tie
 
 abbrev Inv-loop : tie.InvT-loop
-Inv-loop cards dealt n outcome c₀ passed₀ c passed = (c ≤ n + 1) × (passed ≡ length (those c (left n (take dealt cards)))) × (passed ≤ outcome) × (passed ≤ c)
+Inv-loop cards dealt n outcome c₀ passed₀ c passed = (c ≤ n + 1) × (passed ≡ length (those c (left n (take dealt cards)))) × (passed ≤ outcome) ×
+    (passed ≤ c)
 
 abbrev μ-loop : tie.MeasureT-loop
 μ-loop cards dealt n outcome c₀ passed₀ c passed = n + 1 - c
@@ -25,7 +26,8 @@ add-if1 : tie.Need-add-if1 Inv-loop μ-loop
 add-if1 c = search needs
 
 returns : tie.Need-returns Inv-loop μ-loop
-returns c = sym (card-found _ _ _ _ _ _ (c .before .before .before .loop .inv .1) (c .before .before .before .loop .inv .2) (search needs) (c .before .left .ensures .0) (c .if1 .taken))
+returns c = let s0 = c .before .before .before in
+    sym (card-found _ _ _ _ _ _ s0.loop.inv.1 s0.loop.inv.2 (search needs) c.before.left.ensures.0 c.if1.taken)
 
 add-passed : tie.Need-add-passed Inv-loop μ-loop
 add-passed c = search needs
@@ -37,23 +39,15 @@ loop-less : tie.Need-loop-less Inv-loop μ-loop
 loop-less c = search needs
 
 loop-again : tie.Need-loop-again Inv-loop μ-loop
-loop-again c = (search needs, card-passed _ _ _ (c .before .before .before .before .before .args .outcome) _ _ (c .before .before .before .loop .inv .1) (c .before .before .before .loop .inv .2) (search needs) (c .before .left .ensures .0), search needs, search needs)
+loop-again c = let s0 = c .before .before .before in (
+  search needs,
+  card-passed _ _ _ s0.before.before.args.outcome _ _ s0.loop.inv.1 s0.loop.inv.2 (search needs) c.before.left.ensures.0,
+  search needs,
+  search needs,
+)
 
 returns-2 : tie.Need-returns-2 Inv-loop μ-loop
-returns-2 c = sym (no-card-found _ _ _ _ _ 0 (c .before .loop .inv .1) (c .before .loop .inv .2) (c .loop-test .left) (c .before .loop .inv .0))
+returns-2 c = sym (no-card-found _ _ _ _ _ 0 c.before.loop.inv.1 c.before.loop.inv.2 c.loop-test.left c.before.loop.inv.0)
 
 pub nth-remaining-spec : {M : Type 1} → statement M
-nth-remaining-spec =
-    tie.close
-    (tie.spec
-    Inv-loop
-    μ-loop
-    loop-holds
-    left-requires
-    add-if1
-    returns
-    add-passed
-    add-c
-    loop-less
-    loop-again
-    returns-2)
+nth-remaining-spec = tie.close (tie.spec Inv-loop μ-loop loop-holds left-requires add-if1 returns add-passed add-c loop-less loop-again returns-2)

@@ -34,13 +34,15 @@ abbrev list-deals-callees : ℕ → list-deals-lts.Claims
 list-deals-callees t = (list-deals-below t, list-deals.Post, contains-reads.Asked, contains-reads.Learnt, with-card-reads.Asked, with-card-reads.Learnt, list-deal-reads.Asked, list-deal-reads.Learnt)
 
 list-deals-returns : (t : ℕ) → list-deals-lts.Need-returns (list-deals-callees t) (list-deals-at t) list-deals.Post
-list-deals-returns t c = wrote-nothing (deals-none (c .before .before .args .n) (c .before .before .args .dealt) (take (c .before .before .args .dealt) (c .before .before .args .t4)) (c .before .before .args .bound) (c .if1 .taken))
+list-deals-returns t c = let a = c .before .before .args in wrote-nothing (deals-none a.n a.dealt (take a.dealt a.t4) a.bound c.if1.taken)
 
 list-deals-sub-card : (t : ℕ) → list-deals-lts.Need-sub-card (list-deals-callees t) (list-deals-at t) list-deals.Post
 list-deals-sub-card t c = search needs
 
 list-deals-list-deals-requires : (t : ℕ) → list-deals-lts.Need-list-deals-requires (list-deals-callees t) (list-deals-at t) list-deals.Post
-list-deals-list-deals-requires t c κs = (omega (arith, c .before .before .before .pre .0, c .before .if1 .left), ((search needs, search needs, omega (arith, c .before .before .before .pre .1 .0 .2), c .before .before .before .pre .1 .0 .3), omega (arith, c .before .before .before .pre .1 .1, fewer-deals (c .before .before .before .args .n) (c .before .before .before .args .dealt) (take (c .before .before .before .args .dealt) (c .before .before .before .args .t4)) (c .before .before .before .args .bound) (c .before .if1 .left) (c .before .before .before .pre .1 .0 .2))))
+list-deals-list-deals-requires t c κs = let s0 = c .before .before .before in let a = s0 .args in
+    let h0 = fewer-deals a.n a.dealt (take a.dealt a.t4) a.bound c.before.if1.left s0.pre.1.0.2 in
+    (omega (arith, s0.pre.0, c.before.if1.left), ((search needs, search needs, omega (arith, s0.pre.1.0.2), s0.pre.1.0.3), omega (arith, s0.pre.1.1)))
 
 list-deals-slice-aggregate-contains : (t : ℕ) → list-deals-lts.Need-slice-aggregate-contains (list-deals-callees t) (list-deals-at t) list-deals.Post
 list-deals-slice-aggregate-contains t c = search needs
@@ -52,7 +54,9 @@ list-deals-same-length : (t : ℕ) → list-deals-lts.Need-same-length (list-dea
 list-deals-same-length t c = search needs
 
 list-deals-returns-2 : (t : ℕ) → list-deals-lts.Need-returns-2 (list-deals-callees t) (list-deals-at t) list-deals.Post
-list-deals-returns-2 t c = let s0 = c .before .before .before .before .before .before .before .before .before in wrote-as (sym (deals-taken (s0 .args .n) (s0 .args .dealt) (take (s0 .args .dealt) (s0 .args .t4)) (s0 .args .bound) (c .before .before .before .before .before .before .before .if1 .left) (sym (c .before .contains .ensures) ∙ c .if2 .taken))) (c .before .before .before .before .before .list-deals .ensures)
+list-deals-returns-2 t c = let s0 = c .before .before .before .before .before in let a = s0 .before .before .before .before .args in
+    wrote-as (sym (deals-taken a.n a.dealt (take a.dealt a.t4) a.bound s0.before.before.if1.left (sym c.before.contains.ensures ∙ c.if2.taken)))
+    s0.list-deals.ensures
 
 list-deals-with-card-requires : (t : ℕ) → list-deals-lts.Need-with-card-requires (list-deals-callees t) (list-deals-at t) list-deals.Post
 list-deals-with-card-requires t c κs = search needs
@@ -61,13 +65,30 @@ list-deals-add-if3 : (t : ℕ) → list-deals-lts.Need-add-if3 (list-deals-calle
 list-deals-add-if3 t c = search needs
 
 list-deals-list-deal-requires : (t : ℕ) → list-deals-lts.Need-list-deal-requires (list-deals-callees t) (list-deals-at t) list-deals.Post
-list-deals-list-deal-requires t c κs = ((search needs, search needs, more-in-deck (c .before .before .before .before .before .before .before .before .before .before .before .before .args .n) (c .before .before .before .before .before .before .before .before .before .before .before .before .args .dealt) (c .before .before .before .before .before .before .before .before .before .before .before .before .args .bound) (c .before .before .before .before .before .before .before .before .before .before .before .before .args .t4) (c .before .before .with-card .result) (let v : c .before .before .before .before .before .before .before .before .before .before .before .before .args .dealt < 6 = omega (arith, c .before .before .before .before .before .before .before .before .before .before .before .before .pre .1 .0) in search (needs, c .before .before .before .before .before .before .before .before .before .before .before .before .good .1 .1 .1 .0)) (c .before .before .with-card .ensures) (c .before .before .before .before .before .before .before .before .before .before .before .before .args .n) (c .before .if3 .taken) (omega (arith, c .before .before .before .before .before .before .before .before .before .before .before .before .pre .1 .0 .2)) (c .before .before .before .before .before .before .before .before .before .before .before .before .pre .1 .0 .3)), omega (arith, c .before .before .before .before .before .before .before .before .before .before .before .before .pre .1 .1, c .before .before .before .before .before .before .before .before .list-deals .kept .0, c .before .before .before .before .before .before .before .before .list-deals .ensures .next, ap length (parts-full (c .before .before .before .before .before .before .before .before .before .before .before .before .args .n) (c .before .before .before .before .before .before .before .before .before .before .before .before .args .dealt) (c .before .before .before .before .before .before .before .before .before .before .before .before .args .bound) (c .before .before .before .before .before .before .before .before .before .before .before .before .args .t4) (c .before .before .with-card .result) (let v : c .before .before .before .before .before .before .before .before .before .before .before .before .args .dealt < 6 = omega (arith, c .before .before .before .before .before .before .before .before .before .before .before .before .pre .1 .0) in search (needs, c .before .before .before .before .before .before .before .before .before .before .before .before .good .1 .1 .1 .0)) (c .before .before .with-card .ensures) (c .before .before .before .before .before .before .before .before .before .before .if1 .left) (c .before .before .before .before .before .before .before .before .before .before .before .before .pre .1 .0 .2) (sym (c .before .before .before .before .contains .ensures) ∙ c .before .before .before .if2 .left) (c .before .if3 .taken)), length-append (nextDeals (c .before .before .before .before .before .before .before .before .before .before .before .before .args .n) (c .before .before .before .before .before .before .before .before .before .before .before .before .args .dealt) (take (c .before .before .before .before .before .before .before .before .before .before .before .before .args .dealt) (c .before .before .before .before .before .before .before .before .before .before .before .before .args .t4)) (c .before .before .before .before .before .before .before .before .before .before .before .before .args .bound - 1)) (recordsOf (c .before .before .before .before .before .before .before .before .before .before .before .before .args .n) (take (c .before .before .before .before .before .before .before .before .before .before .before .before .args .n) (c .before .before .with-card .result)) (histories (c .before .before .before .before .before .before .before .before .before .before .before .before .args .n)))))
+list-deals-list-deal-requires t c κs = let s2 = c .before .before in let s1 = s2 .before .before .before .before .before .before in
+    let s0 = s1 .before .before .before .before in let a = s0 .args in
+    let h0 = ap length
+    (parts-full a.n a.dealt a.bound a.t4 s2.with-card.result (let v : a.dealt < 6 = omega (arith, s0.pre.1.0) in search (needs, s0.good.1.1.1.0))
+    s2.with-card.ensures s1.before.before.if1.left s0.pre.1.0.2 (sym s2.before.before.contains.ensures ∙ s2.before.if2.left) c.before.if3.taken) in
+    let h1 = length-append (nextDeals a.n a.dealt (take a.dealt a.t4) (a.bound - 1)) (recordsOf a.n (take a.n s2.with-card.result) (histories a.n)) in (
+      (
+        search needs,
+        search needs,
+        more-in-deck a.n a.dealt a.bound a.t4 s2.with-card.result (let v : a.dealt < 6 = omega (arith, s0.pre.1.0) in search (needs, s0.good.1.1.1.0))
+            s2.with-card.ensures a.n c.before.if3.taken (omega (arith, s0.pre.1.0.2)) s0.pre.1.0.3,
+      ),
+      omega (arith, s0.pre.1.1, s1.list-deals.kept.0, s1.list-deals.ensures.next),
+    )
 
 list-deals-same-length-2 : (t : ℕ) → list-deals-lts.Need-same-length-2 (list-deals-callees t) (list-deals-at t) list-deals.Post
 list-deals-same-length-2 t c = search needs
 
 list-deals-returns-3 : (t : ℕ) → list-deals-lts.Need-returns-3 (list-deals-callees t) (list-deals-at t) list-deals.Post
-list-deals-returns-3 t c = wrote-as (sym (parts-full (c .before .before .before .before .before .before .before .before .before .before .before .before .before .before .before .args .n) (c .before .before .before .before .before .before .before .before .before .before .before .before .before .before .before .args .dealt) (c .before .before .before .before .before .before .before .before .before .before .before .before .before .before .before .args .bound) (c .before .before .before .before .before .before .before .before .before .before .before .before .before .before .before .args .t4) (c .before .before .before .before .before .with-card .result) (let v : c .before .before .before .before .before .before .before .before .before .before .before .before .before .before .before .args .dealt < 6 = omega (arith, c .before .before .before .before .before .before .before .before .before .before .before .before .before .before .before .pre .1 .0) in search (needs, c .before .before .before .before .before .before .before .before .before .before .before .before .before .before .before .good .1 .1 .1 .0)) (c .before .before .before .before .before .with-card .ensures) (c .before .before .before .before .before .before .before .before .before .before .before .before .before .if1 .left) (c .before .before .before .before .before .before .before .before .before .before .before .before .before .before .before .pre .1 .0 .2) (sym (c .before .before .before .before .before .before .before .contains .ensures) ∙ c .before .before .before .before .before .before .if2 .left) (c .before .before .before .before .if3 .taken))) (wrote-append (c .before .before .before .before .before .before .before .before .before .before .before .list-deals .ensures) (c .before .before .list-deal .ensures))
+list-deals-returns-3 t c = let s3 = c .before .before .before .before in let s2 = s3 .before in
+    let s1 = s2 .before .before .before .before .before .before in let s0 = s1 .before .before .before .before in let a = s0 .args in
+    wrote-as (sym (parts-full a.n a.dealt a.bound a.t4 s2.with-card.result
+    (let v : a.dealt < 6 = omega (arith, s0.pre.1.0) in search (needs, s0.good.1.1.1.0)) s2.with-card.ensures s1.before.before.if1.left s0.pre.1.0.2
+    (sym s2.before.before.contains.ensures ∙ s2.before.if2.left) s3.if3.taken)) (wrote-append s1.list-deals.ensures c.before.before.list-deal.ensures)
 
 list-deals-add-list-deals : (t : ℕ) → list-deals-lts.Need-add-list-deals (list-deals-callees t) (list-deals-at t) list-deals.Post
 list-deals-add-list-deals t c = search needs
@@ -76,31 +97,41 @@ list-deals-add-list-deals-2 : (t : ℕ) → list-deals-lts.Need-add-list-deals-2
 list-deals-add-list-deals-2 t c = search needs
 
 list-deals-list-deals-requires-2 : (t : ℕ) → list-deals-lts.Need-list-deals-requires-2 (list-deals-callees t) (list-deals-at t) list-deals.Post
-list-deals-list-deals-requires-2 t c κs = (omega (arith, c .before .before .before .before .before .before .before .before .before .before .before .before .pre .0, c .before .before .before .before .before .before .before .before .before .before .before .before .pre .1 .0 .0, c .before .before .before .before .before .before .before .before .before .before .before .before .pre .1 .0 .1, c .before .before .before .before .before .before .before .before .before .before .if1 .left), ((omega (arith, c .before .before .before .before .before .before .before .before .before .before .before .before .pre .1 .0 .0, c .before .if3 .left), search needs, search needs, more-in-deck (c .before .before .before .before .before .before .before .before .before .before .before .before .args .n) (c .before .before .before .before .before .before .before .before .before .before .before .before .args .dealt) (c .before .before .before .before .before .before .before .before .before .before .before .before .args .bound) (c .before .before .before .before .before .before .before .before .before .before .before .before .args .t4) (c .before .before .with-card .result) (let v : c .before .before .before .before .before .before .before .before .before .before .before .before .args .dealt < 6 = omega (arith, c .before .before .before .before .before .before .before .before .before .before .before .before .pre .1 .0) in search (needs, c .before .before .before .before .before .before .before .before .before .before .before .before .good .1 .1 .1 .0)) (c .before .before .with-card .ensures) (c .before .before .before .before .before .before .before .before .before .before .before .before .args .dealt + 1) refl (omega (arith, c .before .before .before .before .before .before .before .before .before .before .before .before .pre .1 .0 .2)) (c .before .before .before .before .before .before .before .before .before .before .before .before .pre .1 .0 .3)), omega (arith, c .before .before .before .before .before .before .before .before .before .before .before .before .pre .1 .1, c .before .before .before .before .before .before .before .before .list-deals .kept .0, c .before .before .before .before .before .before .before .before .list-deals .ensures .next, ap length (parts-more (c .before .before .before .before .before .before .before .before .before .before .before .before .args .n) (c .before .before .before .before .before .before .before .before .before .before .before .before .args .dealt) (c .before .before .before .before .before .before .before .before .before .before .before .before .args .bound) (c .before .before .before .before .before .before .before .before .before .before .before .before .args .t4) (c .before .before .with-card .result) (let v : c .before .before .before .before .before .before .before .before .before .before .before .before .args .dealt < 6 = omega (arith, c .before .before .before .before .before .before .before .before .before .before .before .before .pre .1 .0) in search (needs, c .before .before .before .before .before .before .before .before .before .before .before .before .good .1 .1 .1 .0)) (c .before .before .with-card .ensures) (c .before .before .before .before .before .before .before .before .before .before .if1 .left) (c .before .before .before .before .before .before .before .before .before .before .before .before .pre .1 .0 .2) (sym (c .before .before .before .before .contains .ensures) ∙ c .before .before .before .if2 .left) (c .before .before .before .before .before .before .before .before .before .before .before .before .pre .1 .0 .0) (c .before .if3 .left)), length-append (nextDeals (c .before .before .before .before .before .before .before .before .before .before .before .before .args .n) (c .before .before .before .before .before .before .before .before .before .before .before .before .args .dealt) (take (c .before .before .before .before .before .before .before .before .before .before .before .before .args .dealt) (c .before .before .before .before .before .before .before .before .before .before .before .before .args .t4)) (c .before .before .before .before .before .before .before .before .before .before .before .before .args .bound - 1)) (nextDeals (c .before .before .before .before .before .before .before .before .before .before .before .before .args .n) (c .before .before .before .before .before .before .before .before .before .before .before .before .args .dealt + 1) (take (c .before .before .before .before .before .before .before .before .before .before .before .before .args .dealt + 1) (c .before .before .with-card .result)) (c .before .before .before .before .before .before .before .before .before .before .before .before .args .n + 1)))))
+list-deals-list-deals-requires-2 t c κs = let s3 = c .before .before in let s2 = s3 .before .before .before .before .before .before in
+    let s1 = s2 .before .before in let s0 = s1 .before .before in let a = s0 .args in
+    let h0 = ap length
+    (parts-more a.n a.dealt a.bound a.t4 s3.with-card.result (let v : a.dealt < 6 = omega (arith, s0.pre.1.0) in search (needs, s0.good.1.1.1.0))
+    s3.with-card.ensures s1.if1.left s0.pre.1.0.2 (sym s3.before.before.contains.ensures ∙ s3.before.if2.left) s0.pre.1.0.0 c.before.if3.left) in
+    let h1 = length-append (nextDeals a.n a.dealt (take a.dealt a.t4) (a.bound - 1))
+    (nextDeals a.n (a.dealt + 1) (take (a.dealt + 1) s3.with-card.result) (a.n + 1)) in (
+      omega (arith, s0.pre.0, s0.pre.1.0.0, s0.pre.1.0.1, s1.if1.left),
+      (
+        (
+          omega (arith, s0.pre.1.0.0, c.before.if3.left),
+          search needs,
+          search needs,
+          more-in-deck a.n a.dealt a.bound a.t4 s3.with-card.result (let v : a.dealt < 6 = omega (arith, s0.pre.1.0) in
+              search (needs, s0.good.1.1.1.0)) s3.with-card.ensures (a.dealt + 1) refl (omega (arith, s0.pre.1.0.2)) s0.pre.1.0.3,
+        ),
+        omega (arith, s0.pre.1.1, s2.list-deals.kept.0, s2.list-deals.ensures.next),
+      ),
+    )
 
 list-deals-same-length-3 : (t : ℕ) → list-deals-lts.Need-same-length-3 (list-deals-callees t) (list-deals-at t) list-deals.Post
 list-deals-same-length-3 t c = search needs
 
 list-deals-returns-4 : (t : ℕ) → list-deals-lts.Need-returns-4 (list-deals-callees t) (list-deals-at t) list-deals.Post
-list-deals-returns-4 t c = wrote-as (sym (parts-more (c .before .before .before .before .before .before .before .before .before .before .before .before .before .before .before .args .n) (c .before .before .before .before .before .before .before .before .before .before .before .before .before .before .before .args .dealt) (c .before .before .before .before .before .before .before .before .before .before .before .before .before .before .before .args .bound) (c .before .before .before .before .before .before .before .before .before .before .before .before .before .before .before .args .t4) (c .before .before .before .before .before .with-card .result) (let v : c .before .before .before .before .before .before .before .before .before .before .before .before .before .before .before .args .dealt < 6 = omega (arith, c .before .before .before .before .before .before .before .before .before .before .before .before .before .before .before .pre .1 .0) in search (needs, c .before .before .before .before .before .before .before .before .before .before .before .before .before .before .before .good .1 .1 .1 .0)) (c .before .before .before .before .before .with-card .ensures) (c .before .before .before .before .before .before .before .before .before .before .before .before .before .if1 .left) (c .before .before .before .before .before .before .before .before .before .before .before .before .before .before .before .pre .1 .0 .2) (sym (c .before .before .before .before .before .before .before .contains .ensures) ∙ c .before .before .before .before .before .before .if2 .left) (c .before .before .before .before .before .before .before .before .before .before .before .before .before .before .before .pre .1 .0 .0) (c .before .before .before .before .if3 .left))) (wrote-append (c .before .before .before .before .before .before .before .before .before .before .before .list-deals .ensures) (c .before .before .list-deals2 .ensures))
+list-deals-returns-4 t c = let s3 = c .before .before .before .before in let s2 = s3 .before in
+    let s1 = s2 .before .before .before .before .before .before in let s0 = s1 .before .before .before .before in let a = s0 .args in
+    wrote-as (sym (parts-more a.n a.dealt a.bound a.t4 s2.with-card.result (let v : a.dealt < 6 = omega (arith, s0.pre.1.0) in
+    search (needs, s0.good.1.1.1.0)) s2.with-card.ensures s1.before.before.if1.left s0.pre.1.0.2 (sym s2.before.before.contains.ensures ∙
+    s2.before.if2.left) s0.pre.1.0.0 s3.if3.left)) (wrote-append s1.list-deals.ensures c.before.before.list-deals2.ensures)
 
 pub +list-deals-spec : {M : Type 1} → statement M
-+list-deals-spec = close μ-list-deals λ t. list-deals-lts.spec (list-deals-callees t) (list-deals-at t)
-    list-deals.Post
-    (list-deals-returns t)
-    (list-deals-sub-card t)
-    (list-deals-list-deals-requires t)
-    (list-deals-slice-aggregate-contains t)
-    (list-deals-contains-requires t)
-    (list-deals-same-length t)
-    (list-deals-returns-2 t)
-    (list-deals-with-card-requires t)
-    (list-deals-add-if3 t)
-    (list-deals-list-deal-requires t)
-    (list-deals-same-length-2 t)
-    (list-deals-returns-3 t)
-    (list-deals-add-list-deals t)
-    (list-deals-add-list-deals-2 t)
-    (list-deals-list-deals-requires-2 t)
-    (list-deals-same-length-3 t)
-    (list-deals-returns-4 t)
++list-deals-spec =
+    close μ-list-deals
+    λ t. list-deals-lts.spec (list-deals-callees t) (list-deals-at t) list-deals.Post (list-deals-returns t) (list-deals-sub-card t)
+    (list-deals-list-deals-requires t) (list-deals-slice-aggregate-contains t) (list-deals-contains-requires t) (list-deals-same-length t)
+    (list-deals-returns-2 t) (list-deals-with-card-requires t) (list-deals-add-if3 t) (list-deals-list-deal-requires t) (list-deals-same-length-2 t)
+    (list-deals-returns-3 t) (list-deals-add-list-deals t) (list-deals-add-list-deals-2 t) (list-deals-list-deals-requires-2 t)
+    (list-deals-same-length-3 t) (list-deals-returns-4 t)

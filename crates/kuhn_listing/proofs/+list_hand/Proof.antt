@@ -31,7 +31,7 @@ abbrev list-hand-callees : ℕ → list-hand-lts.Claims
 list-hand-callees t = (is-terminal-reads.Asked, is-terminal-reads.Learnt, write-first-reads.Asked, write-first-reads.Learnt, with-action-reads.Asked, with-action-reads.Learnt, list-hand-below t, list-hand.Post)
 
 list-hand-returns : (t : ℕ) → list-hand-lts.Need-returns (list-hand-callees t) (list-hand-at t) list-hand.Post
-list-hand-returns t c = wrote-nothing (hand-none (c .before .before .args .n) (take (c .before .before .args .n) (c .before .before .args .cards)) _ (take (c .before .before .args .acted) (c .before .before .args .t5)) (c .if1 .taken))
+list-hand-returns t c = let a = c .before .before .args in wrote-nothing (hand-none a.n (take a.n a.cards) _ (take a.acted a.t5) c.if1.taken)
 
 list-hand-slice-aggregate-is-terminal : (t : ℕ) → list-hand-lts.Need-slice-aggregate-is-terminal (list-hand-callees t) (list-hand-at t) list-hand.Post
 list-hand-slice-aggregate-is-terminal t c = search needs
@@ -40,10 +40,14 @@ list-hand-is-terminal-requires : (t : ℕ) → list-hand-lts.Need-is-terminal-re
 list-hand-is-terminal-requires t c κs = search needs
 
 list-hand-returns-2 : (t : ℕ) → list-hand-lts.Need-returns-2 (list-hand-callees t) (list-hand-at t) list-hand.Post
-list-hand-returns-2 t c = let s0 = c .before .before .before .before .before in wrote-nothing (hand-over (s0 .args .n) (take (s0 .args .n) (s0 .args .cards)) (s0 .args .left) (take (s0 .args .acted) (s0 .args .t5)) (sym (c .before .is-terminal .ensures) ∙ c .if2 .taken))
+list-hand-returns-2 t c = let a = c .before .before .before .before .before .args in
+    wrote-nothing (hand-over a.n (take a.n a.cards) a.left (take a.acted a.t5) (sym c.before.is-terminal.ensures ∙ c.if2.taken))
 
 list-hand-write-first-requires : (t : ℕ) → list-hand-lts.Need-write-first-requires (list-hand-callees t) (list-hand-at t) list-hand.Post
-list-hand-write-first-requires t c κs = ((search needs, search needs, search needs, c .before .before .before .before .before .before .pre .1 .0 .3), omega (arith, c .before .before .before .before .before .before .pre .1 .1, hand-length (c .before .before .before .before .before .before .args .n) (take (c .before .before .before .before .before .before .args .n) (c .before .before .before .before .before .before .args .cards)) (c .before .before .before .before .before .before .args .t5) (c .before .before .before .before .before .before .args .acted) (c .before .before .before .before .before .before .args .left) (search needs) (c .before .before .before .before .if1 .left) (sym (c .before .before .is-terminal .ensures) ∙ c .before .if2 .left) _ _ refl refl))
+list-hand-write-first-requires t c κs = let s1 = c .before .before .before .before in let s0 = s1 .before .before in let a = s0 .args in
+    let h0 = hand-length a.n (take a.n a.cards) a.t5 a.acted a.left (search needs) s1.if1.left
+    (sym c.before.before.is-terminal.ensures ∙ c.before.if2.left) _ _ refl refl in
+    ((search needs, search needs, search needs, s0.pre.1.0.3), omega (arith, s0.pre.1.1))
 
 list-hand-with-action-requires : (t : ℕ) → list-hand-lts.Need-with-action-requires (list-hand-callees t) (list-hand-at t) list-hand.Post
 list-hand-with-action-requires t c κs = search needs
@@ -55,7 +59,13 @@ list-hand-sub-list-hand : (t : ℕ) → list-hand-lts.Need-sub-list-hand (list-h
 list-hand-sub-list-hand t c = search needs
 
 list-hand-list-hand-requires : (t : ℕ) → list-hand-lts.Need-list-hand-requires (list-hand-callees t) (list-hand-at t) list-hand.Post
-list-hand-list-hand-requires t c κs = (omega (arith, c .before .before .before .before .before .before .before .before .before .before .before .pre .0, c .before .before .before .before .before .before .before .before .before .if1 .left), ((search needs, search needs, omega (arith, c .before .before .before .before .before .before .before .before .before .before .before .pre .1 .0 .2, c .before .before .before .before .before .before .before .before .before .if1 .left), c .before .before .before .before .before .before .before .before .before .before .before .pre .1 .0 .3), omega (arith, c .before .before .before .before .before .before .before .before .before .before .before .pre .1 .1, c .before .before .before .before .write-first .kept .0, c .before .before .before .before .write-first .ensures .next, hand-length (c .before .before .before .before .before .before .before .before .before .before .before .args .n) (take (c .before .before .before .before .before .before .before .before .before .before .before .args .n) (c .before .before .before .before .before .before .before .before .before .before .before .args .cards)) (c .before .before .before .before .before .before .before .before .before .before .before .args .t5) (c .before .before .before .before .before .before .before .before .before .before .before .args .acted) (c .before .before .before .before .before .before .before .before .before .before .before .args .left) (search needs) (c .before .before .before .before .before .before .before .before .before .if1 .left) (sym (c .before .before .before .before .before .before .before .is-terminal .ensures) ∙ c .before .before .before .before .before .before .if2 .left) _ _ (c .before .with-action .ensures) refl)))
+list-hand-list-hand-requires t c κs = let s3 = c .before .before .before .before in let s2 = s3 .before .before in let s1 = s2 .before .before .before in
+    let s0 = s1 .before .before in let a = s0 .args in let v : a.acted < 11 = omega (arith, s0.pre.1.0.2, s1.if1.left) in
+    let h = hand-length a.n (take a.n a.cards) a.t5 a.acted a.left (search (needs, s0.good.1.1.1.1.0)) s1.if1.left
+    (sym s2.before.is-terminal.ensures ∙ s2.if2.left) _ _ c.before.with-action.ensures refl in (
+      omega (arith, s0.pre.0, s1.if1.left),
+      ((s0.pre.1.0.0, s0.pre.1.0.1, omega arith, s0.pre.1.0.3), omega (arith, s0.pre.1.1, s3.write-first.kept.0, s3.write-first.ensures.next)),
+    )
 
 list-hand-with-action-requires-2 : (t : ℕ) → list-hand-lts.Need-with-action-requires-2 (list-hand-callees t) (list-hand-at t) list-hand.Post
 list-hand-with-action-requires-2 t c κs = search needs
@@ -67,29 +77,34 @@ list-hand-sub-list-hand-2 : (t : ℕ) → list-hand-lts.Need-sub-list-hand-2 (li
 list-hand-sub-list-hand-2 t c = search needs
 
 list-hand-list-hand-requires-2 : (t : ℕ) → list-hand-lts.Need-list-hand-requires-2 (list-hand-callees t) (list-hand-at t) list-hand.Post
-list-hand-list-hand-requires-2 t c κs = (omega (arith, c .before .before .before .before .before .before .before .before .before .before .before .before .before .before .before .before .pre .0, c .before .before .before .before .before .before .before .before .before .before .before .before .before .before .if1 .left), ((search needs, search needs, omega (arith, c .before .before .before .before .before .before .before .before .before .before .before .before .before .before .before .before .pre .1 .0 .2, c .before .before .before .before .before .before .before .before .before .before .before .before .before .before .if1 .left), c .before .before .before .before .before .before .before .before .before .before .before .before .before .before .before .before .pre .1 .0 .3), omega (arith, c .before .before .before .before .before .before .before .before .before .before .before .before .before .before .before .before .pre .1 .1, c .before .before .before .before .before .before .before .before .before .write-first .kept .0, c .before .before .before .before .before .before .before .before .before .write-first .ensures .next, c .before .before .before .before .list-hand .kept .0, c .before .before .before .before .list-hand .ensures .next, hand-length (c .before .before .before .before .before .before .before .before .before .before .before .before .before .before .before .before .args .n) (take (c .before .before .before .before .before .before .before .before .before .before .before .before .before .before .before .before .args .n) (c .before .before .before .before .before .before .before .before .before .before .before .before .before .before .before .before .args .cards)) (c .before .before .before .before .before .before .before .before .before .before .before .before .before .before .before .before .args .t5) (c .before .before .before .before .before .before .before .before .before .before .before .before .before .before .before .before .args .acted) (c .before .before .before .before .before .before .before .before .before .before .before .before .before .before .before .before .args .left) (search needs) (c .before .before .before .before .before .before .before .before .before .before .before .before .before .before .if1 .left) (sym (c .before .before .before .before .before .before .before .before .before .before .before .before .is-terminal .ensures) ∙ c .before .before .before .before .before .before .before .before .before .before .before .if2 .left) _ _ (c .before .before .before .before .before .before .with-action .ensures) (c .before .with-action2 .ensures))))
+list-hand-list-hand-requires-2 t c κs = let s4 = c .before .before .before .before in let s3 = s4 .before .before .before .before .before in
+    let s2 = s3 .before .before in let s1 = s2 .before .before .before in let s0 = s1 .before .before in let a = s0 .args in
+    let v : a.acted < 11 = omega (arith, s0.pre.1.0.2, s1.if1.left) in
+    let h = hand-length a.n (take a.n a.cards) a.t5 a.acted a.left (search (needs, s0.good.1.1.1.1.0)) s1.if1.left
+    (sym s2.before.is-terminal.ensures ∙ s2.if2.left) _ _ s4.before.before.with-action.ensures c.before.with-action2.ensures in
+    let here = s3.write-first in let passed = s4.list-hand in (
+      omega (arith, s0.pre.0, s1.if1.left),
+      (
+        (s0.pre.1.0.0, s0.pre.1.0.1, omega arith, s0.pre.1.0.3),
+        omega (arith, s0.pre.1.1, here.kept.0, here.ensures.next, passed.kept.0, passed.ensures.next),
+      ),
+    )
 
 list-hand-same-length : (t : ℕ) → list-hand-lts.Need-same-length (list-hand-callees t) (list-hand-at t) list-hand.Post
 list-hand-same-length t c = search needs
 
 list-hand-returns-3 : (t : ℕ) → list-hand-lts.Need-returns-3 (list-hand-callees t) (list-hand-at t) list-hand.Post
-list-hand-returns-3 t c = wrote-hand (c .before .before .before .before .before .before .before .before .before .before .before .before .before .before .before .before .before .before .before .args .n) (take (c .before .before .before .before .before .before .before .before .before .before .before .before .before .before .before .before .before .before .before .args .n) (c .before .before .before .before .before .before .before .before .before .before .before .before .before .before .before .before .before .before .before .args .cards)) (c .before .before .before .before .before .before .before .before .before .before .before .before .before .before .before .before .before .before .before .args .t5) (c .before .before .before .before .before .before .before .before .before .before .before .before .before .before .before .before .before .before .before .args .acted) (c .before .before .before .before .before .before .before .before .before .before .before .before .before .before .before .before .before .before .before .args .left) (let v : c .before .before .before .before .before .before .before .before .before .before .before .before .before .before .before .before .before .before .before .args .acted < 11 = omega (arith, c .before .before .before .before .before .before .before .before .before .before .before .before .before .before .before .before .before .before .before .pre .1 .0 .2, c .before .before .before .before .before .before .before .before .before .before .before .before .before .before .before .before .before .if1 .left) in search (needs, c .before .before .before .before .before .before .before .before .before .before .before .before .before .before .before .before .before .before .before .good .1 .1 .1 .1 .0)) (c .before .before .before .before .before .before .before .before .before .before .before .before .before .before .before .before .before .if1 .left) (sym (c .before .before .before .before .before .before .before .before .before .before .before .before .before .before .before .is-terminal .ensures) ∙ c .before .before .before .before .before .before .before .before .before .before .before .before .before .before .if2 .left) (c .before .before .before .before .before .before .before .before .before .with-action .ensures) (c .before .before .before .before .with-action2 .ensures) (c .before .before .before .before .before .before .before .before .before .before .before .before .write-first .ensures) (c .before .before .before .before .before .before .before .list-hand .ensures) (c .before .before .list-hand2 .ensures)
+list-hand-returns-3 t c = let s5 = c .before .before .before .before in let s4 = s5 .before .before .before in
+    let s3 = s4 .before .before .before .before .before in let s2 = s3 .before .before in let s1 = s2 .before .before .before in
+    let s0 = s1 .before .before in let a = s0 .args in
+    wrote-hand a.n (take a.n a.cards) a.t5 a.acted a.left (let v : a.acted < 11 = omega (arith, s0.pre.1.0.2, s1.if1.left) in
+    search (needs, s0.good.1.1.1.1.0)) s1.if1.left (sym s2.before.is-terminal.ensures ∙ s2.if2.left) s4.before.before.with-action.ensures
+    s5.with-action2.ensures s3.write-first.ensures s4.list-hand.ensures c.before.before.list-hand2.ensures
 
 pub +list-hand-spec : {M : Type 1} → statement M
-+list-hand-spec = close μ-list-hand λ t. list-hand-lts.spec (list-hand-callees t) (list-hand-at t)
-    list-hand.Post
-    (list-hand-returns t)
-    (list-hand-slice-aggregate-is-terminal t)
-    (list-hand-is-terminal-requires t)
-    (list-hand-returns-2 t)
-    (list-hand-write-first-requires t)
-    (list-hand-with-action-requires t)
-    (list-hand-add-list-hand t)
-    (list-hand-sub-list-hand t)
-    (list-hand-list-hand-requires t)
-    (list-hand-with-action-requires-2 t)
-    (list-hand-add-list-hand-2 t)
-    (list-hand-sub-list-hand-2 t)
-    (list-hand-list-hand-requires-2 t)
-    (list-hand-same-length t)
-    (list-hand-returns-3 t)
++list-hand-spec =
+    close μ-list-hand
+    λ t. list-hand-lts.spec (list-hand-callees t) (list-hand-at t) list-hand.Post (list-hand-returns t) (list-hand-slice-aggregate-is-terminal t)
+    (list-hand-is-terminal-requires t) (list-hand-returns-2 t) (list-hand-write-first-requires t) (list-hand-with-action-requires t)
+    (list-hand-add-list-hand t) (list-hand-sub-list-hand t) (list-hand-list-hand-requires t) (list-hand-with-action-requires-2 t)
+    (list-hand-add-list-hand-2 t) (list-hand-sub-list-hand-2 t) (list-hand-list-hand-requires-2 t) (list-hand-same-length t) (list-hand-returns-3 t)

@@ -20,10 +20,10 @@ loop-holds : tie.Need-loop-holds Inv-loop μ-loop
 loop-holds c = (search needs, some-none _)
 
 is-first-requires : tie.Need-is-first-requires Inv-loop μ-loop
-is-first-requires c κs = (search needs, search needs, c .before .before .before .pre .1)
+is-first-requires c κs = (search needs, search needs, c.before.before.before.pre.1)
 
 returns : tie.Need-returns Inv-loop μ-loop
-returns c = sym (some-here _ _ (c .before .before .before .loop .seat) (search needs) (sym (c .before .is-first .ensures) ∙ c .if1 .taken))
+returns c = sym (some-here _ _ c.before.before.before.loop.seat (search needs) (sym c.before.is-first.ensures ∙ c.if1.taken))
 
 add-seat : tie.Need-add-seat Inv-loop μ-loop
 add-seat c = search needs
@@ -32,21 +32,10 @@ loop-less : tie.Need-loop-less Inv-loop μ-loop
 loop-less c = search needs
 
 loop-again : tie.Need-loop-again Inv-loop μ-loop
-loop-again c = (search needs, none-more _ _ (c .before .before .before .loop .inv .1) (sym (c .before .is-first .ensures) ∙ c .if1 .left))
+loop-again c = (search needs, none-more _ _ c.before.before.before.loop.inv.1 (sym c.before.is-first.ensures ∙ c.if1.left))
 
 returns-2 : tie.Need-returns-2 Inv-loop μ-loop
-returns-2 c = sym (none-passed _ _ _ (c .before .loop .inv .0) (search needs) (c .before .loop .inv .1))
+returns-2 c = sym (none-passed _ _ _ c.before.loop.inv.0 (search needs) c.before.loop.inv.1)
 
 pub any-first-spec : {M : Type 1} → statement M
-any-first-spec =
-    tie.close
-    (tie.spec
-    Inv-loop
-    μ-loop
-    loop-holds
-    is-first-requires
-    returns
-    add-seat
-    loop-less
-    loop-again
-    returns-2)
+any-first-spec = tie.close (tie.spec Inv-loop μ-loop loop-holds is-first-requires returns add-seat loop-less loop-again returns-2)

@@ -28,12 +28,12 @@ loop-holds : tie.Need-loop-holds Inv-loop μ-loop
 loop-holds c = (search needs, every-none _)
 
 lowest-unless-requires : tie.Need-lowest-unless-requires Inv-loop μ-loop
-lowest-unless-requires c κs = (search needs, search needs, c .before .before .before .before .before .pre .2 (c .before .loop .q) (search needs))
+lowest-unless-requires c κs = (search needs, search needs, c.before.before.before.before.before.pre.2 c.before.loop.q (search needs))
 
 returns : tie.Need-returns Inv-loop μ-loop
-returns c = let s0 = c .before .before .before .before .before .before .before in sym (first-is (s0 .args .cards .now) (s0 .args .n) (s0 .pre .1) (s0 .args .seat) (s0 .pre .0)
-    ∙ ap (λ x. every (c .before .before .before .before .before .before .before .args .n) (λ p. or (eqb p (c .before .before .before .before .before .before .before .args .seat)) (lowestBut (c .before .before .before .before .before .before .before .args .n) (take (c .before .before .before .before .before .before .before .args .n) (c .before .before .before .before .before .before .before .args .cards .now)) x p))) (sym (c .before .before .before .before .wide .ensures))
-    ∙ every-fails _ _ (c .before .before .before .loop .q) (search needs) (sym (c .before .lowest-unless .ensures) ∙ not-true _ (c .if1 .taken)))
+returns c = let s1 = c .before .before .before in let s0 = s1 .before .before .before .before in let a = s0 .args in
+    sym (first-is a.cards.now a.n s0.pre.1 a.seat s0.pre.0 ∙ ap (λ x. every a.n (λ p. or (eqb p a.seat) (lowestBut a.n (take a.n a.cards.now) x p)))
+    (sym s1.before.wide.ensures) ∙ every-fails _ _ s1.loop.q (search needs) (sym c.before.lowest-unless.ensures ∙ not-true _ c.if1.taken))
 
 add-q : tie.Need-add-q Inv-loop μ-loop
 add-q c = search needs
@@ -42,25 +42,14 @@ loop-less : tie.Need-loop-less Inv-loop μ-loop
 loop-less c = search needs
 
 loop-again : tie.Need-loop-again Inv-loop μ-loop
-loop-again c = (search needs, every-more _ _ (c .before .before .before .loop .inv .1) (sym (c .before .lowest-unless .ensures) ∙ not-false _ (c .if1 .left)))
+loop-again c = (search needs, every-more _ _ c.before.before.before.loop.inv.1 (sym c.before.lowest-unless.ensures ∙ not-false _ c.if1.left))
 
 returns-2 : tie.Need-returns-2 Inv-loop μ-loop
-returns-2 c = let s0 = c .before .before .before .before .before in sym (first-is (s0 .args .cards .now) (s0 .args .n) (s0 .pre .1) (s0 .args .seat) (s0 .pre .0)
-    ∙ ap (λ x. every (c .before .before .before .before .before .args .n) (λ p. or (eqb p (c .before .before .before .before .before .args .seat)) (lowestBut (c .before .before .before .before .before .args .n) (take (c .before .before .before .before .before .args .n) (c .before .before .before .before .before .args .cards .now)) x p))) (sym (c .before .before .wide .ensures))
-    ∙ every-passed (c .before .loop .q) _ _ (c .before .loop .inv .0) (search needs) (c .before .loop .inv .1))
+returns-2 c = let s1 = c .before in let s0 = s1 .before .before .before .before in let a = s0 .args in
+    sym (first-is a.cards.now a.n s0.pre.1 a.seat s0.pre.0 ∙ ap (λ x. every a.n (λ p. or (eqb p a.seat) (lowestBut a.n (take a.n a.cards.now) x p)))
+    (sym s1.before.wide.ensures) ∙ every-passed s1.loop.q _ _ s1.loop.inv.0 (search needs) s1.loop.inv.1)
 
 pub is-first-spec : {M : Type 1} → statement M
 is-first-spec =
-    tie.close
-    (tie.spec
-    Inv-loop
-    μ-loop
-    shared-slice-read-wide
-    wide-requires
-    loop-holds
-    lowest-unless-requires
-    returns
-    add-q
-    loop-less
-    loop-again
+    tie.close (tie.spec Inv-loop μ-loop shared-slice-read-wide wide-requires loop-holds lowest-unless-requires returns add-q loop-less loop-again
     returns-2)

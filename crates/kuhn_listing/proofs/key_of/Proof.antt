@@ -18,9 +18,8 @@ copy-at-requires : tie.Need-copy-at-requires
 copy-at-requires c κs = search needs
 
 returns : tie.Need-returns
-returns c = c .before .copy-at .ensures ∙ key-padded (c .before .before .before .before .args .seat) (c .before .before .before .before .args .card) (c .before .before .before .before .args .history .now) (c .before .before .before .before .args .acted) (search needs) (search needs)
+returns c = let a = c .before .before .before .before .args in
+    c.before.copy-at.ensures ∙ key-padded a.seat a.card a.history.now a.acted (search needs) (search needs)
 
 pub key-of-spec : {M : Type 1} → statement M
-key-of-spec =
-    tie.close
-    (tie.spec array-write-key array-write-key-2 slice-aggregate-copy-at copy-at-requires returns)
+key-of-spec = tie.close (tie.spec array-write-key array-write-key-2 slice-aggregate-copy-at copy-at-requires returns)

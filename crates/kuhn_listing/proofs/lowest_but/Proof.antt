@@ -29,7 +29,9 @@ left-but-requires : tie.Need-left-but-requires Inv-loop μ-loop
 left-but-requires c κs = search needs
 
 returns : tie.Need-returns Inv-loop μ-loop
-returns c = sym (lowest-is _ _ (c .before .before .before .before .before .before .before .pre .1) (c .before .before .before .before .before .before .before .args .x) (c .before .before .before .before .before .before .before .args .q) (search needs) (search needs) ∙ ap not (some-here _ _ (c .before .before .before .loop .y) (omega (arith, c .before .before .before .before .wide .ensures)) (sym (c .before .left-but .ensures) ∙ c .if1 .taken)))
+returns c = let s1 = c .before .before .before in let s0 = s1 .before .before .before .before in
+    sym (lowest-is _ _ s0.pre.1 s0.args.x s0.args.q (search needs) (search needs) ∙ ap not
+    (some-here _ _ s1.loop.y (omega (arith, s1.before.wide.ensures)) (sym c.before.left-but.ensures ∙ c.if1.taken)))
 
 add-y : tie.Need-add-y Inv-loop μ-loop
 add-y c = search needs
@@ -38,23 +40,14 @@ loop-less : tie.Need-loop-less Inv-loop μ-loop
 loop-less c = search needs
 
 loop-again : tie.Need-loop-again Inv-loop μ-loop
-loop-again c = (search needs, none-more _ _ (c .before .before .before .loop .inv .1) (sym (c .before .left-but .ensures) ∙ c .if1 .left))
+loop-again c = (search needs, none-more _ _ c.before.before.before.loop.inv.1 (sym c.before.left-but.ensures ∙ c.if1.left))
 
 returns-2 : tie.Need-returns-2 Inv-loop μ-loop
-returns-2 c = sym (lowest-is _ _ (c .before .before .before .before .before .pre .1) (c .before .before .before .before .before .args .x) (c .before .before .before .before .before .args .q) (search needs) (search needs) ∙ ap not (none-passed (c .before .loop .y) _ _ (omega (arith, c .before .before .wide .ensures)) (omega (arith, c .before .before .wide .ensures)) (c .before .loop .inv .1)))
+returns-2 c = let s1 = c .before .before in let s0 = s1 .before .before .before in
+    sym (lowest-is _ _ s0.pre.1 s0.args.x s0.args.q (search needs) (search needs) ∙ ap not
+    (none-passed c.before.loop.y _ _ (omega (arith, s1.wide.ensures)) (omega (arith, s1.wide.ensures)) c.before.loop.inv.1))
 
 pub lowest-but-spec : {M : Type 1} → statement M
 lowest-but-spec =
-    tie.close
-    (tie.spec
-    Inv-loop
-    μ-loop
-    shared-slice-read-wide
-    wide-requires
-    loop-holds
-    left-but-requires
-    returns
-    add-y
-    loop-less
-    loop-again
+    tie.close (tie.spec Inv-loop μ-loop shared-slice-read-wide wide-requires loop-holds left-but-requires returns add-y loop-less loop-again
     returns-2)

@@ -7,13 +7,13 @@ use Rattle.kuhn_listing.proofs.lowest_unless.Statement.{statement}
 use Rattle.kuhn_listing.proofs.lowest_unless.Tie as tie
 
 returns : tie.Need-returns
-returns c = sym (or-left _ (eq-eqb _ _ (c .if1 .taken)))
+returns c = sym (or-left _ (eq-eqb _ _ c.if1.taken))
 
 lowest-but-requires : tie.Need-lowest-but-requires
 lowest-but-requires c κs = search needs
 
 returns-2 : tie.Need-returns-2
-returns-2 c = c .lowest-but .ensures ∙ sym (or-rest _ (ne-eqb _ _ (c .before .if1 .left)))
+returns-2 c = c.lowest-but.ensures ∙ sym (or-rest _ (ne-eqb _ _ c.before.if1.left))
 
 pub lowest-unless-spec : {M : Type 1} → statement M
 lowest-unless-spec = tie.close (tie.spec returns lowest-but-requires returns-2)

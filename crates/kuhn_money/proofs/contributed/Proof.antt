@@ -15,11 +15,11 @@ add-result c = search needs
 
 returns : tie.Need-returns
 unfolding contribution
-returns c = (ap (λ b. 1 + cond b 1 0) (sym (c .if1 .taken) ∙ c .before .bet-by .ensures), search needs)
+returns c = (ap (λ b. 1 + cond b 1 0) (sym c.if1.taken ∙ c.before.bet-by.ensures), search needs)
 
 returns-2 : tie.Need-returns-2
 unfolding contribution
-returns-2 c = (ap (λ b. 1 + cond b 1 0) (sym (c .if1 .left) ∙ c .before .bet-by .ensures), search needs)
+returns-2 c = (ap (λ b. 1 + cond b 1 0) (sym c.if1.left ∙ c.before.bet-by.ensures), search needs)
 
 pub contributed-spec : {M : Type 1} → statement M
 contributed-spec = tie.close (tie.spec bet-by-requires add-result returns returns-2)

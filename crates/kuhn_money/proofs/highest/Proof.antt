@@ -29,21 +29,13 @@ loop-less : tie.Need-loop-less Inv-loop μ-loop
 loop-less c = search needs
 
 loop-again : tie.Need-loop-again Inv-loop μ-loop
-loop-again c = (search needs, highest-more _ _ _ _ _ _ _ (c .before .before .before .loop .inv .1) (c .before .shown .ensures) (c .larger .ensures .0) (c .larger .ensures .1) (c .larger .ensures .2))
+loop-again c = (
+  search needs,
+  highest-more _ _ _ _ _ _ _ c.before.before.before.loop.inv.1 c.before.shown.ensures c.larger.ensures.0 c.larger.ensures.1 c.larger.ensures.2,
+)
 
 returns : tie.Need-returns Inv-loop μ-loop
-returns c = highest-all _ _ _ _ _ (c .before .loop .inv .0) (search needs) (c .before .loop .inv .1)
+returns c = highest-all _ _ _ _ _ c.before.loop.inv.0 (search needs) c.before.loop.inv.1
 
 pub highest-spec : {M : Type 1} → statement M
-highest-spec =
-    tie.close
-    (tie.spec
-    Inv-loop
-    μ-loop
-    loop-holds
-    shown-requires
-    larger-requires
-    add-player
-    loop-less
-    loop-again
-    returns)
+highest-spec = tie.close (tie.spec Inv-loop μ-loop loop-holds shown-requires larger-requires add-player loop-less loop-again returns)

@@ -35,9 +35,9 @@ won-requires : tie.Need-won-requires Inv-loop μ-loop
 won-requires c κs = search needs
 
 share-requires : tie.Need-share-requires Inv-loop μ-loop
-share-requires c κs =
-    let inside = contribution-in 1 1 (c .before .before .before .before .before .before .before .before .before .args .n) (take (c .before .before .before .before .before .before .before .before .before .args .acted) (c .before .before .before .before .before .before .before .before .before .args .history .now)) (c .before .before .before .loop .player) (search needs) in
-    (omega (arith, c .before .contributed .ensures, c .before .before .before .before .before .before .pot .ensures), search needs)
+share-requires c κs = let s1 = c .before .before .before in let s0 = s1 .before .before .before in let a = s0 .before .before .before .args in
+    let inside = contribution-in 1 1 a.n (take a.acted a.history.now) s1.loop.player (search needs) in
+    (omega (arith, c.before.contributed.ensures, s0.pot.ensures), search needs)
 
 mul-out : tie.Need-mul-out Inv-loop μ-loop
 mul-out c = search needs
@@ -52,29 +52,16 @@ loop-less : tie.Need-loop-less Inv-loop μ-loop
 loop-less c = search needs
 
 loop-again : tie.Need-loop-again Inv-loop μ-loop
-loop-again c =
-    let kept : toZ w64 (ofZ w64 (c .share .result)) ≡ c .share .result = search needs in
-    (search needs, paid-more _ _ _ _ _ _ _ _ _ (search needs) (search needs) (c .before .before .before .before .before .before .before .pot .ensures .0) (c .before .before .contributed .ensures .0) (c .before .won .ensures) (kept ∙ c .share .ensures) (c .before .before .before .before .loop .inv .1))
+loop-again c = let kept : toZ w64 (ofZ w64 c.share.result) ≡ c.share.result = search needs in (
+  search needs,
+  paid-more _ _ _ _ _ _ _ _ _ (search needs) (search needs) c.before.before.before.before.before.before.before.pot.ensures.0
+      c.before.before.contributed.ensures.0 c.before.won.ensures (kept ∙ c.share.ensures) c.before.before.before.before.loop.inv.1,
+)
 
 returns : tie.Need-returns Inv-loop μ-loop
-returns c = paid-all _ _ _ _ _ (c .before .loop .inv .0) (search needs) (c .before .loop .inv .1)
+returns c = paid-all _ _ _ _ _ c.before.loop.inv.0 (search needs) c.before.loop.inv.1
 
 pub payoffs-spec : {M : Type 1} → statement M
 payoffs-spec =
-    tie.close
-    (tie.spec
-    Inv-loop
-    μ-loop
-    pot-requires
-    unbet-requires
-    highest-requires
-    loop-holds
-    contributed-requires
-    won-requires
-    share-requires
-    mul-out
-    array-set-from-out
-    add-player
-    loop-less
-    loop-again
-    returns)
+    tie.close (tie.spec Inv-loop μ-loop pot-requires unbet-requires highest-requires loop-holds contributed-requires won-requires share-requires
+    mul-out array-set-from-out add-player loop-less loop-again returns)

@@ -32,23 +32,12 @@ loop-less : tie.Need-loop-less Inv-loop μ-loop
 loop-less c = search needs
 
 loop-again : tie.Need-loop-again Inv-loop μ-loop
-loop-again c = (search needs, ap₂ _+_ (c .before .before .loop .inv .1) (c .contributed .ensures .0) ∙ sym (sum-more _ _), search needs)
+loop-again c = (search needs, ap₂ _+_ c.before.before.loop.inv.1 c.contributed.ensures.0 ∙ sym (sum-more _ _), search needs)
 
 returns : tie.Need-returns Inv-loop μ-loop
-returns c =
-    let all : c .before .loop .player ≡ c .before .before .before .args .n = omega arith in
-    (c .before .loop .inv .1 ∙ ap (λ k. sum k (contribution 1 1 (c .before .before .before .args .n) (take (c .before .before .before .args .acted) (c .before .before .before .args .history .now)))) all, omega arith)
+returns c = let a = c .before .before .before .args in
+    let all : c.before.loop.player ≡ a.n = omega arith in
+    (c.before.loop.inv.1 ∙ ap (λ k. sum k (contribution 1 1 a.n (take a.acted a.history.now))) all, omega arith)
 
 pub pot-spec : {M : Type 1} → statement M
-pot-spec =
-    tie.close
-    (tie.spec
-    Inv-loop
-    μ-loop
-    loop-holds
-    contributed-requires
-    add-total
-    add-player
-    loop-less
-    loop-again
-    returns)
+pot-spec = tie.close (tie.spec Inv-loop μ-loop loop-holds contributed-requires add-total add-player loop-less loop-again returns)

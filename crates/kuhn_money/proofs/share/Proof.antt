@@ -19,16 +19,13 @@ cast-result-2 : tie.Need-cast-result-2
 cast-result-2 c = search needs
 
 sub-result-2 : tie.Need-sub-result-2
-sub-result-2 c = debt-fits (c .before .args .mine) (omega arith)
+sub-result-2 c = debt-fits c.before.args.mine (omega arith)
 
 returns : tie.Need-returns
-returns c =
-    amount _ (omega arith) ∙ ap (λ b. cond b (pos (c .before .args .total - c .before .args .mine)) (negℤ (pos (c .before .args .mine)))) (sym (c .if1 .taken))
+returns c = let a = c .before .args in amount _ (omega arith) ∙ ap (λ b. cond b (pos (a.total - a.mine)) (negℤ (pos a.mine))) (sym c.if1.taken)
 
 returns-2 : tie.Need-returns-2
-returns-2 c =
-    debt (c .before .args .mine) (omega arith) ∙ ap (λ b. cond b (pos (c .before .args .total - c .before .args .mine)) (negℤ (pos (c .before .args .mine)))) (sym (c .if1 .left))
+returns-2 c = let a = c .before .args in debt a.mine (omega arith) ∙ ap (λ b. cond b (pos (a.total - a.mine)) (negℤ (pos a.mine))) (sym c.if1.left)
 
 pub share-spec : {M : Type 1} → statement M
-share-spec =
-    tie.close (tie.spec sub-result cast-result cast-result-2 sub-result-2 returns returns-2)
+share-spec = tie.close (tie.spec sub-result cast-result cast-result-2 sub-result-2 returns returns-2)

@@ -16,12 +16,12 @@ wide-requires : tie.Need-wide-requires
 wide-requires c κs = search needs
 
 returns : tie.Need-returns
-returns c =
-    c .wide .ensures ∙ ap (λ b. cond b (getD (c .before .before .before .before .before .before .args .cards .now) (c .before .before .before .before .before .before .args .player) 0) 0) (sym (c .before .before .if1 .taken) ∙ c .before .before .before .standing .ensures)
+returns c = let s1 = c .before .before in let s0 = s1 .before .before .before .before in
+    c.wide.ensures ∙ ap (λ b. cond b (getD s0.args.cards.now s0.args.player 0) 0) (sym s1.if1.taken ∙ s1.before.standing.ensures)
 
 returns-2 : tie.Need-returns-2
-returns-2 c = let s0 = c .before .before .before .before in ap (λ b. cond b (getD (s0 .args .cards .now) (s0 .args .player) 0) 0) (sym (c .if1 .left) ∙ c .before .standing .ensures)
+returns-2 c = let s0 = c .before .before .before .before in
+    ap (λ b. cond b (getD s0.args.cards.now s0.args.player 0) 0) (sym c.if1.left ∙ c.before.standing.ensures)
 
 pub shown-spec : {M : Type 1} → statement M
-shown-spec =
-    tie.close (tie.spec standing-requires shared-slice-read-wide wide-requires returns returns-2)
+shown-spec = tie.close (tie.spec standing-requires shared-slice-read-wide wide-requires returns returns-2)

@@ -9,7 +9,8 @@ first-bet-requires : tie.Need-first-bet-requires
 first-bet-requires c κs = search needs
 
 returns : tie.Need-returns
-returns c = unbet-is (c .before .before .args .acted) (c .first-bet .result) (now (c .before .before .args .history)) (c .before .before .pre) (c .first-bet .ensures .0) (c .first-bet .ensures .1 .0) (c .first-bet .ensures .1 .1)
+returns c = let s0 = c .before .before in
+    unbet-is s0.args.acted c.first-bet.result (now s0.args.history) s0.pre c.first-bet.ensures.0 c.first-bet.ensures.1.0 c.first-bet.ensures.1.1
 
 pub unbet-spec : {M : Type 1} → statement M
 unbet-spec = tie.close (tie.spec first-bet-requires returns)

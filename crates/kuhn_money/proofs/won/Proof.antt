@@ -16,13 +16,11 @@ wide-requires : tie.Need-wide-requires
 wide-requires c κs = search needs
 
 returns : tie.Need-returns
-returns c =
-    ap (λ k. eqb k (c .before .before .before .before .before .before .args .top)) (c .wide .ensures)
-    ∙ sym (wins-highest _ _ _ _ _ (c .before .before .before .before .before .before .pre .0 .3) (c .before .before .before .before .before .before .pre .1) (sym (c .before .before .before .standing .ensures) ∙ c .before .before .if1 .taken))
+returns c = let s1 = c .before .before in let s0 = s1 .before .before .before .before in
+    ap (λ k. eqb k s0.args.top) c.wide.ensures ∙ sym (wins-highest _ _ _ _ _ s0.pre.0.3 s0.pre.1 (sym s1.before.standing.ensures ∙ s1.if1.taken))
 
 returns-2 : tie.Need-returns-2
-returns-2 c = sym (folds-lose _ _ (c .before .before .before .before .args .cards .now) _ _ (sym (c .before .standing .ensures) ∙ c .if1 .left))
+returns-2 c = sym (folds-lose _ _ c.before.before.before.before.args.cards.now _ _ (sym c.before.standing.ensures ∙ c.if1.left))
 
 pub won-spec : {M : Type 1} → statement M
-won-spec =
-    tie.close (tie.spec standing-requires shared-slice-read-wide wide-requires returns returns-2)
+won-spec = tie.close (tie.spec standing-requires shared-slice-read-wide wide-requires returns returns-2)

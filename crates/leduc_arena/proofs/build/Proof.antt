@@ -7,13 +7,13 @@ use Rattle.leduc_arena.proofs.build.Tie as tie
 
 deal-requires : tie.Need-deal-requires
 unfolding IsLe
-deal-requires c κs = (le-by-compare 7 7 tt, deals-room _ (c .before .before .pre))
+deal-requires c κs = (le-by-compare 7 7 tt, deals-room _ c.before.before.pre)
 
 same-length : tie.Need-same-length
 same-length c = search needs
 
 returns : tie.Need-returns
-returns c = deals-built _ _ _ (c .before .before .deal .ensures)
+returns c = deals-built _ _ _ c.before.before.deal.ensures
 
 pub build-spec : {M : Type 1} → statement M
 build-spec = tie.close (tie.spec deal-requires same-length returns)

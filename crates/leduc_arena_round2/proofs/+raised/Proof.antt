@@ -32,26 +32,35 @@ raised-add-more : (t : ℕ) → raised-lts.Need-add-more (raised-callees t) (rai
 raised-add-more t c = search needs
 
 raised-add-end : (t : ℕ) → raised-lts.Need-add-end (raised-callees t) (raised-at t) raised.Post
-raised-add-end t c = place-fits (c .before .before .pre .1 .1)
+raised-add-end t c = place-fits c.before.before.pre.1.1
 
 raised-mul-end : (t : ℕ) → raised-lts.Need-mul-end (raised-callees t) (raised-at t) raised.Post
 raised-mul-end t c = search needs
 
 raised-end-requires : (t : ℕ) → raised-lts.Need-end-requires (raised-callees t) (raised-at t) raised.Post
-raised-end-requires t c κs = (fold-few (c .before .before .pre .1 .0 .3), second-few (c .before .before .args .n) (c .before .before .args .paid) (c .before .before .args .left) (c .before .before .pre .1 .0 .4) (c .before .before .pre .1 .0 .5) .1, fold-room _ _ _ _ _ _ _ _ _ (c .before .before .args .left) (c .before .before .pre .1 .1))
+raised-end-requires t c κs = let s0 = c .before .before in let a = s0 .args in
+    (fold-few s0.pre.1.0.3, second-few a.n a.paid a.left s0.pre.1.0.4 s0.pre.1.0.5 .1, fold-room _ _ _ _ _ _ _ _ _ a.left s0.pre.1.1)
 
 raised-end-requires-2 : (t : ℕ) → raised-lts.Need-end-requires-2 (raised-callees t) (raised-at t) raised.Post
-raised-end-requires-2 t c κs = let s0 = c .before .before .before .before .before .before in (s0 .pre .1 .0 .2, second-few (s0 .args .n) (s0 .args .paid) (s0 .args .left) (s0 .pre .1 .0 .4) (s0 .pre .1 .0 .5) .2, call-room _ _ _ _ _ _ _ _ _ (c .before .before .before .end .ensures) (s0 .args .left) (s0 .pre .1 .1))
+raised-end-requires-2 t c κs = let s1 = c .before .before .before in let s0 = s1 .before .before .before in let a = s0 .args in
+    (s0.pre.1.0.2, second-few a.n a.paid a.left s0.pre.1.0.4 s0.pre.1.0.5 .2, call-room _ _ _ _ _ _ _ _ _ s1.end.ensures a.left s0.pre.1.1)
 
 raised-choose-requires : (t : ℕ) → raised-lts.Need-choose-requires (raised-callees t) (raised-at t) raised.Post
 unfolding IsLe
-raised-choose-requires t c κs = let s0 = c .before .before .before .before .before .before .before .before .before .before .before in ((s0 .pre .1 .0 .3, le-by-compare 3 4 tt, s0 .pre .1 .0 .0, s0 .pre .1 .0 .1, second-few (s0 .args .n) (s0 .args .paid) (s0 .args .left) (s0 .pre .1 .0 .4) (s0 .pre .1 .0 .5) .0), last-fits _ _ _ _ _ _ _ _ _ (c .before .before .before .before .before .before .before .before .end .ensures) (c .before .before .before .before .end2 .ensures) (s0 .args .left) (c .before .if1 .taken) (s0 .pre .1 .1))
+raised-choose-requires t c κs = let s2 = c .before .before .before .before in let s1 = s2 .before .before .before .before in
+    let s0 = s1 .before .before .before in let a = s0 .args in (
+      (s0.pre.1.0.3, le-by-compare 3 4 tt, s0.pre.1.0.0, s0.pre.1.0.1, second-few a.n a.paid a.left s0.pre.1.0.4 s0.pre.1.0.5 .0),
+      last-fits _ _ _ _ _ _ _ _ _ s1.end.ensures s2.end2.ensures a.left c.before.if1.taken s0.pre.1.1,
+    )
 
 raised-same-length : (t : ℕ) → raised-lts.Need-same-length (raised-callees t) (raised-at t) raised.Post
 raised-same-length t c = search needs
 
 raised-returns : (t : ℕ) → raised-lts.Need-returns (raised-callees t) (raised-at t) raised.Post
-raised-returns t c = let s0 = c .before .before .before .before .before .before .before .before .before .before .before .before .before .before in lays-last _ _ _ _ _ _ _ _ _ (c .before .before .before .before .before .before .before .before .before .before .before .end .ensures) (c .before .before .before .before .before .before .before .end2 .ensures) (s0 .args .left) (c .before .before .before .before .if1 .taken) (s0 .pre .1 .1) (sym (NatL.add-zero (s0 .args .n))) (c .before .before .choose .ensures)
+raised-returns t c = let s3 = c .before .before .before .before in let s2 = s3 .before .before .before in
+    let s1 = s2 .before .before .before .before in let s0 = s1 .before .before .before in
+    lays-last _ _ _ _ _ _ _ _ _ s1.end.ensures s2.end2.ensures s0.args.left s3.if1.taken s0.pre.1.1 (sym (NatL.add-zero s0.args.n))
+    c.before.before.choose.ensures
 
 raised-sub-raised : (t : ℕ) → raised-lts.Need-sub-raised (raised-callees t) (raised-at t) raised.Post
 raised-sub-raised t c = search needs
@@ -66,34 +75,37 @@ raised-sub-raised-2 : (t : ℕ) → raised-lts.Need-sub-raised-2 (raised-callees
 raised-sub-raised-2 t c = search needs
 
 raised-raised-requires : (t : ℕ) → raised-lts.Need-raised-requires (raised-callees t) (raised-at t) raised.Post
-raised-raised-requires t c κs = let s0 = c .before .before .before .before .before .before .before .before .before .before .before in let more = second-again (s0 .args .n) (s0 .args .paid) (s0 .args .left) (s0 .pre .1 .0 .4) (s0 .pre .1 .0 .5) (omega (arith, c .before .if1 .left)) in (omega (arith, s0 .pre .0, c .before .if1 .left), ((s0 .pre .1 .0 .0, s0 .pre .1 .0 .1, s0 .pre .1 .0 .2, other-seat (s0 .pre .1 .0 .3), more .0, more .1), again-room _ _ _ _ _ _ _ _ _ (c .before .before .before .before .before .before .before .before .end .ensures) (c .before .before .before .before .end2 .ensures) (s0 .args .left) (omega (arith, c .before .if1 .left)) (s0 .pre .1 .1)))
+raised-raised-requires t c κs = let s3 = c .before in let s2 = s3 .before .before .before in let s1 = s2 .before .before .before .before in
+    let s0 = s1 .before .before .before in let a = s0 .args in
+    let more = second-again a.n a.paid a.left s0.pre.1.0.4 s0.pre.1.0.5 (omega (arith, s3.if1.left)) in (
+      omega (arith, s0.pre.0, s3.if1.left),
+      (
+        (s0.pre.1.0.0, s0.pre.1.0.1, s0.pre.1.0.2, other-seat s0.pre.1.0.3, more.0, more.1),
+        again-room _ _ _ _ _ _ _ _ _ s1.end.ensures s2.end2.ensures a.left (omega (arith, s3.if1.left)) s0.pre.1.1,
+      ),
+    )
 
 raised-choose-requires-2 : (t : ℕ) → raised-lts.Need-choose-requires-2 (raised-callees t) (raised-at t) raised.Post
 unfolding IsLe
-raised-choose-requires-2 t c κs = let s0 = c .before .before .before .before .before .before .before .before .before .before .before .before .before .before .before in ((s0 .pre .1 .0 .3, le-by-compare 4 4 tt, s0 .pre .1 .0 .0, s0 .pre .1 .0 .1, second-few (s0 .args .n) (s0 .args .paid) (s0 .args .left) (s0 .pre .1 .0 .4) (s0 .pre .1 .0 .5) .0), again-fits _ _ _ _ _ _ _ _ _ (c .before .before .before .before .before .before .before .before .before .before .before .before .end .ensures) (c .before .before .before .before .before .before .before .before .end2 .ensures) (s0 .args .left) (omega (arith, c .before .before .before .before .before .if1 .left)) (s0 .pre .1 .1) (c .before .before .before .raised .ensures))
+raised-choose-requires-2 t c κs = let s3 = c .before .before .before in let s2 = s3 .before .before .before .before .before in
+    let s1 = s2 .before .before .before .before in let s0 = s1 .before .before .before in let a = s0 .args in (
+      (s0.pre.1.0.3, le-by-compare 4 4 tt, s0.pre.1.0.0, s0.pre.1.0.1, second-few a.n a.paid a.left s0.pre.1.0.4 s0.pre.1.0.5 .0),
+      again-fits _ _ _ _ _ _ _ _ _ s1.end.ensures s2.end2.ensures a.left (omega (arith, s3.before.before.if1.left)) s0.pre.1.1 s3.raised.ensures,
+    )
 
 raised-same-length-2 : (t : ℕ) → raised-lts.Need-same-length-2 (raised-callees t) (raised-at t) raised.Post
 raised-same-length-2 t c = search needs
 
 raised-returns-2 : (t : ℕ) → raised-lts.Need-returns-2 (raised-callees t) (raised-at t) raised.Post
-raised-returns-2 t c = let s0 = c .before .before .before .before .before .before .before .before .before .before .before .before .before .before .before .before .before .before in lays-again _ _ _ _ _ _ _ _ _ (c .before .before .before .before .before .before .before .before .before .before .before .before .before .before .before .end .ensures) (c .before .before .before .before .before .before .before .before .before .before .before .end2 .ensures) (s0 .args .left) (omega (arith, c .before .before .before .before .before .before .before .before .if1 .left)) (s0 .pre .1 .1) (c .before .before .before .before .before .before .raised .ensures) (sym (NatL.add-zero (s0 .args .n))) (c .before .before .choose2 .ensures)
+raised-returns-2 t c = let s3 = c .before .before .before .before .before .before in let s2 = s3 .before .before .before .before .before in
+    let s1 = s2 .before .before .before .before in let s0 = s1 .before .before .before in
+    lays-again _ _ _ _ _ _ _ _ _ s1.end.ensures s2.end2.ensures s0.args.left (omega (arith, s3.before.before.if1.left)) s0.pre.1.1 s3.raised.ensures
+    (sym (NatL.add-zero s0.args.n)) c.before.before.choose2.ensures
 
 pub +raised-spec : {M : Type 1} → statement M
-+raised-spec = close μ-raised λ t. raised-lts.spec (raised-callees t) (raised-at t)
-    raised.Post
-    (raised-add-more t)
-    (raised-add-end t)
-    (raised-mul-end t)
-    (raised-end-requires t)
-    (raised-end-requires-2 t)
-    (raised-choose-requires t)
-    (raised-same-length t)
-    (raised-returns t)
-    (raised-sub-raised t)
-    (raised-mul-raised t)
-    (raised-add-raised t)
-    (raised-sub-raised-2 t)
-    (raised-raised-requires t)
-    (raised-choose-requires-2 t)
-    (raised-same-length-2 t)
-    (raised-returns-2 t)
++raised-spec =
+    close μ-raised
+    λ t. raised-lts.spec (raised-callees t) (raised-at t) raised.Post (raised-add-more t) (raised-add-end t) (raised-mul-end t) (raised-end-requires
+    t) (raised-end-requires-2 t) (raised-choose-requires t) (raised-same-length t) (raised-returns t) (raised-sub-raised t) (raised-mul-raised t)
+    (raised-add-raised t) (raised-sub-raised-2 t) (raised-raised-requires t) (raised-choose-requires-2 t) (raised-same-length-2 t) (raised-returns-2
+    t)

@@ -9,26 +9,29 @@ use Rattle.leduc_arena_round2.proofs.called.Statement.{statement}
 use Rattle.leduc_arena_round2.proofs.called.Tie as tie
 
 add-end : tie.Need-add-end
-add-end c = place-fits (c .before .before .pre .1)
+add-end c = place-fits c.before.before.pre.1
 
 end-requires : tie.Need-end-requires
 unfolding calledTree IsLe
-end-requires c κs = (c .before .before .pre .0 .2, NatL.le-trans (c .before .before .pre .0 .3) (le-by-compare 5 13 tt), room-one _ _ _ _ (c .before .before .pre .1))
+end-requires c κs = (c.before.before.pre.0.2, NatL.le-trans c.before.before.pre.0.3 (le-by-compare 5 13 tt), room-one _ _ _ _ c.before.before.pre.1)
 
 raised-requires : tie.Need-raised-requires
 unfolding calledTree IsLe
-raised-requires c κs = let s0 = c .before .before .before .before .before .before in ((s0 .pre .0 .0, s0 .pre .0 .1, s0 .pre .0 .2, le-by-compare 1 2 tt, le-by-compare 420 420 tt, start-few (s0 .pre .0 .3)), room-two _ _ _ _ _ (c .before .before .before .end .ensures) (s0 .pre .1))
+raised-requires c κs = let s1 = c .before .before .before in let s0 = s1 .before .before .before in
+    ((s0.pre.0.0, s0.pre.0.1, s0.pre.0.2, le-by-compare 1 2 tt, le-by-compare 420 420 tt, start-few s0.pre.0.3), room-two _ _ _ _ _ s1.end.ensures s0.pre.1)
 
 choose-requires : tie.Need-choose-requires
 unfolding calledTree IsLe
-choose-requires c κs = let s0 = c .before .before .before .before .before .before .before .before .before .before in ((le-by-compare 2 2 tt, le-by-compare 3 4 tt, s0 .pre .0 .0, s0 .pre .0 .1, le-by-compare 42 4656 tt), two-fit _ _ (c .before .before .before .before .before .before .before .end .ensures) (c .before .before .before .raised .ensures) (s0 .pre .1))
+choose-requires c κs = let s2 = c .before .before .before in let s1 = s2 .before .before .before .before in let s0 = s1 .before .before .before in
+    ((le-by-compare 2 2 tt, le-by-compare 3 4 tt, s0.pre.0.0, s0.pre.0.1, le-by-compare 42 4656 tt), two-fit _ _ s1.end.ensures s2.raised.ensures s0.pre.1)
 
 same-length : tie.Need-same-length
 same-length c = search needs
 
 returns : tie.Need-returns
 unfolding calledTree
-returns c = lays-two _ _ (c .before .before .before .before .before .before .before .before .before .before .end .ensures) (c .before .before .before .before .before .before .raised .ensures) (c .before .before .before .before .before .before .before .before .before .before .before .before .before .pre .1) (c .before .before .choose .ensures)
+returns c = let s1 = c .before .before .before .before .before .before in let s0 = s1 .before .before .before .before in
+    lays-two _ _ s0.end.ensures s1.raised.ensures s0.before.before.before.pre.1 c.before.before.choose.ensures
 
 pub called-spec : {M : Type 1} → statement M
 called-spec = tie.close (tie.spec add-end end-requires raised-requires choose-requires same-length returns)

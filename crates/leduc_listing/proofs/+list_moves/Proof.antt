@@ -34,61 +34,80 @@ abbrev list-moves-callees : ℕ → list-moves-lts.Claims
 list-moves-callees t = (list-moves-below t, list-moves.Post, is-move-reads.Asked, is-move-reads.Learnt, after-reads.Asked, after-reads.Learnt, write-first-reads.Asked, write-first-reads.Learnt, move-bound-reads.Asked, move-bound-reads.Learnt)
 
 list-moves-returns : (t : ℕ) → list-moves-lts.Need-returns (list-moves-callees t) (list-moves-at t) list-moves.Post
-list-moves-returns t c = wrote-nothing (moves-none (c .before .before .args .left) (placed (c .before .before .args .s)) (c .before .before .args .bound) (c .if1 .taken))
+list-moves-returns t c = wrote-nothing (moves-none c.before.before.args.left (placed c.before.before.args.s) c.before.before.args.bound c.if1.taken)
 
 list-moves-returns-2 : (t : ℕ) → list-moves-lts.Need-returns-2 (list-moves-callees t) (list-moves-at t) list-moves.Post
-list-moves-returns-2 t c = let s0 = c .before .before .before in wrote-nothing (moves-spent (s0 .args .left) (placed (s0 .args .s)) (s0 .args .bound) (c .if2 .taken))
+list-moves-returns-2 t c = let s0 = c .before .before .before in wrote-nothing (moves-spent s0.args.left (placed s0.args.s) s0.args.bound c.if2.taken)
 
 list-moves-sub-a : (t : ℕ) → list-moves-lts.Need-sub-a (list-moves-callees t) (list-moves-at t) list-moves.Post
 list-moves-sub-a t c = search needs
 
 list-moves-list-moves-requires : (t : ℕ) → list-moves-lts.Need-list-moves-requires (list-moves-callees t) (list-moves-at t) list-moves.Post
-list-moves-list-moves-requires t c κs = let s0 = c .before .before .before .before in (omega (arith, s0 .pre .0, c .before .before .if1 .left), ((s0 .pre .1 .0 .0, omega (arith, s0 .pre .1 .0 .1)), omega (arith, s0 .pre .1 .1, fewer-moves (s0 .args .left) (placed (s0 .args .s)) (s0 .args .bound) (c .before .before .if1 .left))))
+list-moves-list-moves-requires t c κs = let s1 = c .before .before in let s0 = s1 .before .before in (
+  omega (arith, s0.pre.0, s1.if1.left),
+  ((s0.pre.1.0.0, omega (arith, s0.pre.1.0.1)), omega (arith, s0.pre.1.1, fewer-moves s0.args.left (placed s0.args.s) s0.args.bound s1.if1.left)),
+)
 
 list-moves-is-move-requires : (t : ℕ) → list-moves-lts.Need-is-move-requires (list-moves-callees t) (list-moves-at t) list-moves.Post
-list-moves-is-move-requires t c κs = let s0 = c .before .before .before .before .before .before .before in record { seats = s0 .pre .1 .0 .0 .seats; places = omega (arith, s0 .pre .1 .0 .0 .places) }
+list-moves-is-move-requires t c κs = let s0 = c .before .before .before .before .before .before .before in
+    record { seats = s0.pre.1.0.0.seats; places = omega (arith, s0.pre.1.0.0.places) }
 
 list-moves-same-length : (t : ℕ) → list-moves-lts.Need-same-length (list-moves-callees t) (list-moves-at t) list-moves.Post
 list-moves-same-length t c = search needs
 
 list-moves-returns-3 : (t : ℕ) → list-moves-lts.Need-returns-3 (list-moves-callees t) (list-moves-at t) list-moves.Post
-list-moves-returns-3 t c = let s0 = c .before .before .before .before .before .before .before .before .before in wrote-as (sym (moves-passed (s0 .args .left) (placed (s0 .args .s)) (s0 .args .bound) (c .before .before .before .before .before .before .before .if1 .left) (sym (c .before .is-move .ensures) ∙ not-true _ (c .if3 .taken)))) (c .before .before .before .before .list-moves .ensures)
+list-moves-returns-3 t c = let s1 = c .before .before .before .before in let s0 = s1 .before .before .before in let a = s0 .before .before .args in
+    wrote-as (sym (moves-passed a.left (placed a.s) a.bound s0.if1.left (sym c.before.is-move.ensures ∙ not-true _ c.if3.taken)))
+    s1.list-moves.ensures
 
 list-moves-after-requires : (t : ℕ) → list-moves-lts.Need-after-requires (list-moves-callees t) (list-moves-at t) list-moves.Post
-list-moves-after-requires t c κs = let s0 = c .before .before .before .before .before .before .before .before .before in (record { seats = s0 .pre .1 .0 .0 .seats; places = omega (arith, s0 .pre .1 .0 .0 .places) }, omega (arith, s0 .pre .1 .0 .1, c .before .before .before .before .before .before .before .if1 .left))
+list-moves-after-requires t c κs = let s1 = c .before .before .before .before .before .before .before in let s0 = s1 .before .before in
+    (record { seats = s0.pre.1.0.0.seats; places = omega (arith, s0.pre.1.0.0.places) }, omega (arith, s0.pre.1.0.1, s1.if1.left))
 
 list-moves-write-first-requires : (t : ℕ) → list-moves-lts.Need-write-first-requires (list-moves-callees t) (list-moves-at t) list-moves.Post
-list-moves-write-first-requires t c κs = let s0 = c .before .before .before .before .before .before .before .before .before .before .before in let s1 = c .before .before .before .before .before .before .before .before in let s2 = c .before .before .before .before .before .before in (record { seats = c .before .after .ensures .1; places = omega (arith, s0 .pre .1 .0 .0 .places, c .before .after .ensures .2, s1 .if2 .left) }, omega (arith, s0 .pre .1 .1, s2 .list-moves .kept .0, s2 .list-moves .ensures .next, moves-length (s0 .args .left) (placed (s0 .args .s)) (placed (c .before .after .result)) (s0 .args .bound) _ (s1 .if2 .left) (c .before .before .before .before .before .before .before .before .before .if1 .left) (sym (c .before .before .before .is-move .ensures) ∙ not-false _ (c .before .before .if3 .left)) (c .before .after .ensures .0) refl))
+list-moves-write-first-requires t c κs = let s3 = c .before in let s2 = s3 .before .before .before .before .before in let s1 = s2 .before .before in
+    let s0 = s1 .before .before .before in
+    let h0 = moves-length s0.args.left (placed s0.args.s) (placed s3.after.result) s0.args.bound _ s1.if2.left s1.before.if1.left
+    (sym s3.before.before.is-move.ensures ∙ not-false _ s3.before.if3.left) s3.after.ensures.0 refl in (
+      record { seats = s3.after.ensures.1; places = omega (arith, s0.pre.1.0.0.places, s3.after.ensures.2, s1.if2.left) },
+      omega (arith, s0.pre.1.1, s2.list-moves.kept.0, s2.list-moves.ensures.next),
+    )
 
 list-moves-move-bound-requires : (t : ℕ) → list-moves-lts.Need-move-bound-requires (list-moves-callees t) (list-moves-at t) list-moves.Post
-list-moves-move-bound-requires t c κs = let s0 = c .before .before .before .before in record { seats = s0 .after .ensures .1; places = omega (arith, c .before .before .before .before .before .before .before .before .before .before .before .before .before .before .pre .1 .0 .0 .places, s0 .after .ensures .2) }
+list-moves-move-bound-requires t c κs = let s0 = c .before .before .before .before in record {
+  seats = s0.after.ensures.1;
+  places = omega (arith, s0.before.before.before.before.before.before.before.before.before.before.pre.1.0.0.places, s0.after.ensures.2);
+}
 
 list-moves-sub-list-moves : (t : ℕ) → list-moves-lts.Need-sub-list-moves (list-moves-callees t) (list-moves-at t) list-moves.Post
 list-moves-sub-list-moves t c = search needs
 
 list-moves-list-moves-requires-2 : (t : ℕ) → list-moves-lts.Need-list-moves-requires-2 (list-moves-callees t) (list-moves-at t) list-moves.Post
-list-moves-list-moves-requires-2 t c κs = let s0 = c .before .before .before .before .before .before .before .before .before .before .before .before .before .before .before .before in let s1 = c .before .before .before .before .before .before .before .before .before .before .before .before .before .before in let s2 = c .before .before .before .before .before .before .before .before .before .before .before .before .before in let s3 = c .before .before .before .before .before .before .before .before .before .before .before in let s4 = c .before .before .before .before .before .before in let s5 = c .before .before .before .before in (omega (arith, s0 .pre .0, s1 .if1 .left, s2 .if2 .left, c .before .move-bound .ensures .1), ((record { seats = s4 .after .ensures .1; places = omega (arith, s0 .pre .1 .0 .0 .places, s4 .after .ensures .2, s2 .if2 .left) }, c .before .move-bound .ensures .1), omega (arith, s0 .pre .1 .1, s3 .list-moves .kept .0, s3 .list-moves .ensures .next, s5 .write-first .kept .0, s5 .write-first .ensures .next, moves-length (s0 .args .left) (placed (s0 .args .s)) (placed (s4 .after .result)) (s0 .args .bound) _ (s2 .if2 .left) (s1 .if1 .left) (sym (c .before .before .before .before .before .before .before .before .is-move .ensures) ∙ not-false _ (c .before .before .before .before .before .before .before .if3 .left)) (s4 .after .ensures .0) (c .before .move-bound .ensures .0))))
+list-moves-list-moves-requires-2 t c κs = let s5 = c .before in let s4 = s5 .before .before .before in let s3 = s4 .before .before in
+    let s2 = s3 .before .before .before .before .before in let s1 = s2 .before .before in let s0 = s1 .before .before .before in
+    let h0 = moves-length s0.args.left (placed s0.args.s) (placed s3.after.result) s0.args.bound _ s1.if2.left s1.before.if1.left
+    (sym s3.before.before.is-move.ensures ∙ not-false _ s3.before.if3.left) s3.after.ensures.0 s5.move-bound.ensures.0 in (
+      omega (arith, s0.pre.0, s1.before.if1.left, s1.if2.left, s5.move-bound.ensures.1),
+      (
+        (record { seats = s3.after.ensures.1; places = omega (arith, s0.pre.1.0.0.places, s3.after.ensures.2, s1.if2.left) }, s5.move-bound.ensures.1),
+        omega (arith, s0.pre.1.1, s2.list-moves.kept.0, s2.list-moves.ensures.next, s4.write-first.kept.0, s4.write-first.ensures.next),
+      ),
+    )
 
 list-moves-same-length-2 : (t : ℕ) → list-moves-lts.Need-same-length-2 (list-moves-callees t) (list-moves-at t) list-moves.Post
 list-moves-same-length-2 t c = search needs
 
 list-moves-returns-4 : (t : ℕ) → list-moves-lts.Need-returns-4 (list-moves-callees t) (list-moves-at t) list-moves.Post
-list-moves-returns-4 t c = let s0 = c .before .before .before .before .before .before .before .before .before .before .before .before .before .before .before .before .before .before .before in let s1 = c .before .before .before .before .before .before .before .before .before in wrote-moves (s0 .args .left) (placed (s0 .args .s)) (placed (s1 .after .result)) (s0 .args .bound) _ (c .before .before .before .before .before .before .before .before .before .before .before .before .before .before .before .before .if2 .left) (c .before .before .before .before .before .before .before .before .before .before .before .before .before .before .before .before .before .if1 .left) (sym (c .before .before .before .before .before .before .before .before .before .before .before .is-move .ensures) ∙ not-false _ (c .before .before .before .before .before .before .before .before .before .before .if3 .left)) (s1 .after .ensures .0) (c .before .before .before .before .move-bound .ensures .0) (c .before .before .before .before .before .before .before .before .before .before .before .before .before .before .list-moves .ensures) (c .before .before .before .before .before .before .before .write-first .ensures) (c .before .before .list-moves2 .ensures)
+list-moves-returns-4 t c = let s4 = c .before .before .before .before in let s3 = s4 .before .before .before in let s2 = s3 .before .before in
+    let s1 = s2 .before .before .before .before .before in let s0 = s1 .before .before in let a = s0 .before .before .before .args in
+    wrote-moves a.left (placed a.s) (placed s2.after.result) a.bound _ s0.if2.left s0.before.if1.left
+    (sym s2.before.before.is-move.ensures ∙ not-false _ s2.before.if3.left) s2.after.ensures.0 s4.move-bound.ensures.0 s1.list-moves.ensures
+    s3.write-first.ensures c.before.before.list-moves2.ensures
 
 pub +list-moves-spec : {M : Type 1} → statement M
-+list-moves-spec = close μ-list-moves λ t. list-moves-lts.spec (list-moves-callees t) (list-moves-at t)
-    list-moves.Post
-    (list-moves-returns t)
-    (list-moves-returns-2 t)
-    (list-moves-sub-a t)
-    (list-moves-list-moves-requires t)
-    (list-moves-is-move-requires t)
-    (list-moves-same-length t)
-    (list-moves-returns-3 t)
-    (list-moves-after-requires t)
-    (list-moves-write-first-requires t)
-    (list-moves-move-bound-requires t)
-    (list-moves-sub-list-moves t)
-    (list-moves-list-moves-requires-2 t)
-    (list-moves-same-length-2 t)
-    (list-moves-returns-4 t)
++list-moves-spec =
+    close μ-list-moves
+    λ t. list-moves-lts.spec (list-moves-callees t) (list-moves-at t) list-moves.Post (list-moves-returns t) (list-moves-returns-2 t)
+    (list-moves-sub-a t) (list-moves-list-moves-requires t) (list-moves-is-move-requires t) (list-moves-same-length t) (list-moves-returns-3 t)
+    (list-moves-after-requires t) (list-moves-write-first-requires t) (list-moves-move-bound-requires t) (list-moves-sub-list-moves t)
+    (list-moves-list-moves-requires-2 t) (list-moves-same-length-2 t) (list-moves-returns-4 t)

@@ -19,22 +19,24 @@ with-card-requires c κs = search needs
 
 returns : tie.Need-returns
 unfolding moved
-returns c = let s0 = c .before .before .before in (c .with-card .ensures .0 ∙ ap (λ b. cond b (dealt (placed (s0 .args .s)) (s0 .args .a)) (acted (placed (s0 .args .s)) (s0 .args .a))) (sym (sym (c .before .before .card-due .ensures) ∙ c .before .if1 .taken)), c .with-card .ensures .1, c .with-card .ensures .2)
+returns c = let a = c .before .before .before .args in (
+  c.with-card.ensures.0 ∙ ap (λ b. cond b (dealt (placed a.s) a.a) (acted (placed a.s) a.a))
+      (sym (sym c.before.before.card-due.ensures ∙ c.before.if1.taken)),
+  c.with-card.ensures.1,
+  c.with-card.ensures.2,
+)
 
 with-action-requires : tie.Need-with-action-requires
 with-action-requires c κs = search needs
 
 returns-2 : tie.Need-returns-2
 unfolding moved
-returns-2 c = let s0 = c .before .before .before in (c .with-action .ensures .0 ∙ ap (λ b. cond b (dealt (placed (s0 .args .s)) (s0 .args .a)) (acted (placed (s0 .args .s)) (s0 .args .a))) (sym (sym (c .before .before .card-due .ensures) ∙ c .before .if1 .left)), c .with-action .ensures .1, c .with-action .ensures .2)
+returns-2 c = let a = c .before .before .before .args in (
+  c.with-action.ensures.0 ∙ ap (λ b. cond b (dealt (placed a.s) a.a) (acted (placed a.s) a.a))
+      (sym (sym c.before.before.card-due.ensures ∙ c.before.if1.left)),
+  c.with-action.ensures.1,
+  c.with-action.ensures.2,
+)
 
 pub after-spec : {M : Type 1} → statement M
-after-spec =
-    tie.close
-    (tie.spec
-    cast-byte
-    card-due-requires
-    with-card-requires
-    returns
-    with-action-requires
-    returns-2)
+after-spec = tie.close (tie.spec cast-byte card-due-requires with-card-requires returns with-action-requires returns-2)

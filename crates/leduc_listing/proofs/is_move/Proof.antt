@@ -17,16 +17,18 @@ card-left-requires c κs = search needs
 
 returns : tie.Need-returns
 unfolding isMove
-returns c = let s0 = c .before .before .before in c .card-left .ensures ∙ ap (λ b. cond b (left (seen (placed (s0 .args .s) .cards) (s0 .args .s .public)) (s0 .args .a)) (may (in-play (placed (s0 .args .s) .first) (placed (s0 .args .s) .second)) (s0 .args .a))) (sym (sym (c .before .before .card-due .ensures) ∙ c .before .if1 .taken))
+returns c = let a = c .before .before .before .args in
+    c.card-left.ensures ∙ ap (λ b. cond b (left (seen (placed a.s .cards) a.s.public) a.a)
+    (may (in-play (placed a.s .first) (placed a.s .second)) a.a)) (sym (sym c.before.before.card-due.ensures ∙ c.before.if1.taken))
 
 action-legal-requires : tie.Need-action-legal-requires
 action-legal-requires c κs = search needs
 
 returns-2 : tie.Need-returns-2
 unfolding isMove
-returns-2 c = let s0 = c .before .before .before in c .action-legal .ensures ∙ ap (λ b. cond b (left (seen (placed (s0 .args .s) .cards) (s0 .args .s .public)) (s0 .args .a)) (may (in-play (placed (s0 .args .s) .first) (placed (s0 .args .s) .second)) (s0 .args .a))) (sym (sym (c .before .before .card-due .ensures) ∙ c .before .if1 .left))
+returns-2 c = let a = c .before .before .before .args in
+    c.action-legal.ensures ∙ ap (λ b. cond b (left (seen (placed a.s .cards) a.s.public) a.a)
+    (may (in-play (placed a.s .first) (placed a.s .second)) a.a)) (sym (sym c.before.before.card-due.ensures ∙ c.before.if1.left))
 
 pub is-move-spec : {M : Type 1} → statement M
-is-move-spec =
-    tie.close
-    (tie.spec card-due-requires card-left-requires returns action-legal-requires returns-2)
+is-move-spec = tie.close (tie.spec card-due-requires card-left-requires returns action-legal-requires returns-2)

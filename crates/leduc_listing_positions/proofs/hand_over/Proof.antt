@@ -8,20 +8,16 @@ use Rattle.leduc_listing_positions.proofs.hand_over.Statement.{statemen
 use Rattle.leduc_listing_positions.proofs.hand_over.Tie as tie
 
 array-share-prefix-first : tie.Need-array-share-prefix-first
-array-share-prefix-first c =
-    let len : length (c .before .before .args .s .first) ≡ 11 = search needs in
-    omega arith
+array-share-prefix-first c = let len : length c.before.before.args.s.first ≡ 11 = search needs in omega arith
 
 slice-aggregate-is-terminal : tie.Need-slice-aggregate-is-terminal
-slice-aggregate-is-terminal c = front-length (c .before .before .before .args .s .first) _ 11 (search needs) (omega arith)
+slice-aggregate-is-terminal c = front-length c.before.before.before.args.s.first _ 11 (search needs) (omega arith)
 
 array-share-prefix-second : tie.Need-array-share-prefix-second
-array-share-prefix-second c =
-    let len : length (c .before .before .before .args .s .second) ≡ 11 = search needs in
-    omega arith
+array-share-prefix-second c = let len : length c.before.before.before.args.s.second ≡ 11 = search needs in omega arith
 
 slice-aggregate-is-terminal-2 : tie.Need-slice-aggregate-is-terminal-2
-slice-aggregate-is-terminal-2 c = front-length (c .before .before .before .before .args .s .second) _ 11 (search needs) (omega arith)
+slice-aggregate-is-terminal-2 c = front-length c.before.before.before.before.args.s.second _ 11 (search needs) (omega arith)
 
 is-terminal-requires : tie.Need-is-terminal-requires
 is-terminal-requires c κs = search needs
@@ -31,11 +27,5 @@ returns c = search needs
 
 pub hand-over-spec : {M : Type 1} → statement M
 hand-over-spec =
-    tie.close
-    (tie.spec
-    array-share-prefix-first
-    slice-aggregate-is-terminal
-    array-share-prefix-second
-    slice-aggregate-is-terminal-2
-    is-terminal-requires
-    returns)
+    tie.close (tie.spec array-share-prefix-first slice-aggregate-is-terminal array-share-prefix-second slice-aggregate-is-terminal-2
+    is-terminal-requires returns)

@@ -17,10 +17,19 @@ add-next : tie.Need-add-next
 add-next c = search needs
 
 returns : tie.Need-returns
-returns c = (card-to-seat (placed (c .before .args .s)) (c .before .args .s .cards) (c .before .args .s .dealt) (c .before .args .c) (c .if1 .taken) (let len : length (c .before .args .s .cards) ≡ 2 = search needs in omega arith) refl, search needs, omega arith)
+returns c = let a = c .before .args in (
+  card-to-seat (placed a.s) a.s.cards a.s.dealt a.c c.if1.taken (let len : length a.s.cards ≡ 2 = search needs in omega arith) refl,
+  search needs,
+  omega arith,
+)
 
 returns-2 : tie.Need-returns-2
-returns-2 c = (card-for-all (placed (c .before .before .before .before .args .s)) (c .before .before .before .before .args .c) (let len : length (c .before .before .before .before .args .s .cards) ≡ 2 = search needs in let w : c .before .before .before .before .args .s .dealt ≤ length (c .before .before .before .before .args .s .cards) = omega (arith, c .before .before .before .before .pre .seats) in omega (arith, c .before .before .before .if1 .left, length-take-le (c .before .before .before .before .args .s .dealt) (c .before .before .before .before .args .s .cards) w)), search needs, omega arith)
+returns-2 c = let s0 = c .before .before .before in let a = s0 .before .args in (
+  card-for-all (placed a.s) a.c (let len : length a.s.cards ≡ 2 = search needs in let w : a.s.dealt ≤ length
+      a.s.cards = omega (arith, s0.before.pre.seats) in omega (arith, s0.if1.left, length-take-le a.s.dealt a.s.cards w)),
+  search needs,
+  omega arith,
+)
 
 pub with-card-spec : {M : Type 1} → statement M
 with-card-spec = tie.close (tie.spec element-write-next add-next returns returns-2)

@@ -29,7 +29,7 @@ shared-slice-read-if2 c = search needs
 
 returns : tie.Need-returns Inv-loop μ-loop
 unfolding folds
-returns c = sym (some-here _ _ (c .before .before .before .before .loop .i) (omega arith) (both (eq-eqb _ _ (c .before .before .if1 .taken)) (c .if2 .taken)))
+returns c = sym (some-here _ _ c.before.before.before.before.loop.i (omega arith) (both (eq-eqb _ _ c.before.before.if1.taken) c.if2.taken))
 
 add-i : tie.Need-add-i Inv-loop μ-loop
 add-i c = search needs
@@ -38,22 +38,11 @@ loop-less : tie.Need-loop-less Inv-loop μ-loop
 loop-less c = search needs
 
 loop-again : tie.Need-loop-again Inv-loop μ-loop
-loop-again c = (search needs, none-more _ _ (c .before .before .loop .inv .1) (⊎-elim (λ w. and-right-fails _ (w .2 .left)) (λ w. and-left-fails _ (ne-eqb _ _ (w .left))) (c .if1 .came)))
+loop-again c = (search needs, none-more _ _ c.before.before.loop.inv.1 (⊎-elim (λ w. and-right-fails _ w.2.left) (λ w. and-left-fails _ (ne-eqb _ _ w.left)) c.if1.came))
 
 returns-2 : tie.Need-returns-2 Inv-loop μ-loop
 unfolding folds
-returns-2 c = sym (none-passed (c .before .loop .i) _ _ (c .before .loop .inv .0) (omega arith) (c .before .loop .inv .1))
+returns-2 c = sym (none-passed c.before.loop.i _ _ c.before.loop.inv.0 (omega arith) c.before.loop.inv.1)
 
 pub folded-by-spec : {M : Type 1} → statement M
-folded-by-spec =
-    tie.close
-    (tie.spec
-    Inv-loop
-    μ-loop
-    loop-holds
-    shared-slice-read-if2
-    returns
-    add-i
-    loop-less
-    loop-again
-    returns-2)
+folded-by-spec = tie.close (tie.spec Inv-loop μ-loop loop-holds shared-slice-read-if2 returns add-i loop-less loop-again returns-2)

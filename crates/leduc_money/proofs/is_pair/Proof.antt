@@ -15,11 +15,11 @@ enum-known-public c = search needs
 
 returns : tie.Need-returns
 unfolding pairs
-returns c = rw (c .enum-told .given .1)
+returns c = rw c.enum-told.given.1
 
 returns-2 : tie.Need-returns-2
 unfolding pairs
-returns-2 c = rw (c .before .public .given .1)
+returns-2 c = rw c.before.public.given.1
 
 pub is-pair-spec : {M : Type 1} → statement M
 is-pair-spec = tie.close (tie.spec array-read-mine enum-told enum-known-public returns returns-2)

@@ -14,7 +14,7 @@ folded-in-requires c κs = search needs
 
 returns : tie.Need-returns
 unfolding wins or
-returns c = rw (sym (c .before .before .has-fold .ensures) ∙ c .before .if1 .taken) (c .folded-in .ensures)
+returns c = rw (sym c.before.before.has-fold.ensures ∙ c.before.if1.taken) c.folded-in.ensures
 
 has-fold-requires-2 : tie.Need-has-fold-requires-2
 has-fold-requires-2 c κs = search needs
@@ -24,24 +24,18 @@ folded-in-requires-2 c κs = search needs
 
 returns-2 : tie.Need-returns-2
 unfolding wins or
-returns-2 c = rw (sym (c .before .before .before .before .has-fold .ensures) ∙ c .before .before .before .if1 .left, sym (c .before .before .has-fold2 .ensures) ∙ c .before .if2 .taken) (c .folded-in2 .ensures)
+returns-2 c = let s0 = c .before .before in
+    rw (sym s0.before.before.has-fold.ensures ∙ s0.before.if1.left, sym s0.has-fold2.ensures ∙ c.before.if2.taken) c.folded-in2.ensures
 
 is-stronger-requires : tie.Need-is-stronger-requires
 is-stronger-requires c κs = search needs
 
 returns-3 : tie.Need-returns-3
 unfolding wins or
-returns-3 c = rw (sym (c .before .before .before .before .has-fold .ensures) ∙ c .before .before .before .if1 .left, sym (c .before .before .has-fold2 .ensures) ∙ c .before .if2 .left) (c .is-stronger .ensures)
+returns-3 c = let s0 = c .before .before in
+    rw (sym s0.before.before.has-fold.ensures ∙ s0.before.if1.left, sym s0.has-fold2.ensures ∙ c.before.if2.left) c.is-stronger.ensures
 
 pub is-winner-spec : {M : Type 1} → statement M
 is-winner-spec =
-    tie.close
-    (tie.spec
-    has-fold-requires
-    folded-in-requires
-    returns
-    has-fold-requires-2
-    folded-in-requires-2
-    returns-2
-    is-stronger-requires
+    tie.close (tie.spec has-fold-requires folded-in-requires returns has-fold-requires-2 folded-in-requires-2 returns-2 is-stronger-requires
     returns-3)

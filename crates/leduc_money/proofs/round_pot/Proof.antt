@@ -31,29 +31,26 @@ loop-less : tie.Need-loop-less Inv-loop μ-loop
 loop-less c = omega arith
 
 loop-again : tie.Need-loop-again Inv-loop μ-loop
-loop-again c =
-    let paid = c .paid-after .ensures in
-    let bound = matched-bound (c .before .before .before .before .before .args .size) (c .before .before .before .loop .acting) (c .before .before .before .loop .other) (getD (c .before .before .before .before .before .args .h .now) (c .before .before .before .loop .i) 0) (32 + 4 * c .before .before .before .loop .i) (omega arith) (omega arith) in
-    (omega arith, omega arith, omega arith, ap (λ x. bet (c .before .before .before .before .before .args .size) (pot-of (c .before .before .before .loop .other) x) (drop (c .before .before .before .loop .i + 1) (c .before .before .before .before .before .args .h .now))) paid ∙ sym (bet-step (c .before .before .before .before .before .args .size) (c .before .before .before .loop .acting) (c .before .before .before .loop .other) (c .before .before .before .before .before .args .h .now) (c .before .before .before .loop .i) (omega arith)) ∙ c .before .before .before .loop .inv .3)
+loop-again c = let s0 = c .before .before .before in let a = s0 .before .before .args in
+    let paid = c.paid-after.ensures in
+    let bound = matched-bound a.size s0.loop.acting s0.loop.other (getD a.h.now s0.loop.i 0) (32 + 4 * s0.loop.i) (omega arith) (omega arith) in (
+      omega arith,
+      omega arith,
+      omega arith,
+      ap (λ x. bet a.size (pot-of s0.loop.other x) (drop (s0.loop.i + 1) a.h.now)) paid ∙
+          sym (bet-step a.size s0.loop.acting s0.loop.other a.h.now s0.loop.i (omega arith)) ∙ s0.loop.inv.3,
+    )
 
 seat-zero-first-requires : tie.Need-seat-zero-first-requires Inv-loop μ-loop
 seat-zero-first-requires c κs = search needs
 
 returns : tie.Need-returns Inv-loop μ-loop
 unfolding after-round
-returns c = let s0 = c .before .before .before .before in c .seat-zero-first .ensures ∙ ap (seated (length (s0 .args .h .now))) (sym (bet-end (s0 .args .size) (c .before .before .loop .acting) (c .before .before .loop .other) (s0 .args .h .now) (c .before .before .loop .i) (omega arith)) ∙ c .before .before .loop .inv .3)
+returns c = let s0 = c .before .before in let a = s0 .before .before .args in
+    c.seat-zero-first.ensures ∙ ap (seated (length a.h.now))
+    (sym (bet-end a.size s0.loop.acting s0.loop.other a.h.now s0.loop.i (omega arith)) ∙ s0.loop.inv.3)
 
 pub round-pot-spec : {M : Type 1} → statement M
 round-pot-spec =
-    tie.close
-    (tie.spec
-    Inv-loop
-    μ-loop
-    loop-holds
-    shared-slice-read-paid-after
-    paid-after-requires
-    add-i
-    loop-less
-    loop-again
-    seat-zero-first-requires
-    returns)
+    tie.close (tie.spec Inv-loop μ-loop loop-holds shared-slice-read-paid-after paid-after-requires add-i loop-less loop-again
+    seat-zero-first-requires returns)

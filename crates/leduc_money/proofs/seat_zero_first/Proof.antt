@@ -6,11 +6,11 @@ use Rattle.leduc_money.proofs.seat_zero_first.Tie as tie
 
 returns : tie.Need-returns
 unfolding seated
-returns c = rw (eq-eqb _ _ (c .if1 .taken))
+returns c = rw (eq-eqb _ _ c.if1.taken)
 
 returns-2 : tie.Need-returns-2
 unfolding seated
-returns-2 c = rw (ne-eqb _ _ (c .if1 .left))
+returns-2 c = rw (ne-eqb _ _ c.if1.left)
 
 pub seat-zero-first-spec : {M : Type 1} → statement M
 seat-zero-first-spec = tie.close (tie.spec returns returns-2)

@@ -19,7 +19,7 @@ add-result c = search needs
 
 returns : tie.Need-returns
 unfolding threes
-returns c = (actions-at (c .args .set) (c .pre), omega arith)
+returns c = (actions-at c.args.set c.pre, omega arith)
 
 pub actions-spec : {M : Type 1} → statement M
 actions-spec = tie.close (tie.spec mul-bits array-read-bits shr-bits add-result returns)

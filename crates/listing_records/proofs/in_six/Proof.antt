@@ -12,7 +12,8 @@ copy-at-requires : tie.Need-copy-at-requires
 copy-at-requires c κs = search needs
 
 returns : tie.Need-returns
-returns c = c .before .copy-at .ensures ∙ padded-paste 6 (c .before .before .before .before .args .cards .now) (c .before .before .before .before .args .dealt) (search needs) (search needs)
+returns c = let s0 = c .before .before .before .before in
+    c.before.copy-at.ensures ∙ padded-paste 6 s0.args.cards.now s0.args.dealt (search needs) (search needs)
 
 pub in-six-spec : {M : Type 1} → statement M
 in-six-spec = tie.close (tie.spec slice-aggregate-copy-at copy-at-requires returns)

@@ -16,7 +16,7 @@ abbrev μ-loop : tie.MeasureT-loop
 μ-loop out₀ at source count i₀ out i = count - i
 
 loop-holds : tie.Need-loop-holds Inv-loop μ-loop
-loop-holds c = (search needs, paste-zero (c .args .out .now) (c .args .at) (c .args .source .now))
+loop-holds c = (search needs, paste-zero c.args.out.now c.args.at c.args.source.now)
 
 shared-slice-read-out : tie.Need-shared-slice-read-out Inv-loop μ-loop
 shared-slice-read-out c = search needs
@@ -25,9 +25,8 @@ add-out : tie.Need-add-out Inv-loop μ-loop
 add-out c = search needs
 
 slice-write-out : tie.Need-slice-write-out Inv-loop μ-loop
-slice-write-out c =
-    let long = ap length (c .before .before .loop .inv .1) ∙ length-paste (c .before .before .before .args .out .now) (c .before .before .before .args .at) (c .before .before .before .args .source .now) (c .before .before .loop .i) (search needs) (search needs) in
-    omega arith
+slice-write-out c = let s0 = c .before .before in let a = s0 .before .args in
+    let long = ap length s0.loop.inv.1 ∙ length-paste a.out.now a.at a.source.now s0.loop.i (search needs) (search needs) in omega arith
 
 add-i : tie.Need-add-i Inv-loop μ-loop
 add-i c = search needs
@@ -36,33 +35,20 @@ loop-less : tie.Need-loop-less Inv-loop μ-loop
 loop-less c = search needs
 
 loop-again : tie.Need-loop-again Inv-loop μ-loop
-loop-again c = (
+loop-again c = let s0 = c .before .before in let a = s0 .before .args in (
   search needs,
-  ap (λ l. set l (c .before .before .before .args .at + c .before .before .loop .i) (getD (c .before .before .before .args .source .now) (c .before .before .loop .i) 0)) (c .before .before .loop .inv .1)
-      ∙ paste-suc (c .before .before .before .args .out .now) (c .before .before .before .args .at) (c .before .before .before .args .source .now) (c .before .before .loop .i) 0 (search needs) (search needs)
-      ∙ ap (paste (c .before .before .before .args .out .now) (c .before .before .before .args .at) (c .before .before .before .args .source .now)) (sym (add-one (c .before .before .loop .i))),
+  ap (λ l. set l (a.at + s0.loop.i) (getD a.source.now s0.loop.i 0)) s0.loop.inv.1 ∙ paste-suc a.out.now a.at a.source.now s0.loop.i 0 (search needs)
+      (search needs) ∙ ap (paste a.out.now a.at a.source.now) (sym (add-one s0.loop.i)),
 )
 
 same-length : tie.Need-same-length Inv-loop μ-loop
-same-length c = ap length (c .before .loop .inv .1) ∙ length-paste (c .before .before .args .out .now) (c .before .before .args .at) (c .before .before .args .source .now) (c .before .loop .i) (search needs) (search needs)
+same-length c = let a = c .before .before .args in
+    ap length c.before.loop.inv.1 ∙ length-paste a.out.now a.at a.source.now c.before.loop.i (search needs) (search needs)
 
 returns : tie.Need-returns Inv-loop μ-loop
-returns c =
-    let all : c .before .loop .i ≡ c .before .before .args .count = omega arith in
-    c .before .loop .inv .1 ∙ ap (paste (c .before .before .args .out .now) (c .before .before .args .at) (c .before .before .args .source .now)) all
+returns c = let a = c .before .before .args in
+    let all : c.before.loop.i ≡ a.count = omega arith in c.before.loop.inv.1 ∙ ap (paste a.out.now a.at a.source.now) all
 
 pub copy-at-spec : {M : Type 1} → statement M
 copy-at-spec =
-    tie.close
-    (tie.spec
-    Inv-loop
-    μ-loop
-    loop-holds
-    shared-slice-read-out
-    add-out
-    slice-write-out
-    add-i
-    loop-less
-    loop-again
-    same-length
-    returns)
+    tie.close (tie.spec Inv-loop μ-loop loop-holds shared-slice-read-out add-out slice-write-out add-i loop-less loop-again same-length returns)

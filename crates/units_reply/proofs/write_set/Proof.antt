@@ -34,7 +34,11 @@ same-length : tie.Need-same-length
 same-length c = search needs
 
 returns : tie.Need-returns
-returns c = let s0 = c .before .before .before .before .before .before .before .before .before .before .before .before .before in let s1 = c .before .before .before .before .before .before .before .before .before in let s2 = c .before .before .before .before .before .before in let s3 = c .before .before .before .before .before in let s4 = c .before .before .before .before in laying.laid-other (now (s0 .args .table)) (s0 .args .x) (s0 .args .at) (s0 .args .seat) (s0 .args .d) (s0 .args .heads) (s0 .args .units) (s0 .args .kept) (now (s0 .args .w)) (now (s0 .args .out)) (c .before .before .write .last .0) (s1 .actions .result) (s2 .byte .result) (s3 .byte2 .result) (s4 .byte3 .result) (s1 .actions .ensures) (c .before .before .write .ensures) (λ q. c .before .before .before .before .before .before .before .if1 .taken (c .before .before .before .before .before .before .before .before .actor .ensures ∙ q)) (s2 .byte .ensures) (s3 .byte2 .ensures) (s4 .byte3 .ensures)
+returns c = let s3 = c .before .before in let s2 = s3 .before .before in let s1 = s2 .before .before in let s0 = s1 .before .before in
+    let a = s0 .before .before .before .before .before .args in
+    laying.laid-other (now a.table) a.x a.at a.seat a.d a.heads a.units a.kept (now a.w) (now a.out) s3.write.last.0 s0.before.actions.result
+    s1.byte.result s2.before.byte2.result s2.byte3.result s0.before.actions.ensures s3.write.ensures (λ q. s1.before.if1.taken (s0.actor.ensures ∙ q))
+    s1.byte.ensures s2.before.byte2.ensures s2.byte3.ensures
 
 choose-requires : tie.Need-choose-requires
 choose-requires c κs = search needs
@@ -58,27 +62,13 @@ same-length-3 : tie.Need-same-length-3
 same-length-3 c = search needs
 
 returns-2 : tie.Need-returns-2
-returns-2 c = let s0 = c .before .before .before .before .before .before .before .before .before .before .before .before .before .before .before .before .before in let s1 = c .before .before .before .before .before .before .before .before .before .before .before .before .before in let s2 = c .before .before .before .before .before .before .before .before .before in let s3 = c .before .before .before .before .before .before in let s4 = c .before .before .before .before .before in let s5 = c .before .before .before .before in laying.laid-own (now (s0 .args .table)) (s0 .args .x) (s0 .args .at) (s0 .args .seat) (s0 .args .d) (s0 .args .heads) (s0 .args .units) (s0 .args .kept) (now (s0 .args .w)) (now (s0 .args .out)) (c .before .before .write2 .last .0) (s1 .actions .result) (s3 .pure .result) (s4 .pure2 .result) (s5 .pure3 .result) (s1 .actions .ensures) (c .before .before .write2 .ensures) (s2 .choose .last .0) (s2 .choose .result) (sym (c .before .before .before .before .before .before .before .before .before .before .before .before .actor .ensures) ∙ c .before .before .before .before .before .before .before .before .before .before .before .if1 .left) (s2 .choose .ensures) (s3 .pure .ensures) (s4 .pure2 .ensures) (s5 .pure3 .ensures)
+returns-2 c = let s5 = c .before .before in let s4 = s5 .before .before in let s3 = s4 .before in let s2 = s3 .before .before .before .before in
+    let s1 = s2 .before .before in let s0 = s1 .before .before in let a = s0 .before .before .before .before .args in
+    laying.laid-own (now a.table) a.x a.at a.seat a.d a.heads a.units a.kept (now a.w) (now a.out) s5.write2.last.0
+    s0.actions.result s3.before.pure.result s3.pure2.result s4.pure3.result s0.actions.ensures s5.write2.ensures s2.choose.last.0 s2.choose.result
+    (sym s1.before.actor.ensures ∙ s1.if1.left) s2.choose.ensures s3.before.pure.ensures s3.pure2.ensures s4.pure3.ensures
 
 pub write-set-spec : {M : Type 1} → statement M
 write-set-spec =
-    tie.close
-    (tie.spec
-    actions-requires
-    actor-requires
-    byte-requires
-    add-byte
-    byte-requires-2
-    add-byte-2
-    byte-requires-3
-    write-requires
-    same-length
-    returns
-    choose-requires
-    pure-requires
-    pure-requires-2
-    pure-requires-3
-    write-requires-2
-    same-length-2
-    same-length-3
-    returns-2)
+    tie.close (tie.spec actions-requires actor-requires byte-requires add-byte byte-requires-2 add-byte-2 byte-requires-3 write-requires same-length
+    returns choose-requires pure-requires pure-requires-2 pure-requires-3 write-requires-2 same-length-2 same-length-3 returns-2)

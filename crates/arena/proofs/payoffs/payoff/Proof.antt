@@ -15,10 +15,10 @@ cast-result : tie.Need-cast-result
 cast-result c = search needs
 
 sub-result : tie.Need-sub-result
-sub-result c = lowered-fits (byteOf (c .args .x) (c .args .seat)) (omega arith)
+sub-result c = lowered-fits (byteOf c.args.x c.args.seat) (omega arith)
 
 returns : tie.Need-returns
-returns c = lowered (byteOf (c .args .x) (c .args .seat)) (omega arith)
+returns c = lowered (byteOf c.args.x c.args.seat) (omega arith)
 
 pub payoff-spec : {M : Type 1} → statement M
 payoff-spec = tie.close (tie.spec mul-bits shr-bits cast-result sub-result returns)

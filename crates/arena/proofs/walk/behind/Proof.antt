@@ -17,16 +17,17 @@ add-result : tie.Need-add-result
 add-result c = search needs
 
 returns : tie.Need-returns
-returns c = let s0 = c .before .before .before .before in at-end (now (s0 .args .w)) (s0 .args .a) (ap kindOf (sym (c .before .before .word .ensures)) ∙ sym (c .before .kind .ensures) ∙ c .if1 .taken)
+returns c = let s0 = c .before .before in
+    at-end (now s0.before.before.args.w) s0.before.before.args.a (ap kindOf (sym s0.word.ensures) ∙ sym c.before.kind.ensures ∙ c.if1.taken)
 
 next-requires : tie.Need-next-requires
 next-requires c κs = search needs
 
 returns-2 : tie.Need-returns-2
-returns-2 c =
-    let e = c .before .before .before .word .ensures in
-    subst (λ r. Behind (now (c .before .before .before .before .before .args .w)) (c .before .before .before .before .before .args .a) r) (sym (c .next .ensures ∙ ap nextOf e)) (elsewhere (now (c .before .before .before .before .before .args .w)) (c .before .before .before .before .before .args .a) λ q. c .before .if1 .left (c .before .before .kind .ensures ∙ ap kindOf e ∙ q))
+returns-2 c = let s0 = c .before .before in let a = s0 .before .before .before .args in
+    let e = s0.before.word.ensures in
+    subst (λ r. Behind (now a.w) a.a r) (sym (c.next.ensures ∙ ap nextOf e))
+    (elsewhere (now a.w) a.a λ q. c.before.if1.left (s0.kind.ensures ∙ ap kindOf e ∙ q))
 
 pub behind-spec : {M : Type 1} → statement M
-behind-spec =
-    tie.close (tie.spec word-requires kind-requires add-result returns next-requires returns-2)
+behind-spec = tie.close (tie.spec word-requires kind-requires add-result returns next-requires returns-2)

@@ -27,26 +27,18 @@ loop-less : tie.Need-loop-less Inv-loop μ-loop
 loop-less c = omega arith
 
 loop-again : tie.Need-loop-again Inv-loop μ-loop
-loop-again c = let s0 = c .before .before .before .before .before in (clear-more _ _ _ _ _ (s0 .loop .inv .1) (s0 .loop .inv .0) (c .before .before .put .ensures), omega (arith, s0 .loop .inv .1), omega (arith, c .before .before .before .before .loop-test .taken))
+loop-again c = let s0 = c .before .before .before .before in (
+  clear-more _ _ _ _ _ s0.before.loop.inv.1 s0.before.loop.inv.0 c.before.before.put.ensures,
+  omega (arith, s0.before.loop.inv.1),
+  omega (arith, s0.loop-test.taken),
+)
 
 same-length : tie.Need-same-length Inv-loop μ-loop
-same-length c = c .before .loop .inv .0 .kept .long
+same-length c = c.before.loop.inv.0.kept.long
 
 returns : tie.Need-returns Inv-loop μ-loop
-returns c =
-    let e : c .before .loop .i ≡ c .before .before .before .args .hi = omega (arith, c .before .loop .inv .2) in
-    subst (λ i. Cleared (c .before .before .before .args .lo) i (now (c .before .before .before .args .w)) (c .before .loop .w)) e (c .before .loop .inv .0)
+returns c = let s0 = c .before in let a = s0 .before .before .args in
+    let e : s0.loop.i ≡ a.hi = omega (arith, s0.loop.inv.2) in subst (λ i. Cleared a.lo i (now a.w) s0.loop.w) e s0.loop.inv.0
 
 pub clear-spec : {M : Type 1} → statement M
-clear-spec =
-    tie.close
-    (tie.spec
-    Inv-loop
-    μ-loop
-    loop-holds
-    put-requires
-    add-i
-    loop-less
-    loop-again
-    same-length
-    returns)
+clear-spec = tie.close (tie.spec Inv-loop μ-loop loop-holds put-requires add-i loop-less loop-again same-length returns)

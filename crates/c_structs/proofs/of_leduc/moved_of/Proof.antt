@@ -8,9 +8,7 @@ position-of-requires : tie.Need-position-of-requires
 position-of-requires c κs = search needs
 
 returns : tie.Need-returns
-returns c =
-    let answer = c .before .args .answer in
-    ap (λ p. record { refusal = answer .refusal; position = p }) (c .position-of .ensures)
+returns c = let answer = c.before.args.answer in ap (λ p. record { refusal = answer.refusal; position = p }) c.position-of.ensures
 
 pub moved-of-spec : {M : Type 1} → statement M
 moved-of-spec = tie.close (tie.spec position-of-requires returns)

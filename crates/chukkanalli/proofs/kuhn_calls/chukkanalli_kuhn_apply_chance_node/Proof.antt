@@ -16,11 +16,9 @@ moved-of-requires : tie.Need-moved-of-requires
 moved-of-requires c κs = search needs
 
 returns : tie.Need-returns
-returns c =
-    let args = c .before .before .before .args in
-    c .moved-of .ensures ∙ ap moved-of (c .before .apply-chance-node .ensures ∙ ap (λ s. dealt (game-of (args .seats)) s (args .outcome)) (c .before .before .state-of .ensures))
+returns c = let s0 = c .before .before in
+    c.moved-of.ensures ∙ ap moved-of
+    (c.before.apply-chance-node.ensures ∙ ap (λ s. dealt (game-of s0.before.args.seats) s s0.before.args.outcome) s0.state-of.ensures)
 
 pub chukkanalli-kuhn-apply-chance-node-spec : {M : Type 1} → statement M
-chukkanalli-kuhn-apply-chance-node-spec =
-    tie.close
-    (tie.spec state-of-requires apply-chance-node-requires moved-of-requires returns)
+chukkanalli-kuhn-apply-chance-node-spec = tie.close (tie.spec state-of-requires apply-chance-node-requires moved-of-requires returns)

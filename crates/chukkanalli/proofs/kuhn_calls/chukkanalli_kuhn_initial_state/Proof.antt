@@ -12,8 +12,7 @@ moved-of-requires : tie.Need-moved-of-requires
 moved-of-requires c κs = search needs
 
 returns : tie.Need-returns
-returns c = c .moved-of .ensures ∙ ap moved-of (c .before .initial-state .ensures)
+returns c = c.moved-of.ensures ∙ ap moved-of c.before.initial-state.ensures
 
 pub chukkanalli-kuhn-initial-state-spec : {M : Type 1} → statement M
-chukkanalli-kuhn-initial-state-spec =
-    tie.close (tie.spec initial-state-requires moved-of-requires returns)
+chukkanalli-kuhn-initial-state-spec = tie.close (tie.spec initial-state-requires moved-of-requires returns)

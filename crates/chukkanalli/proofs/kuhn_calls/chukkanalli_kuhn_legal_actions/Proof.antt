@@ -20,19 +20,12 @@ same-length : tie.Need-same-length
 same-length c = search needs
 
 returns : tie.Need-returns
-returns c =
-    let args = c .before .before .before .before .before .before .before .args in
-    let converted = c .before .before .before .before .before .state-of .ensures in (
-      c .written-of .ensures ∙ ap written-of (c .before .before .before .legal-actions .ensures .0 ∙ ap (λ s. listed (game-of (args .seats)) s (args .seat) (length (args .out .now))) converted),
-      c .before .before .before .legal-actions .ensures .1 ∙ ap₂ (λ n s. written n (legal-of (game-of (args .seats)) s (args .seat)) (args .out .now)) (sym (ap (λ w. w .refusal) (c .written-of .ensures))) converted,
+returns c = let s0 = c .before .before .before in let a = s0 .before .before .before .before .args in
+    let converted = s0.before.before.state-of.ensures in (
+      c.written-of.ensures ∙ ap written-of (s0.legal-actions.ensures.0 ∙ ap (λ s. listed (game-of a.seats) s a.seat (length a.out.now)) converted),
+      s0.legal-actions.ensures.1 ∙ ap₂ (λ n s. written n (legal-of (game-of a.seats) s a.seat) a.out.now)
+          (sym (ap (λ w. w.refusal) c.written-of.ensures)) converted,
     )
 
 pub chukkanalli-kuhn-legal-actions-spec : {M : Type 1} → statement M
-chukkanalli-kuhn-legal-actions-spec =
-    tie.close
-    (tie.spec
-    state-of-requires
-    legal-actions-requires
-    written-of-requires
-    same-length
-    returns)
+chukkanalli-kuhn-legal-actions-spec = tie.close (tie.spec state-of-requires legal-actions-requires written-of-requires same-length returns)

@@ -16,11 +16,8 @@ payoffs-of-requires : tie.Need-payoffs-of-requires
 payoffs-of-requires c κs = search needs
 
 returns : tie.Need-returns
-returns c =
-    let args = c .before .before .before .args in
-    c .payoffs-of .ensures ∙ ap payoffs-of (c .before .payouts .ensures ∙ ap (λ s. paid (game-of (args .seats)) s) (c .before .before .state-of .ensures))
+returns c = c.payoffs-of.ensures ∙ ap payoffs-of
+    (c.before.payouts.ensures ∙ ap (λ s. paid (game-of c.before.before.before.args.seats) s) c.before.before.state-of.ensures)
 
 pub chukkanalli-kuhn-payouts-spec : {M : Type 1} → statement M
-chukkanalli-kuhn-payouts-spec =
-    tie.close
-    (tie.spec state-of-requires payouts-requires payoffs-of-requires returns)
+chukkanalli-kuhn-payouts-spec = tie.close (tie.spec state-of-requires payouts-requires payoffs-of-requires returns)

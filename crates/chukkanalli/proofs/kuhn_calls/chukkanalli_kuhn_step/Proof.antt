@@ -16,10 +16,9 @@ moved-of-requires : tie.Need-moved-of-requires
 moved-of-requires c κs = search needs
 
 returns : tie.Need-returns
-returns c =
-    let args = c .before .before .before .args in
-    c .moved-of .ensures ∙ ap moved-of (c .before .step .ensures ∙ ap (λ s. stepped (game-of (args .seats)) s (args .action)) (c .before .before .state-of .ensures))
+returns c = let s0 = c .before .before in
+    c.moved-of.ensures ∙ ap moved-of
+    (c.before.step.ensures ∙ ap (λ s. stepped (game-of s0.before.args.seats) s s0.before.args.action) s0.state-of.ensures)
 
 pub chukkanalli-kuhn-step-spec : {M : Type 1} → statement M
-chukkanalli-kuhn-step-spec =
-    tie.close (tie.spec state-of-requires step-requires moved-of-requires returns)
+chukkanalli-kuhn-step-spec = tie.close (tie.spec state-of-requires step-requires moved-of-requires returns)

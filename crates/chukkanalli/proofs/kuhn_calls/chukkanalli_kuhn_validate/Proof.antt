@@ -7,7 +7,7 @@ validate-requires : tie.Need-validate-requires
 validate-requires c κs = search needs
 
 returns : tie.Need-returns
-returns c = c .validate .ensures
+returns c = c.validate.ensures
 
 pub chukkanalli-kuhn-validate-spec : {M : Type 1} → statement M
 chukkanalli-kuhn-validate-spec = tie.close (tie.spec validate-requires returns)

@@ -16,15 +16,9 @@ moved-of-requires : tie.Need-moved-of-requires
 moved-of-requires c κs = search needs
 
 returns : tie.Need-returns
-returns c =
-    let args = c .before .before .before .args in
-    c .moved-of .ensures ∙ ap moved-of (c .before .validate-decoded-state .ensures ∙ ap (λ s. checked (game-of (args .seats)) s (args .done)) (c .before .before .state-of .ensures))
+returns c = let s0 = c .before .before in
+    c.moved-of.ensures ∙ ap moved-of
+    (c.before.validate-decoded-state.ensures ∙ ap (λ s. checked (game-of s0.before.args.seats) s s0.before.args.done) s0.state-of.ensures)
 
 pub chukkanalli-kuhn-validate-decoded-state-spec : {M : Type 1} → statement M
-chukkanalli-kuhn-validate-decoded-state-spec =
-    tie.close
-    (tie.spec
-    state-of-requires
-    validate-decoded-state-requires
-    moved-of-requires
-    returns)
+chukkanalli-kuhn-validate-decoded-state-spec = tie.close (tie.spec state-of-requires validate-decoded-state-requires moved-of-requires returns)

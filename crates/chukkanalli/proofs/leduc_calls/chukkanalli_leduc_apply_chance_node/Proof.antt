@@ -16,10 +16,8 @@ moved-of-requires : tie.Need-moved-of-requires
 moved-of-requires c κs = search needs
 
 returns : tie.Need-returns
-returns c =
-    let args = c .before .before .before .args in
-    c .moved-of .ensures ∙ ap moved-of (c .before .apply-chance-node .ensures ∙ ap (λ s. dealt s (args .outcome)) (c .before .before .state-of .ensures))
+returns c = c.moved-of.ensures ∙ ap moved-of
+    (c.before.apply-chance-node.ensures ∙ ap (λ s. dealt s c.before.before.before.args.outcome) c.before.before.state-of.ensures)
 
 pub chukkanalli-leduc-apply-chance-node-spec : {M : Type 1} → statement M
-chukkanalli-leduc-apply-chance-node-spec =
-    tie.close (tie.spec state-of-requires apply-chance-node-requires moved-of-requires returns)
+chukkanalli-leduc-apply-chance-node-spec = tie.close (tie.spec state-of-requires apply-chance-node-requires moved-of-requires returns)

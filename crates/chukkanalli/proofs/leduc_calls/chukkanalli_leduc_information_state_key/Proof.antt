@@ -20,19 +20,12 @@ same-length : tie.Need-same-length
 same-length c = search needs
 
 returns : tie.Need-returns
-returns c =
-    let args = c .before .before .before .before .before .before .before .args in
-    let converted = c .before .before .before .before .before .state-of .ensures in (
-      c .written-of .ensures ∙ ap written-of (c .before .before .before .information-state-key .ensures .0 ∙ ap (λ s. keyed s (args .seat) (length (args .out .now))) converted),
-      c .before .before .before .information-state-key .ensures .1 ∙ ap (λ s. written (key-refusal s (args .seat) (length (args .out .now))) (key-of s (args .seat)) (args .out .now)) converted,
+returns c = let s0 = c .before .before .before in let a = s0 .before .before .before .before .args in
+    let converted = s0.before.before.state-of.ensures in (
+      c.written-of.ensures ∙ ap written-of (s0.information-state-key.ensures.0 ∙ ap (λ s. keyed s a.seat (length a.out.now)) converted),
+      s0.information-state-key.ensures.1 ∙ ap (λ s. written (key-refusal s a.seat (length a.out.now)) (key-of s a.seat) a.out.now) converted,
     )
 
 pub chukkanalli-leduc-information-state-key-spec : {M : Type 1} → statement M
 chukkanalli-leduc-information-state-key-spec =
-    tie.close
-    (tie.spec
-    state-of-requires
-    information-state-key-requires
-    written-of-requires
-    same-length
-    returns)
+    tie.close (tie.spec state-of-requires information-state-key-requires written-of-requires same-length returns)

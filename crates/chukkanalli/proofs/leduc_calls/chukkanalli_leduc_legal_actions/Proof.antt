@@ -21,14 +21,11 @@ same-length : tie.Need-same-length
 same-length c = search needs
 
 returns : tie.Need-returns
-returns c =
-    let args = c .before .before .before .before .before .before .before .args in
-    let converted = c .before .before .before .before .before .state-of .ensures in (
-      c .written-of .ensures ∙ ap written-of (c .before .before .before .legal-actions .ensures .0 ∙ ap (λ s. listed s (args .seat) (length (args .out .now))) converted),
-      c .before .before .before .legal-actions .ensures .1 ∙ ap (λ s. written (legal-refusal s (args .seat) (length (args .out .now))) (legal-of s (args .seat)) (args .out .now)) converted,
+returns c = let s0 = c .before .before .before in let a = s0 .before .before .before .before .args in
+    let converted = s0.before.before.state-of.ensures in (
+      c.written-of.ensures ∙ ap written-of (s0.legal-actions.ensures.0 ∙ ap (λ s. listed s a.seat (length a.out.now)) converted),
+      s0.legal-actions.ensures.1 ∙ ap (λ s. written (legal-refusal s a.seat (length a.out.now)) (legal-of s a.seat) a.out.now) converted,
     )
 
 pub chukkanalli-leduc-legal-actions-spec : {M : Type 1} → statement M
-chukkanalli-leduc-legal-actions-spec =
-    tie.close
-    (tie.spec state-of-requires legal-actions-requires written-of-requires same-length returns)
+chukkanalli-leduc-legal-actions-spec = tie.close (tie.spec state-of-requires legal-actions-requires written-of-requires same-length returns)

@@ -16,9 +16,7 @@ payoffs-of-requires : tie.Need-payoffs-of-requires
 payoffs-of-requires c κs = search needs
 
 returns : tie.Need-returns
-returns c =
-    c .payoffs-of .ensures ∙ ap payoffs-of (c .before .payouts .ensures ∙ ap paid (c .before .before .state-of .ensures))
+returns c = c.payoffs-of.ensures ∙ ap payoffs-of (c.before.payouts.ensures ∙ ap paid c.before.before.state-of.ensures)
 
 pub chukkanalli-leduc-payouts-spec : {M : Type 1} → statement M
-chukkanalli-leduc-payouts-spec =
-    tie.close (tie.spec state-of-requires payouts-requires payoffs-of-requires returns)
+chukkanalli-leduc-payouts-spec = tie.close (tie.spec state-of-requires payouts-requires payoffs-of-requires returns)

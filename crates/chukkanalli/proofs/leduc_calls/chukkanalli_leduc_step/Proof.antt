@@ -16,10 +16,8 @@ moved-of-requires : tie.Need-moved-of-requires
 moved-of-requires c κs = search needs
 
 returns : tie.Need-returns
-returns c =
-    let args = c .before .before .before .args in
-    c .moved-of .ensures ∙ ap moved-of (c .before .step .ensures ∙ ap (λ s. stepped s (args .action)) (c .before .before .state-of .ensures))
+returns c = c.moved-of.ensures ∙ ap moved-of
+    (c.before.step.ensures ∙ ap (λ s. stepped s c.before.before.before.args.action) c.before.before.state-of.ensures)
 
 pub chukkanalli-leduc-step-spec : {M : Type 1} → statement M
-chukkanalli-leduc-step-spec =
-    tie.close (tie.spec state-of-requires step-requires moved-of-requires returns)
+chukkanalli-leduc-step-spec = tie.close (tie.spec state-of-requires step-requires moved-of-requires returns)

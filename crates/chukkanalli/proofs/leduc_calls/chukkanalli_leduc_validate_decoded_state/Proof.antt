@@ -16,11 +16,8 @@ moved-of-requires : tie.Need-moved-of-requires
 moved-of-requires c κs = search needs
 
 returns : tie.Need-returns
-returns c =
-    let args = c .before .before .before .args in
-    c .moved-of .ensures ∙ ap moved-of (c .before .validate-decoded-state .ensures ∙ ap (λ s. checked s (args .done)) (c .before .before .state-of .ensures))
+returns c = c.moved-of.ensures ∙ ap moved-of
+    (c.before.validate-decoded-state.ensures ∙ ap (λ s. checked s c.before.before.before.args.done) c.before.before.state-of.ensures)
 
 pub chukkanalli-leduc-validate-decoded-state-spec : {M : Type 1} → statement M
-chukkanalli-leduc-validate-decoded-state-spec =
-    tie.close
-    (tie.spec state-of-requires validate-decoded-state-requires moved-of-requires returns)
+chukkanalli-leduc-validate-decoded-state-spec = tie.close (tie.spec state-of-requires validate-decoded-state-requires moved-of-requires returns)

@@ -11,7 +11,7 @@ new-requires : tie.Need-new-requires
 new-requires c κs = search needs
 
 returns : tie.Need-returns
-returns c = ap₂ (λ k x. record { refusal = k; state = x }) (c .before .validate .ensures) (c .new .ensures)
+returns c = ap₂ (λ k x. record { refusal = k; state = x }) c.before.validate.ensures c.new.ensures
 
 pub initial-state-spec : {M : Type 1} → statement M
 initial-state-spec = tie.close (tie.spec validate-requires new-requires returns)

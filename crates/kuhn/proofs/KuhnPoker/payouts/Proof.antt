@@ -11,7 +11,7 @@ payoff-refusal-requires : tie.Need-payoff-refusal-requires
 payoff-refusal-requires c κs = search needs
 
 returns : tie.Need-returns
-returns c = not-paid _ _ (c .before .before .args .self) (c .before .before .args .state) (c .before .payoff-refusal .ensures) (c .if1 .taken)
+returns c = not-paid _ _ c.before.before.args.self c.before.before.args.state c.before.payoff-refusal.ensures c.if1.taken
 
 slice-aggregate-payoffs : tie.Need-slice-aggregate-payoffs
 slice-aggregate-payoffs c = search needs
@@ -20,27 +20,20 @@ slice-aggregate-payoffs-2 : tie.Need-slice-aggregate-payoffs-2
 slice-aggregate-payoffs-2 c = search needs
 
 payoffs-requires : tie.Need-payoffs-requires
-payoffs-requires c κs =
-    let tens : length (c .before .before .before .before .before .before .args .state .cards) ≡ 10 = search needs in
-    let nineteen : length (c .before .before .before .before .before .before .args .state .history) ≡ 19 = search needs in
-    let ok = payoff-position (c .before .before .before .before .before .before .args .self) (c .before .before .before .before .before .before .args .state) (sym (c .before .before .before .before .before .payoff-refusal .ensures) ∙ c .before .before .before .before .if1 .left) in
-    (omega (arith, actions-in (c .before .before .before .before .before .before .args .self .players) (c .before .before .before .before .before .before .args .state) ok), seats-positive (c .before .before .before .before .before .before .args .self .players) (c .before .before .before .before .before .before .args .state) ok, seats-ten (c .before .before .before .before .before .before .args .self .players) (c .before .before .before .before .before .before .args .state) ok, omega (arith, seats-ten (c .before .before .before .before .before .before .args .self .players) (c .before .before .before .before .before .before .args .state) ok))
+payoffs-requires c κs = let s0 = c .before .before .before .before in let a = s0 .before .before .args in
+    let tens : length a.state.cards ≡ 10 = search needs in let nineteen : length a.state.history ≡ 19 = search needs in
+    let ok = payoff-position a.self a.state (sym s0.before.payoff-refusal.ensures ∙ s0.if1.left) in (
+      omega (arith, actions-in a.self.players a.state ok),
+      seats-positive a.self.players a.state ok,
+      seats-ten a.self.players a.state ok,
+      omega (arith, seats-ten a.self.players a.state ok),
+    )
 
 returns-2 : tie.Need-returns-2
-returns-2 c =
-    let tens : length (c .before .before .before .before .before .before .before .args .state .cards) ≡ 10 = search needs in
-    let nineteen : length (c .before .before .before .before .before .before .before .args .state .history) ≡ 19 = search needs in
-    let accepted = sym (c .before .before .before .before .before .before .payoff-refusal .ensures) ∙ c .before .before .before .before .before .if1 .left in
-    paid-out _ _ (c .before .before .before .before .before .before .before .args .self) (c .before .before .before .before .before .before .before .args .state) _ (c .before .before .before .before .before .before .payoff-refusal .ensures) (c .before .before .before .before .before .if1 .left)
-    (c .payoffs .ensures ∙ payoff-full (c .before .before .before .before .before .before .before .args .self) (c .before .before .before .before .before .before .before .args .state) tens nineteen accepted)
+returns-2 c = let s0 = c .before .before .before .before .before in let a = s0 .before .before .args in
+    let tens : length a.state.cards ≡ 10 = search needs in let nineteen : length a.state.history ≡ 19 = search needs in
+    let accepted = sym s0.before.payoff-refusal.ensures ∙ s0.if1.left in
+    paid-out _ _ a.self a.state _ s0.before.payoff-refusal.ensures s0.if1.left (c.payoffs.ensures ∙ payoff-full a.self a.state tens nineteen accepted)
 
 pub payouts-spec : {M : Type 1} → statement M
-payouts-spec =
-    tie.close
-    (tie.spec
-    payoff-refusal-requires
-    returns
-    slice-aggregate-payoffs
-    slice-aggregate-payoffs-2
-    payoffs-requires
-    returns-2)
+payouts-spec = tie.close (tie.spec payoff-refusal-requires returns slice-aggregate-payoffs slice-aggregate-payoffs-2 payoffs-requires returns-2)

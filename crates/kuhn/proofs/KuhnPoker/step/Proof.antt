@@ -10,16 +10,15 @@ step-refusal-requires : tie.Need-step-refusal-requires
 step-refusal-requires c κs = search needs
 
 returns : tie.Need-returns
-returns c = not-moved _ _ _ _ (c .before .step-refusal .ensures) (c .if1 .taken)
+returns c = not-moved _ _ _ _ c.before.step-refusal.ensures c.if1.taken
 
 with-action-requires : tie.Need-with-action-requires
-with-action-requires c κs =
-    let ten : length (c .before .before .args .state .cards) ≡ 10 = search needs in
-    let nineteen : length (c .before .before .args .state .history) ≡ 19 = search needs in
-    room-to-act (c .before .before .args .self) (c .before .before .args .state) ten nineteen (sym (c .before .step-refusal .ensures) ∙ c .if1 .left)
+with-action-requires c κs = let a = c .before .before .args in
+    let ten : length a.state.cards ≡ 10 = search needs in let nineteen : length a.state.history ≡ 19 = search needs in
+    room-to-act a.self a.state ten nineteen (sym c.before.step-refusal.ensures ∙ c.if1.left)
 
 returns-2 : tie.Need-returns-2
-returns-2 c = moved-on _ _ _ _ _ (c .before .before .step-refusal .ensures) (c .before .if1 .left) (c .with-action .ensures)
+returns-2 c = moved-on _ _ _ _ _ c.before.before.step-refusal.ensures c.before.if1.left c.with-action.ensures
 
 pub step-spec : {M : Type 1} → statement M
 step-spec = tie.close (tie.spec step-refusal-requires returns with-action-requires returns-2)

@@ -16,7 +16,10 @@ add-next : tie.Need-add-next
 add-next c = search needs
 
 returns : tie.Need-returns
-returns c = ap (λ a. record { cards = c .before .args .self .cards; dealt = c .before .args .self .dealt; history = set (c .before .args .self .history) (c .before .args .self .acted) a; acted = c .before .args .self .acted + 1 }) (c .as-action .ensures)
+returns c = let args = c .before .args in
+    ap (λ a.
+    record { cards = args.self.cards; dealt = args.self.dealt; history = set args.self.history args.self.acted a; acted = args.self.acted + 1 })
+    c.as-action.ensures
 
 pub with-action-spec : {M : Type 1} → statement M
 with-action-spec = tie.close (tie.spec as-action-requires element-write-next add-next returns)

@@ -13,105 +13,115 @@ seats-outside-requires : tie.Need-seats-outside-requires
 seats-outside-requires c κs = search needs
 
 returns : tie.Need-returns
-returns c = rw (sym (c .before .seats-outside .ensures) ∙ c .if1 .taken)
+returns c = rw (sym c.before.seats-outside.ensures ∙ c.if1.taken)
 
 returns-2 : tie.Need-returns-2
-returns-2 c = rw ((sym (c .before .before .seats-outside .ensures) ∙ c .before .if1 .left), ne-eqb _ _ (c .if2 .taken))
+returns-2 c = rw ((sym c.before.before.seats-outside.ensures ∙ c.before.if1.left), ne-eqb _ _ c.if2.taken)
 
 slice-aggregate-card-outside : tie.Need-slice-aggregate-card-outside
 slice-aggregate-card-outside c = search needs
 
 card-outside-requires : tie.Need-card-outside-requires
-card-outside-requires c κs =
-    let tens : length (c .before .before .before .before .before .args .state .cards) ≡ 10 = search needs in
-    let nineteen : length (c .before .before .before .before .before .args .state .history) ≡ 19 = search needs in
-    let least = seats-least (c .before .before .before .before .before .args .n) (sym (c .before .before .before .before .seats-outside .ensures) ∙ c .before .before .before .if1 .left) in
-    let most = seats-most (c .before .before .before .before .before .args .n) (sym (c .before .before .before .before .seats-outside .ensures) ∙ c .before .before .before .if1 .left) in
-    omega arith
+card-outside-requires c κs = let s0 = c .before .before .before in let a = s0 .before .before .args in
+    let tens : length a.state.cards ≡ 10 = search needs in let nineteen : length a.state.history ≡ 19 = search needs in
+    let least = seats-least a.n (sym s0.before.seats-outside.ensures ∙ s0.if1.left) in
+    let most = seats-most a.n (sym s0.before.seats-outside.ensures ∙ s0.if1.left) in omega arith
 
 returns-3 : tie.Need-returns-3
-returns-3 c = rw ((sym (c .before .before .before .before .before .before .seats-outside .ensures) ∙ c .before .before .before .before .before .if1 .left), eq-eqb _ _ (c .before .before .before .before .if2 .left), sym (c .before .card-outside .ensures) ∙ c .if3 .taken)
+returns-3 c = let s0 = c .before .before .before .before in
+    rw ((sym s0.before.before.seats-outside.ensures ∙ s0.before.if1.left), eq-eqb _ _ s0.if2.left, sym c.before.card-outside.ensures ∙ c.if3.taken)
 
 slice-aggregate-card-twice : tie.Need-slice-aggregate-card-twice
 slice-aggregate-card-twice c = search needs
 
 card-twice-requires : tie.Need-card-twice-requires
-card-twice-requires c κs =
-    let tens : length (c .before .before .before .before .before .before .before .before .args .state .cards) ≡ 10 = search needs in
-    let nineteen : length (c .before .before .before .before .before .before .before .before .args .state .history) ≡ 19 = search needs in
-    let least = seats-least (c .before .before .before .before .before .before .before .before .args .n) (sym (c .before .before .before .before .before .before .before .seats-outside .ensures) ∙ c .before .before .before .before .before .before .if1 .left) in
-    let most = seats-most (c .before .before .before .before .before .before .before .before .args .n) (sym (c .before .before .before .before .before .before .before .seats-outside .ensures) ∙ c .before .before .before .before .before .before .if1 .left) in
-    omega arith
+card-twice-requires c κs = let s0 = c .before .before .before .before .before .before in let a = s0 .before .before .args in
+    let tens : length a.state.cards ≡ 10 = search needs in let nineteen : length a.state.history ≡ 19 = search needs in
+    let least = seats-least a.n (sym s0.before.seats-outside.ensures ∙ s0.if1.left) in
+    let most = seats-most a.n (sym s0.before.seats-outside.ensures ∙ s0.if1.left) in omega arith
 
 returns-4 : tie.Need-returns-4
-returns-4 c = rw ((sym (c .before .before .before .before .before .before .before .before .before .seats-outside .ensures) ∙ c .before .before .before .before .before .before .before .before .if1 .left), eq-eqb _ _ (c .before .before .before .before .before .before .before .if2 .left), sym (c .before .before .before .before .card-outside .ensures) ∙ c .before .before .before .if3 .left, sym (c .before .card-twice .ensures) ∙ c .if4 .taken)
+returns-4 c = let s1 = c .before .before .before in let s0 = s1 .before .before .before .before in rw (
+  (sym s0.before.before.seats-outside.ensures ∙ s0.before.if1.left),
+  eq-eqb _ _ s0.if2.left,
+  sym s1.before.card-outside.ensures ∙ s1.if3.left,
+  sym c.before.card-twice.ensures ∙ c.if4.taken,
+)
 
 mul-if5 : tie.Need-mul-if5
-mul-if5 c =
-    let least = seats-least (c .before .before .before .before .before .before .before .before .before .before .args .n) (sym (c .before .before .before .before .before .before .before .before .before .seats-outside .ensures) ∙ c .before .before .before .before .before .before .before .before .if1 .left) in
-    let most = seats-most (c .before .before .before .before .before .before .before .before .before .before .args .n) (sym (c .before .before .before .before .before .before .before .before .before .seats-outside .ensures) ∙ c .before .before .before .before .before .before .before .before .if1 .left) in
-    omega arith
+mul-if5 c = let s1 = c .before .before .before .before .before .before .before .before in let s0 = s1 .before in
+    let least = seats-least s0.before.args.n (sym s0.seats-outside.ensures ∙ s1.if1.left) in
+    let most = seats-most s0.before.args.n (sym s0.seats-outside.ensures ∙ s1.if1.left) in omega arith
 
 sub-if5 : tie.Need-sub-if5
-sub-if5 c =
-    let least = seats-least (c .before .before .before .before .before .before .before .before .before .before .args .n) (sym (c .before .before .before .before .before .before .before .before .before .seats-outside .ensures) ∙ c .before .before .before .before .before .before .before .before .if1 .left) in
-    let most = seats-most (c .before .before .before .before .before .before .before .before .before .before .args .n) (sym (c .before .before .before .before .before .before .before .before .before .seats-outside .ensures) ∙ c .before .before .before .before .before .before .before .before .if1 .left) in
-    omega arith
+sub-if5 c = let s1 = c .before .before .before .before .before .before .before .before in let s0 = s1 .before in
+    let least = seats-least s0.before.args.n (sym s0.seats-outside.ensures ∙ s1.if1.left) in
+    let most = seats-most s0.before.args.n (sym s0.seats-outside.ensures ∙ s1.if1.left) in omega arith
 
 returns-5 : tie.Need-returns-5
-returns-5 c = rw ((sym (c .before .before .before .before .before .before .before .before .before .before .seats-outside .ensures) ∙ c .before .before .before .before .before .before .before .before .before .if1 .left), eq-eqb _ _ (c .before .before .before .before .before .before .before .before .if2 .left), sym (c .before .before .before .before .before .card-outside .ensures) ∙ c .before .before .before .before .if3 .left, sym (c .before .before .card-twice .ensures) ∙ c .before .if4 .left, or-left _ (lt-ltb _ _ (c .if5 .taken)))
+returns-5 c = let s1 = c .before .before .before .before in let s0 = s1 .before .before .before .before in rw (
+  (sym s0.before.before.seats-outside.ensures ∙ s0.before.if1.left),
+  eq-eqb _ _ s0.if2.left,
+  sym s1.before.card-outside.ensures ∙ s1.if3.left,
+  sym c.before.before.card-twice.ensures ∙ c.before.if4.left,
+  or-left _ (lt-ltb _ _ c.if5.taken),
+)
 
 slice-aggregate-unknown-action : tie.Need-slice-aggregate-unknown-action
 slice-aggregate-unknown-action c = search needs
 
 unknown-action-requires : tie.Need-unknown-action-requires
-unknown-action-requires c κs =
-    let tens : length (c .before .before .before .before .before .before .before .before .before .before .before .before .before .args .state .cards) ≡ 10 = search needs in
-    let nineteen : length (c .before .before .before .before .before .before .before .before .before .before .before .before .before .args .state .history) ≡ 19 = search needs in
-    let least = seats-least (c .before .before .before .before .before .before .before .before .before .before .before .before .before .args .n) (sym (c .before .before .before .before .before .before .before .before .before .before .before .before .seats-outside .ensures) ∙ c .before .before .before .before .before .before .before .before .before .before .before .if1 .left) in
-    let most = seats-most (c .before .before .before .before .before .before .before .before .before .before .before .before .before .args .n) (sym (c .before .before .before .before .before .before .before .before .before .before .before .before .seats-outside .ensures) ∙ c .before .before .before .before .before .before .before .before .before .before .before .if1 .left) in
-    omega arith
+unknown-action-requires c κs = let s0 = c .before .before .before .before .before .before .before .before .before .before .before in
+    let a = s0 .before .before .args in
+    let tens : length a.state.cards ≡ 10 = search needs in let nineteen : length a.state.history ≡ 19 = search needs in
+    let least = seats-least a.n (sym s0.before.seats-outside.ensures ∙ s0.if1.left) in
+    let most = seats-most a.n (sym s0.before.seats-outside.ensures ∙ s0.if1.left) in omega arith
 
 returns-6 : tie.Need-returns-6
-returns-6 c = rw ((sym (c .before .before .before .before .before .before .before .before .before .before .before .before .before .before .seats-outside .ensures) ∙ c .before .before .before .before .before .before .before .before .before .before .before .before .before .if1 .left), eq-eqb _ _ (c .before .before .before .before .before .before .before .before .before .before .before .before .if2 .left), sym (c .before .before .before .before .before .before .before .before .before .card-outside .ensures) ∙ c .before .before .before .before .before .before .before .before .if3 .left, sym (c .before .before .before .before .before .before .card-twice .ensures) ∙ c .before .before .before .before .before .if4 .left, or-right _ (sym (c .before .unknown-action .ensures) ∙ c .if6 .taken))
+returns-6 c = let s2 = c .before .before .before .before .before in let s1 = s2 .before .before .before in
+    let s0 = s1 .before .before .before .before in rw (
+      (sym s0.before.before.seats-outside.ensures ∙ s0.before.if1.left),
+      eq-eqb _ _ s0.if2.left,
+      sym s1.before.card-outside.ensures ∙ s1.if3.left,
+      sym s2.before.card-twice.ensures ∙ s2.if4.left,
+      or-right _ (sym c.before.unknown-action.ensures ∙ c.if6.taken),
+    )
 
 slice-aggregate-past-the-end : tie.Need-slice-aggregate-past-the-end
 slice-aggregate-past-the-end c = search needs
 
 past-the-end-requires : tie.Need-past-the-end-requires
 past-the-end-requires c κs =
-    let tens : length (c .before .before .before .before .before .before .before .before .before .before .before .before .before .before .before .before .args .state .cards) ≡ 10 = search needs in
-    let nineteen : length (c .before .before .before .before .before .before .before .before .before .before .before .before .before .before .before .before .args .state .history) ≡ 19 = search needs in
-    let least = seats-least (c .before .before .before .before .before .before .before .before .before .before .before .before .before .before .before .before .args .n) (sym (c .before .before .before .before .before .before .before .before .before .before .before .before .before .before .before .seats-outside .ensures) ∙ c .before .before .before .before .before .before .before .before .before .before .before .before .before .before .if1 .left) in
-    let most = seats-most (c .before .before .before .before .before .before .before .before .before .before .before .before .before .before .before .before .args .n) (sym (c .before .before .before .before .before .before .before .before .before .before .before .before .before .before .before .seats-outside .ensures) ∙ c .before .before .before .before .before .before .before .before .before .before .before .before .before .before .if1 .left) in
-    (omega arith, omega arith, omega arith)
+    let s0 = c .before .before .before .before .before .before .before .before .before .before .before .before .before .before in
+    let a = s0 .before .before .args in
+    let tens : length a.state.cards ≡ 10 = search needs in let nineteen : length a.state.history ≡ 19 = search needs in
+    let least = seats-least a.n (sym s0.before.seats-outside.ensures ∙ s0.if1.left) in
+    let most = seats-most a.n (sym s0.before.seats-outside.ensures ∙ s0.if1.left) in (omega arith, omega arith, omega arith)
 
 returns-7 : tie.Need-returns-7
-returns-7 c = rw ((sym (c .before .before .before .before .before .before .before .before .before .before .before .before .before .before .before .before .before .seats-outside .ensures) ∙ c .before .before .before .before .before .before .before .before .before .before .before .before .before .before .before .before .if1 .left), eq-eqb _ _ (c .before .before .before .before .before .before .before .before .before .before .before .before .before .before .before .if2 .left), sym (c .before .before .before .before .before .before .before .before .before .before .before .before .card-outside .ensures) ∙ c .before .before .before .before .before .before .before .before .before .before .before .if3 .left, sym (c .before .before .before .before .before .before .before .before .before .card-twice .ensures) ∙ c .before .before .before .before .before .before .before .before .if4 .left, neither (le-ltb _ _ (c .before .before .before .before .before .before .before .if5 .left)) (sym (c .before .before .before .before .unknown-action .ensures) ∙ c .before .before .before .if6 .left), sym (c .before .past-the-end .ensures) ∙ c .if7 .taken)
+returns-7 c = let s3 = c .before .before .before in let s2 = s3 .before .before .before .before in let s1 = s2 .before .before .before .before in
+    let s0 = s1 .before .before .before .before in rw (
+      (sym s0.before.before.seats-outside.ensures ∙ s0.before.if1.left),
+      eq-eqb _ _ s0.if2.left,
+      sym s1.before.card-outside.ensures ∙ s1.if3.left,
+      sym s2.before.before.card-twice.ensures ∙ s2.before.if4.left,
+      neither (le-ltb _ _ s2.if5.left) (sym s3.before.unknown-action.ensures ∙ s3.if6.left),
+      sym c.before.past-the-end.ensures ∙ c.if7.taken,
+    )
 
 returns-8 : tie.Need-returns-8
-returns-8 c = rw ((sym (c .before .before .before .before .before .before .before .before .before .before .before .before .before .before .before .before .before .seats-outside .ensures) ∙ c .before .before .before .before .before .before .before .before .before .before .before .before .before .before .before .before .if1 .left), eq-eqb _ _ (c .before .before .before .before .before .before .before .before .before .before .before .before .before .before .before .if2 .left), sym (c .before .before .before .before .before .before .before .before .before .before .before .before .card-outside .ensures) ∙ c .before .before .before .before .before .before .before .before .before .before .before .if3 .left, sym (c .before .before .before .before .before .before .before .before .before .card-twice .ensures) ∙ c .before .before .before .before .before .before .before .before .if4 .left, neither (le-ltb _ _ (c .before .before .before .before .before .before .before .if5 .left)) (sym (c .before .before .before .before .unknown-action .ensures) ∙ c .before .before .before .if6 .left), sym (c .before .past-the-end .ensures) ∙ c .if7 .left)
+returns-8 c = let s3 = c .before .before .before in let s2 = s3 .before .before .before .before in let s1 = s2 .before .before .before .before in
+    let s0 = s1 .before .before .before .before in rw (
+      (sym s0.before.before.seats-outside.ensures ∙ s0.before.if1.left),
+      eq-eqb _ _ s0.if2.left,
+      sym s1.before.card-outside.ensures ∙ s1.if3.left,
+      sym s2.before.before.card-twice.ensures ∙ s2.before.if4.left,
+      neither (le-ltb _ _ s2.if5.left) (sym s3.before.unknown-action.ensures ∙ s3.if6.left),
+      sym c.before.past-the-end.ensures ∙ c.if7.left,
+    )
 
 pub saved-refusal-spec : {M : Type 1} → statement M
 saved-refusal-spec =
-    tie.close
-    (tie.spec
-    seats-outside-requires
-    returns
-    returns-2
-    slice-aggregate-card-outside
-    card-outside-requires
-    returns-3
-    slice-aggregate-card-twice
-    card-twice-requires
-    returns-4
-    mul-if5
-    sub-if5
-    returns-5
-    slice-aggregate-unknown-action
-    unknown-action-requires
-    returns-6
-    slice-aggregate-past-the-end
-    past-the-end-requires
-    returns-7
-    returns-8)
+    tie.close (tie.spec seats-outside-requires returns returns-2 slice-aggregate-card-outside card-outside-requires returns-3
+    slice-aggregate-card-twice card-twice-requires returns-4 mul-if5 sub-if5 returns-5 slice-aggregate-unknown-action unknown-action-requires
+    returns-6 slice-aggregate-past-the-end past-the-end-requires returns-7 returns-8)

@@ -17,24 +17,26 @@ is-reachable-requires : tie.Need-is-reachable-requires
 is-reachable-requires c κs = search needs
 
 returns : tie.Need-returns
-returns c = rw (deal-unreachable (c .before .before .args .state) (c .before .before .args .outcome) (sym (c .before .is-reachable .ensures) ∙ not-true _ (c .if1 .taken)))
+returns c = rw (deal-unreachable c.before.before.args.state c.before.before.args.outcome (sym c.before.is-reachable.ensures ∙ not-true _ c.if1.taken))
 
 card-due-requires : tie.Need-card-due-requires
-card-due-requires c κs =
-    let w = reachable-short (c .before .before .args .state) (sym (c .before .is-reachable .ensures) ∙ not-false _ (c .if1 .left)) in
-    (w .dealt-short, w .first-short, w .second-short)
+card-due-requires c κs = let w = reachable-short c.before.before.args.state (sym c.before.is-reachable.ensures ∙ not-false _ c.if1.left) in
+    (w.dealt-short, w.first-short, w.second-short)
 
 returns-2 : tie.Need-returns-2
-returns-2 c = let s0 = c .before .before .before .before in rw (deal-idle (s0 .args .state) (sym (c .before .before .before .is-reachable .ensures) ∙ not-false _ (c .before .before .if1 .left)) (s0 .args .outcome) (sym (c .before .card-due .ensures) ∙ not-true _ (c .if2 .taken)))
+returns-2 c = let s0 = c .before .before in
+    rw (deal-idle s0.before.before.args.state (sym s0.before.is-reachable.ensures ∙ not-false _ s0.if1.left) s0.before.before.args.outcome
+    (sym c.before.card-due.ensures ∙ not-true _ c.if2.taken))
 
 next-card-requires : tie.Need-next-card-requires
-next-card-requires c κs = reachable-short (c .before .before .before .before .args .state) (sym (c .before .before .before .is-reachable .ensures) ∙ not-false _ (c .before .before .if1 .left)) .dealt-short
+next-card-requires c κs = let s0 = c .before .before in
+    reachable-short s0.before.before.args.state (sym s0.before.is-reachable.ensures ∙ not-false _ s0.if1.left) .dealt-short
 
 returns-3 : tie.Need-returns-3
-returns-3 c =
-    rw
-    (deal-past (c .before .before .before .before .before .before .args .state) (sym (c .before .before .before .before .before .is-reachable .ensures) ∙ not-false _ (c .before .before .before .before .if1 .left)) (c .before .before .before .before .before .before .args .outcome) (sym (c .before .before .before .card-due .ensures) ∙ not-false _ (c .before .before .if2 .left))
-    (outcome-fits (c .before .before .before .before .before .before .args .state) (c .before .before .before .before .before .before .args .outcome) ∙ le-ltb (getD (remaining (seenOf (c .before .before .before .before .before .before .args .state))) (c .before .before .before .before .before .before .args .outcome) 6) 6 (omega (arith, c .before .next-card .ensures))))
+returns-3 c = let s1 = c .before .before in let s0 = s1 .before .before in let a = s0 .before .before .args in
+    rw (deal-past
+    a.state (sym s0.before.is-reachable.ensures ∙ not-false _ s0.if1.left) a.outcome (sym s1.before.card-due.ensures ∙ not-false _ s1.if2.left)
+    (outcome-fits a.state a.outcome ∙ le-ltb (getD (remaining (seenOf a.state)) a.outcome 6) 6 (omega (arith, c.before.next-card.ensures))))
 
 cast-with-card : tie.Need-cast-with-card
 cast-with-card c = search needs
@@ -43,23 +45,14 @@ with-card-requires : tie.Need-with-card-requires
 with-card-requires c κs = search needs
 
 returns-4 : tie.Need-returns-4
-returns-4 c =
-    let low : getD (remaining (seenOf (c .before .before .before .before .before .before .before .args .state))) (c .before .before .before .before .before .before .before .args .outcome) 6 < 6 = omega (arith, c .before .before .next-card .ensures) in
-    rw
-    (deal-accepted (c .before .before .before .before .before .before .before .args .state) (sym (c .before .before .before .before .before .before .is-reachable .ensures) ∙ not-false _ (c .before .before .before .before .before .if1 .left)) (c .before .before .before .before .before .before .before .args .outcome) (sym (c .before .before .before .before .card-due .ensures) ∙ not-false _ (c .before .before .before .if2 .left))
-    (outcome-fits (c .before .before .before .before .before .before .before .args .state) (c .before .before .before .before .before .before .before .args .outcome) ∙ lt-ltb (getD (remaining (seenOf (c .before .before .before .before .before .before .before .args .state))) (c .before .before .before .before .before .before .before .args .outcome) 6) 6 low))
-    (ap (λ t. record { refusal = 0; state = t }) (c .with-card .ensures ∙ ap (with-card (c .before .before .before .before .before .before .before .args .state)) (ap (λ x. x % 256) (c .before .before .next-card .ensures) ∙ outcome-card (c .before .before .before .before .before .before .before .args .state) (c .before .before .before .before .before .before .before .args .outcome) low)))
+returns-4 c = let s1 = c .before .before in let s0 = s1 .before .before in let a = s0 .before .before .before .args in
+    let low : getD (remaining (seenOf a.state)) a.outcome 6 < 6 = omega (arith, s1.next-card.ensures) in
+    rw (deal-accepted a.state (sym s0.before.before.is-reachable.ensures ∙ not-false _ s0.before.if1.left) a.outcome (sym s0.card-due.ensures ∙
+    not-false _ s1.before.if2.left) (outcome-fits a.state a.outcome ∙ lt-ltb (getD (remaining (seenOf a.state)) a.outcome 6) 6 low))
+    (ap (λ t. record { refusal = 0; state = t })
+    (c.with-card.ensures ∙ ap (with-card a.state) (ap (λ x. x % 256) s1.next-card.ensures ∙ outcome-card a.state a.outcome low)))
 
 pub apply-chance-node-spec : {M : Type 1} → statement M
 apply-chance-node-spec =
-    tie.close
-    (tie.spec
-    is-reachable-requires
-    returns
-    card-due-requires
-    returns-2
-    next-card-requires
-    returns-3
-    cast-with-card
-    with-card-requires
+    tie.close (tie.spec is-reachable-requires returns card-due-requires returns-2 next-card-requires returns-3 cast-with-card with-card-requires
     returns-4)

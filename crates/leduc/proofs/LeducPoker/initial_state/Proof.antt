@@ -8,7 +8,7 @@ new-requires : tie.Need-new-requires
 new-requires c κs = search needs
 
 returns : tie.Need-returns
-returns c = ap (λ s. record { refusal = 0; state = s }) (c .new .ensures)
+returns c = ap (λ s. record { refusal = 0; state = s }) c.new.ensures
 
 pub initial-state-spec : {M : Type 1} → statement M
 initial-state-spec = tie.close (tie.spec new-requires returns)

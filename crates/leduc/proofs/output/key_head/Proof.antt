@@ -26,14 +26,12 @@ cast-t12 : tie.Need-cast-t12
 cast-t12 c = search needs
 
 returns : tie.Need-returns
-returns c =
-    let seat : c .before .before .before .before .args .agent % 256 ≡ c .before .before .before .before .args .agent = omega arith in
-    let acted : c .before .before .before .before .args .state .acted1 % 256 ≡ c .before .before .before .before .args .state .acted1 = omega arith in
-    let card : c .before .before .shown .result ≡ getD (cardsOf (c .before .before .before .before .args .state)) (c .before .before .before .before .args .agent) 0 = c .before .before .shown .ensures ∙ sym (getD-take (c .before .before .before .before .args .state .dealt) (c .before .before .before .before .args .state .cards) (c .before .before .before .before .args .agent) 0 (search needs)) in
-    ap₂ (λ x y. x ∷ y ∷ c .before .public-shown .result ∷ c .before .before .before .before .args .state .acted1 % 256 ∷ []) seat card
-    ∙ ap₂ (λ x y. c .before .before .before .before .args .agent ∷ getD (cardsOf (c .before .before .before .before .args .state)) (c .before .before .before .before .args .agent) 0 ∷ x ∷ y ∷ []) (c .before .public-shown .ensures) acted
+returns c = let s0 = c .before .before in let a = s0 .before .before .args in
+    let seat : a.agent % 256 ≡ a.agent = omega arith in let acted : a.state.acted1 % 256 ≡ a.state.acted1 = omega arith in
+    let card : s0.shown.result ≡ getD (cardsOf a.state) a.agent 0 = s0.shown.ensures ∙
+    sym (getD-take a.state.dealt a.state.cards a.agent 0 (search needs)) in
+    ap₂ (λ x y. x ∷ y ∷ c.before.public-shown.result ∷ a.state.acted1 % 256 ∷ []) seat card ∙ ap₂
+    (λ x y. a.agent ∷ getD (cardsOf a.state) a.agent 0 ∷ x ∷ y ∷ []) c.before.public-shown.ensures acted
 
 pub key-head-spec : {M : Type 1} → statement M
-key-head-spec =
-    tie.close
-    (tie.spec array-read-shown shown-requires public-shown-requires cast-t9 cast-t12 returns)
+key-head-spec = tie.close (tie.spec array-read-shown shown-requires public-shown-requires cast-t9 cast-t12 returns)

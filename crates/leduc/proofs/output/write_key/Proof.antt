@@ -29,10 +29,12 @@ write-at-requires : tie.Need-write-at-requires
 write-at-requires c κs = search needs
 
 slice-aggregate-write-at-2 : tie.Need-slice-aggregate-write-at-2
-slice-aggregate-write-at-2 c = front-length (c .before .before .before .before .before .before .before .before .before .before .before .args .state .history) _ 8 (search needs) (omega arith)
+slice-aggregate-write-at-2 c = front-length c.before.before.before.before.before.before.before.before.before.before.before.args.state.history _ 8
+    (search needs) (omega arith)
 
 write-at-requires-2 : tie.Need-write-at-requires-2
-write-at-requires-2 c κs = omega (arith, front-length (c .before .before .before .before .before .before .before .before .before .before .before .args .state .history) (c .before .before .before .before .before .before .before .before .before .before .before .args .state .acted1) 8 (search needs) (omega arith))
+write-at-requires-2 c κs = let s0 = c .before .before .before .before .before .before .before .before .before .before .before in
+    omega (arith, front-length s0.args.state.history s0.args.state.acted1 8 (search needs) (omega arith))
 
 add-write-at : tie.Need-add-write-at
 add-write-at c = search needs
@@ -57,8 +59,9 @@ part-write-at-start c = search needs
 
 part-write-at-end : tie.Need-part-write-at-end
 part-write-at-end c =
-    let len : length (c .before .before .before .before .before .before .before .before .before .before .before .before .before .before .before .before .before .before .before .before .args .state .history) ≡ 8 = search needs in
-    omega arith
+    let len : length
+    c.before.before.before.before.before.before.before.before.before.before.before.before.before.before.before.before.before.before.before.before.args.state.history
+    ≡ 8 = search needs in omega arith
 
 write-at-requires-4 : tie.Need-write-at-requires-4
 write-at-requires-4 c κs = search needs
@@ -67,39 +70,23 @@ same-length : tie.Need-same-length
 same-length c = search needs
 
 returns : tie.Need-returns
-returns c =
-    let len : length (c .before .before .before .before .before .before .before .before .before .before .before .before .before .before .before .before .before .before .before .before .before .before .before .before .args .state .history) ≡ 8 = search (needs, c .before .before .before .before .before .before .before .before .before .before .before .before .before .before .before .before .before .before .before .before .before .before .before .before .good .0 .1 .1 .1 .1 .1 .0 .1 .0 .1) in
-    let one : length (roundOne (c .before .before .before .before .before .before .before .before .before .before .before .before .before .before .before .before .before .before .before .before .before .before .before .before .args .state)) ≡ c .before .before .before .before .before .before .before .before .before .before .before .before .before .before .before .before .before .before .before .before .before .before .before .before .args .state .acted1 = sym (front-length (c .before .before .before .before .before .before .before .before .before .before .before .before .before .before .before .before .before .before .before .before .before .before .before .before .args .state .history) (c .before .before .before .before .before .before .before .before .before .before .before .before .before .before .before .before .before .before .before .before .before .before .before .before .args .state .acted1) 8 len (omega arith)) in
-    let two : length (roundTwo (c .before .before .before .before .before .before .before .before .before .before .before .before .before .before .before .before .before .before .before .before .before .before .before .before .args .state)) ≡ c .before .before .before .before .before .before .before .before .before .before .before .before .before .before .before .before .before .before .before .before .before .before .before .before .args .state .acted2 = second-length (c .before .before .before .before .before .before .before .before .before .before .before .before .before .before .before .before .before .before .before .before .before .before .before .before .args .state .history) (c .before .before .before .before .before .before .before .before .before .before .before .before .before .before .before .before .before .before .before .before .before .before .before .before .args .state .acted2) len (omega arith) in
-    let h = ap length (c .before .before .before .before .before .before .before .before .before .before .before .before .before .before .before .before .before .before .before .before .key-head .ensures) in
-    let ab = length-append (c .before .before .before .before .before .before .before .before .before .before .before .before .before .before .before .before .before .before .before .before .key-head .result) (roundOne (c .before .before .before .before .before .before .before .before .before .before .before .before .before .before .before .before .before .before .before .before .before .before .before .before .args .state)) in
-    let abc = length-append (c .before .before .before .before .before .before .before .before .before .before .before .before .before .before .before .before .before .before .before .before .key-head .result ++ roundOne (c .before .before .before .before .before .before .before .before .before .before .before .before .before .before .before .before .before .before .before .before .before .before .before .before .args .state)) (c .before .before .before .before .before .before .before .before .before .before .before .before .before .before .before .before .before .before .before .before .before .before .before .before .args .state .acted2 % 256 ∷ []) in
-    let mid : c .before .before .before .before .before .before .before .before .before .before .before .before .before .before .before .before .before .before .before .before .before .before .before .before .args .state .acted2 % 256 ≡ c .before .before .before .before .before .before .before .before .before .before .before .before .before .before .before .before .before .before .before .before .before .before .before .before .args .state .acted2 = omega arith in
-    write-four (c .before .before .before .before .before .before .before .before .before .before .before .before .before .before .before .before .before .before .before .before .key-head .result) (roundOne (c .before .before .before .before .before .before .before .before .before .before .before .before .before .before .before .before .before .before .before .before .before .before .before .before .args .state)) (c .before .before .before .before .before .before .before .before .before .before .before .before .before .before .before .before .before .before .before .before .before .before .before .before .args .state .acted2 % 256 ∷ []) (take (4 + c .before .before .before .before .before .before .before .before .before .before .before .before .before .before .before .before .before .before .before .before .before .before .before .before .args .state .acted2 - 4) (drop 4 (c .before .before .before .before .before .before .before .before .before .before .before .before .before .before .before .before .before .before .before .before .before .before .before .before .args .state .history))) (c .before .before .before .before .before .before .before .before .before .before .before .before .before .before .before .before .before .before .before .before .before .before .before .before .args .out .now) _ _ _ _ 4 (4 + c .before .before .before .before .before .before .before .before .before .before .before .before .before .before .before .before .before .before .before .before .before .before .before .before .args .state .acted1) (5 + c .before .before .before .before .before .before .before .before .before .before .before .before .before .before .before .before .before .before .before .before .before .before .before .before .args .state .acted1) h (omega arith) (omega arith) (c .before .before .before .before .before .before .before .before .before .before .before .before .before .before .before .before .before .write-at .ensures) (c .before .before .before .before .before .before .before .before .before .before .before .before .write-at2 .ensures) (c .before .before .before .before .before .before .before .write-at3 .ensures) (c .before .before .write-at4 .ensures)
-    ∙ ap (λ l. at-front l (c .before .before .before .before .before .before .before .before .before .before .before .before .before .before .before .before .before .before .before .before .before .before .before .before .args .out .now))
-    (ap₂ (λ x y. x ++ roundOne (c .before .before .before .before .before .before .before .before .before .before .before .before .before .before .before .before .before .before .before .before .before .before .before .before .args .state) ++ (y ∷ []) ++ take (4 + c .before .before .before .before .before .before .before .before .before .before .before .before .before .before .before .before .before .before .before .before .before .before .before .before .args .state .acted2 - 4) (drop 4 (c .before .before .before .before .before .before .before .before .before .before .before .before .before .before .before .before .before .before .before .before .before .before .before .before .args .state .history))) (c .before .before .before .before .before .before .before .before .before .before .before .before .before .before .before .before .before .before .before .before .key-head .ensures) mid
-    ∙ ap (λ d. head-of (c .before .before .before .before .before .before .before .before .before .before .before .before .before .before .before .before .before .before .before .before .before .before .before .before .args .state) (c .before .before .before .before .before .before .before .before .before .before .before .before .before .before .before .before .before .before .before .before .before .before .before .before .args .agent) one two ++ roundOne (c .before .before .before .before .before .before .before .before .before .before .before .before .before .before .before .before .before .before .before .before .before .before .before .before .args .state) ++ (c .before .before .before .before .before .before .before .before .before .before .before .before .before .before .before .before .before .before .before .before .before .before .before .before .args .state .acted2 ∷ []) ++ d) (second-part (c .before .before .before .before .before .before .before .before .before .before .before .before .before .before .before .before .before .before .before .before .before .before .before .before .args .state .acted2) (c .before .before .before .before .before .before .before .before .before .before .before .before .before .before .before .before .before .before .before .before .before .before .before .before .args .state .history))
-    ∙ key-parts (c .before .before .before .before .before .before .before .before .before .before .before .before .before .before .before .before .before .before .before .before .before .before .before .before .args .state) (c .before .before .before .before .before .before .before .before .before .before .before .before .before .before .before .before .before .before .before .before .before .before .before .before .args .agent) one two)
+returns c = let s4 = c .before .before .before .before .before .before .before in let s3 = s4 .before .before .before .before .before in
+    let s2 = s3 .before .before .before .before .before in let s1 = s2 .before .before .before in let s0 = s1 .before .before .before .before in
+    let a = s0 .args in
+    let len : length a.state.history ≡ 8 = search (needs, s0.good.0.1.1.1.1.1.0.1.0.1) in
+    let one : length (roundOne a.state) ≡ a.state.acted1 = sym (front-length a.state.history a.state.acted1 8 len (omega arith)) in
+    let two : length (roundTwo a.state) ≡ a.state.acted2 = second-length a.state.history a.state.acted2 len (omega arith) in
+    let h = ap length s1.key-head.ensures in let ab = length-append s1.key-head.result (roundOne a.state) in
+    let abc = length-append (s1.key-head.result ++ roundOne a.state) (a.state.acted2 % 256 ∷ []) in
+    let mid : a.state.acted2 % 256 ≡ a.state.acted2 = omega arith in
+    write-four s1.key-head.result (roundOne a.state) (a.state.acted2 % 256 ∷ []) (take (4 + a.state.acted2 - 4) (drop 4 a.state.history)) a.out.now
+    _ _ _ _ 4 (4 + a.state.acted1) (5 + a.state.acted1) h (omega arith) (omega arith) s2.write-at.ensures s3.write-at2.ensures s4.write-at3.ensures
+    c.before.before.write-at4.ensures ∙ ap (λ l. at-front l a.out.now) (ap₂ (λ x y. x ++ roundOne a.state ++ (y ∷ []) ++ take (4 + a.state.acted2 - 4)
+    (drop 4 a.state.history)) s1.key-head.ensures mid ∙ ap (λ d. head-of a.state a.agent one two ++ roundOne a.state ++ (a.state.acted2 ∷ []) ++ d)
+    (second-part a.state.acted2 a.state.history) ∙ key-parts a.state a.agent one two)
 
 pub write-key-spec : {M : Type 1} → statement M
 write-key-spec =
-    tie.close
-    (tie.spec
-    slice-aggregate-all
-    key-head-requires
-    cast-t13
-    slice-aggregate-write-at
-    write-at-requires
-    slice-aggregate-write-at-2
-    write-at-requires-2
-    add-write-at
-    slice-aggregate-write-at-3
-    write-at-requires-3
-    add-write-at-2
-    add-write-at-3
-    sub-write-at
-    part-write-at-start
-    part-write-at-end
-    write-at-requires-4
-    same-length
-    returns)
+    tie.close (tie.spec slice-aggregate-all key-head-requires cast-t13 slice-aggregate-write-at write-at-requires slice-aggregate-write-at-2
+    write-at-requires-2 add-write-at slice-aggregate-write-at-3 write-at-requires-3 add-write-at-2 add-write-at-3 sub-write-at part-write-at-start
+    part-write-at-end write-at-requires-4 same-length returns)

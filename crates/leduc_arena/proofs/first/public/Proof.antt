@@ -18,38 +18,48 @@ abbrev μ-loop : tie.MeasureT-loop
 μ-loop w₀ at c d n paid next₀ p₀ w next p = 6 - p
 
 add-next : tie.Need-add-next Inv-loop μ-loop
-add-next c = place-fits (c .before .pre .1)
+add-next c = place-fits c.before.pre.1
 
 loop-holds : tie.Need-loop-holds Inv-loop μ-loop
 loop-holds c = (row-start _ _ _ _, omega arith)
 
 shown-requires : tie.Need-shown-requires Inv-loop μ-loop
 unfolding publicTree size
-shown-requires c κs = let s0 = c .before .before .before .before in ((s0 .pre .0 .0, s0 .pre .0 .1, s0 .pre .0 .2, s0 .pre .0 .3, c .before .loop-test .taken), child-room _ _ _ _ _ _ _ (c .before .before .loop .inv .0) (first-room (s0 .pre .1) _ (NatL.le-refl _)) (c .before .loop-test .taken))
+shown-requires c κs = let s1 = c .before in let s0 = s1 .before .before .before in (
+  (s0.pre.0.0, s0.pre.0.1, s0.pre.0.2, s0.pre.0.3, s1.loop-test.taken),
+  child-room _ _ _ _ _ _ _ s1.before.loop.inv.0 (first-room s0.pre.1 _ (NatL.le-refl _)) s1.loop-test.taken,
+)
 
 add-p : tie.Need-add-p Inv-loop μ-loop
-add-p c = omega (arith, c .before .before .before .before .loop-test .taken)
+add-p c = omega (arith, c.before.before.before.before.loop-test.taken)
 
 loop-less : tie.Need-loop-less Inv-loop μ-loop
-loop-less c = omega (arith, c .before .before .before .before .loop-test .taken)
+loop-less c = omega (arith, c.before.before.before.before.loop-test.taken)
 
 loop-again : tie.Need-loop-again Inv-loop μ-loop
-loop-again c = (row-on _ _ _ _ _ _ _ (c .before .before .before .before .before .loop .inv .0) _ _ (c .before .before .shown .ensures), omega (arith, c .before .before .before .before .loop-test .taken))
+loop-again c = let s0 = c .before .before in
+    (row-on _ _ _ _ _ _ _ s0.before.before.before.loop.inv.0 _ _ s0.shown.ensures, omega (arith, s0.before.before.loop-test.taken))
 
 chance-requires : tie.Need-chance-requires Inv-loop μ-loop
 unfolding publicTree size
-chance-requires c κs = row-fits (c .before .before .before .before .pre .1) (row-done _ _ _ _ _ _ _ (c .before .before .loop .inv .0) (c .before .before .loop .inv .1) (c .before .loop-test .left)) refl .0
+chance-requires c κs = let s0 = c .before .before in
+    row-fits s0.before.before.pre.1 (row-done _ _ _ _ _ _ _ s0.loop.inv.0 s0.loop.inv.1 c.before.loop-test.left) refl .0
 
 write-requires : tie.Need-write-requires Inv-loop μ-loop
 unfolding publicTree size
-write-requires c κs = let s0 = c .before .before .before in row-fits (c .before .before .before .before .before .pre .1) (row-done _ _ _ _ _ _ _ (s0 .loop .inv .0) (s0 .loop .inv .1) (c .before .before .loop-test .left)) refl .1
+write-requires c κs = let s0 = c .before .before .before in
+    row-fits s0.before.before.pre.1 (row-done _ _ _ _ _ _ _ s0.loop.inv.0 s0.loop.inv.1 c.before.before.loop-test.left) refl .1
 
 same-length : tie.Need-same-length Inv-loop μ-loop
 same-length c = search needs
 
 returns : tie.Need-returns Inv-loop μ-loop
 unfolding publicTree size
-returns c = let s0 = c .before .before .before .before .before .before in lays-chance (c .before .before .before .before .before .before .before .before .pre .1) (row-done _ _ _ _ _ _ _ (s0 .loop .inv .0) (s0 .loop .inv .1) (c .before .before .before .before .before .loop-test .left)) refl (c .before .before .before .chance .ensures) (c .before .before .write .ensures)
+returns c = let s1 = c .before .before in let s0 = s1 .before .before .before in
+    lays-chance s0.before.before.before.pre.1 (row-done _ _ _ _ _ _ _ s0.before.loop.inv.0 s0.before.loop.inv.1 s0.loop-test.left) refl
+    s1.before.chance.ensures s1.write.ensures
 
 pub public-spec : {M : Type 1} → statement M
-public-spec = tie.close (tie.spec Inv-loop μ-loop add-next loop-holds shown-requires add-p loop-less loop-again chance-requires write-requires same-length returns)
+public-spec =
+    tie.close (tie.spec Inv-loop μ-loop add-next loop-holds shown-requires add-p loop-less loop-again chance-requires write-requires same-length
+    returns)

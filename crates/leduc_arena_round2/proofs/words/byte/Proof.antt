@@ -12,18 +12,18 @@ sub-result c = search needs
 
 returns : tie.Need-returns
 unfolding byteFor
-returns c = rw (eq-eqb _ 0 (c .if1 .taken)) (refl, omega arith)
+returns c = rw (eq-eqb _ 0 c.if1.taken) (refl, omega arith)
 
 returns-2 : tie.Need-returns-2
 unfolding byteFor
-returns-2 c = rw (ne-eqb _ 0 (c .before .if1 .left), eq-eqb _ 1 (c .if2 .taken)) (refl, omega arith)
+returns-2 c = rw (ne-eqb _ 0 c.before.if1.left, eq-eqb _ 1 c.if2.taken) (refl, omega arith)
 
 add-result : tie.Need-add-result
 add-result c = search needs
 
 returns-3 : tie.Need-returns-3
 unfolding byteFor
-returns-3 c = rw (ne-eqb _ 0 (c .before .if1 .left), ne-eqb _ 1 (c .if2 .left)) (refl, omega arith)
+returns-3 c = rw (ne-eqb _ 0 c.before.if1.left, ne-eqb _ 1 c.if2.left) (refl, omega arith)
 
 pub byte-spec : {M : Type 1} → statement M
 byte-spec = tie.close (tie.spec sub-result returns returns-2 add-result returns-3)

@@ -30,14 +30,16 @@ unfolding endTree size
 write-requires c κs = search needs
 
 add-result : tie.Need-add-result
-add-result c = place-fits (c .before .before .before .before .before .before .before .pre .2)
+add-result c = place-fits c.before.before.before.before.before.before.before.pre.2
 
 same-length : tie.Need-same-length
 same-length c = search needs
 
 returns : tie.Need-returns
 unfolding endTree size
-returns c = let s0 = c .before .before .before .before in let s1 = c .before .before .before in lays-end _ _ _ _ _ _ _ (c .before .before .before .before .before .before .before .pre .2) (s0 .byte .ensures .0) (s0 .byte .ensures .1) (s1 .byte2 .ensures .0) (s1 .byte2 .ensures .1) (c .before .before .write .ensures)
+returns c = let s0 = c .before .before .before in
+    lays-end _ _ _ _ _ _ _ s0.before.before.before.before.pre.2 s0.before.byte.ensures.0 s0.before.byte.ensures.1 s0.byte2.ensures.0
+    s0.byte2.ensures.1 c.before.before.write.ensures
 
 pub end-spec : {M : Type 1} → statement M
 end-spec = tie.close (tie.spec byte-requires mul-write sub-byte byte-requires-2 mul-write-2 add-write write-requires add-result same-length returns)

@@ -9,20 +9,23 @@ use Rattle.leduc_positions.proofs.saved.saved_refusal.Statement.{statem
 use Rattle.leduc_positions.proofs.saved.saved_refusal.Tie as tie
 
 returns : tie.Need-returns
-returns c = cards-missing _ (c .if1 .taken)
+returns c = cards-missing _ c.if1.taken
 
 cards-refusal-requires : tie.Need-cards-refusal-requires
 cards-refusal-requires c κs = search needs
 
 returns-2 : tie.Need-returns-2
-returns-2 c = let s0 = c .before .before .before .before .before in c .before .cards-refusal .ensures ∙ sym (cards-there (s0 .args .state) (c .before .before .before .if1 .left) ∙ cards-stop (seen (take 2 (s0 .args .state .cards)) (s0 .args .state .public)) (rounds-checks (s0 .args .state)) (λ e. c .if2 .taken (c .before .cards-refusal .ensures ∙ e)))
+returns-2 c = let a = c .before .before .before .before .before .args in
+    c.before.cards-refusal.ensures ∙ sym (cards-there a.state c.before.before.before.if1.left ∙ cards-stop
+    (seen (take 2 a.state.cards) a.state.public) (rounds-checks a.state) (λ e. c.if2.taken (c.before.cards-refusal.ensures ∙ e)))
 
 rounds-refusal-requires : tie.Need-rounds-refusal-requires
 rounds-refusal-requires c κs = search needs
 
 returns-3 : tie.Need-returns-3
-returns-3 c = let s0 = c .before .before .before .before .before .before in c .rounds-refusal .ensures ∙ sym (cards-there (s0 .args .state) (c .before .before .before .before .if1 .left) ∙ cards-pass (seen (take 2 (s0 .args .state .cards)) (s0 .args .state .public)) (rounds-checks (s0 .args .state)) (sym (c .before .before .cards-refusal .ensures) ∙ c .before .if2 .left))
+returns-3 c = let s0 = c .before .before in let a = s0 .before .before .before .before .args in
+    c.rounds-refusal.ensures ∙ sym (cards-there a.state s0.before.before.if1.left ∙ cards-pass (seen (take 2 a.state.cards) a.state.public)
+    (rounds-checks a.state) (sym s0.cards-refusal.ensures ∙ c.before.if2.left))
 
 pub saved-refusal-spec : {M : Type 1} → statement M
-saved-refusal-spec =
-    tie.close (tie.spec returns cards-refusal-requires returns-2 rounds-refusal-requires returns-3)
+saved-refusal-spec = tie.close (tie.spec returns cards-refusal-requires returns-2 rounds-refusal-requires returns-3)

@@ -8,10 +8,10 @@ hand-over-requires : tie.Need-hand-over-requires
 hand-over-requires c κs = search needs
 
 returns : tie.Need-returns
-returns c = rw (sym (c .before .hand-over .ensures) ∙ c .if1 .taken)
+returns c = rw (sym c.before.hand-over.ensures ∙ c.if1.taken)
 
 returns-2 : tie.Need-returns-2
-returns-2 c = rw (sym (c .before .hand-over .ensures) ∙ c .if1 .left)
+returns-2 c = rw (sym c.before.hand-over.ensures ∙ c.if1.left)
 
 pub end-mark-spec : {M : Type 1} → statement M
 end-mark-spec = tie.close (tie.spec hand-over-requires returns returns-2)

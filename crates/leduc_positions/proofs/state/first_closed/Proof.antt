@@ -8,12 +8,10 @@ use Rattle.leduc_positions.proofs.state.first_closed.Statement.{stateme
 use Rattle.leduc_positions.proofs.state.first_closed.Tie as tie
 
 array-share-prefix-history : tie.Need-array-share-prefix-history
-array-share-prefix-history c =
-    let len : length (c .before .args .state .history) ≡ 8 = search needs in
-    omega arith
+array-share-prefix-history c = let len : length c.before.args.state.history ≡ 8 = search needs in omega arith
 
 slice-aggregate-round-over : tie.Need-slice-aggregate-round-over
-slice-aggregate-round-over c = front-length (c .before .before .args .state .history) _ 8 (search needs) (omega arith)
+slice-aggregate-round-over c = front-length c.before.before.args.state.history _ 8 (search needs) (omega arith)
 
 round-over-requires : tie.Need-round-over-requires
 round-over-requires c κs = search needs
@@ -22,6 +20,4 @@ returns : tie.Need-returns
 returns c = search needs
 
 pub first-closed-spec : {M : Type 1} → statement M
-first-closed-spec =
-    tie.close
-    (tie.spec array-share-prefix-history slice-aggregate-round-over round-over-requires returns)
+first-closed-spec = tie.close (tie.spec array-share-prefix-history slice-aggregate-round-over round-over-requires returns)

@@ -14,7 +14,7 @@ slice-aggregate-all : tie.Need-slice-aggregate-all
 slice-aggregate-all c = search needs
 
 slice-aggregate-is-terminal : tie.Need-slice-aggregate-is-terminal
-slice-aggregate-is-terminal c = front-length (c .before .before .before .args .state .history) _ 8 (search needs) (omega arith)
+slice-aggregate-is-terminal c = front-length c.before.before.before.args.state.history _ 8 (search needs) (omega arith)
 
 add-is-terminal : tie.Need-add-is-terminal
 add-is-terminal c = search needs
@@ -26,25 +26,16 @@ part-is-terminal-start : tie.Need-part-is-terminal-start
 part-is-terminal-start c = search needs
 
 part-is-terminal-end : tie.Need-part-is-terminal-end
-part-is-terminal-end c =
-    let len : length (c .before .before .before .args .state .history) ≡ 8 = search needs in
-    omega arith
+part-is-terminal-end c = let len : length c.before.before.before.args.state.history ≡ 8 = search needs in omega arith
 
 is-terminal-requires : tie.Need-is-terminal-requires
 is-terminal-requires c κs = search needs
 
 returns : tie.Need-returns
-returns c = let s0 = c .before .before .before .before .before in c .is-terminal .ensures ∙ ap (ended (roundOne (s0 .args .state))) (second-part (s0 .args .state .acted2) (s0 .args .state .history))
+returns c = let a = c .before .before .before .before .before .args in
+    c.is-terminal.ensures ∙ ap (ended (roundOne a.state)) (second-part a.state.acted2 a.state.history)
 
 pub hand-over-spec : {M : Type 1} → statement M
 hand-over-spec =
-    tie.close
-    (tie.spec
-    slice-aggregate-all
-    slice-aggregate-is-terminal
-    add-is-terminal
-    sub-is-terminal
-    part-is-terminal-start
-    part-is-terminal-end
-    is-terminal-requires
-    returns)
+    tie.close (tie.spec slice-aggregate-all slice-aggregate-is-terminal add-is-terminal sub-is-terminal part-is-terminal-start part-is-terminal-end
+    is-terminal-requires returns)

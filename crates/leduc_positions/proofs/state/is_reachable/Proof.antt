@@ -16,27 +16,28 @@ use Rattle.leduc_positions.proofs.state.is_reachable.Statement.{stateme
 use Rattle.leduc_positions.proofs.state.is_reachable.Tie as tie
 
 returns : tie.Need-returns
-returns c = sym (too-many-cards _ (c .if1 .taken))
+returns c = sym (too-many-cards _ c.if1.taken)
 
 returns-2 : tie.Need-returns-2
-returns-2 c = sym (first-too-long _ (c .if2 .taken))
+returns-2 c = sym (first-too-long _ c.if2.taken)
 
 returns-3 : tie.Need-returns-3
-returns-3 c = sym (second-too-long _ (c .if3 .taken))
+returns-3 c = sym (second-too-long _ c.if3.taken)
 
 cards-fit-requires : tie.Need-cards-fit-requires
 cards-fit-requires c κs = search needs
 
 returns-4 : tie.Need-returns-4
-returns-4 c = sym (reachable-tests (c .before .before .before .before .before .before .args .state) (record { dealt-short = search needs; first-short = search needs; second-short = search needs }) (search needs) ∙ and-left-fails _ (sym (c .before .cards-fit .ensures) ∙ not-true _ (c .if4 .taken)))
+returns-4 c = sym (reachable-tests c.before.before.before.before.before.before.args.state
+    (record { dealt-short = search needs; first-short = search needs; second-short = search needs }) (search needs) ∙ and-left-fails _
+    (sym c.before.cards-fit.ensures ∙ not-true _ c.if4.taken))
 
 slice-aggregate-all : tie.Need-slice-aggregate-all
 slice-aggregate-all c = search needs
 
 slice-aggregate-rounds-fit : tie.Need-slice-aggregate-rounds-fit
-slice-aggregate-rounds-fit c =
-    let len : length (c .before .before .before .before .before .before .before .before .before .args .state .history) ≡ 8 = search needs in
-    sym (length-take-le (c .before .before .before .before .before .before .before .before .before .args .state .acted1) (c .before .before .before .before .before .before .before .before .before .args .state .history) (omega arith))
+slice-aggregate-rounds-fit c = let a = c .before .before .before .before .before .before .before .before .before .args in
+    let len : length a.state.history ≡ 8 = search needs in sym (length-take-le a.state.acted1 a.state.history (omega arith))
 
 add-rounds-fit : tie.Need-add-rounds-fit
 add-rounds-fit c = search needs
@@ -48,8 +49,7 @@ part-rounds-fit-start : tie.Need-part-rounds-fit-start
 part-rounds-fit-start c = search needs
 
 part-rounds-fit-end : tie.Need-part-rounds-fit-end
-part-rounds-fit-end c =
-    let len : length (c .before .before .before .before .before .before .before .before .before .args .state .history) ≡ 8 = search needs in
+part-rounds-fit-end c = let len : length c.before.before.before.before.before.before.before.before.before.args.state.history ≡ 8 = search needs in
     omega arith
 
 is-hidden-requires : tie.Need-is-hidden-requires
@@ -60,31 +60,14 @@ rounds-fit-requires c κs = search needs
 
 returns-5 : tie.Need-returns-5
 unfolding and
-returns-5 c =
-    let fit : cards-test (c .before .before .before .before .before .before .before .before .before .before .before .before .args .state) ≡ true = sym (c .before .before .before .before .before .before .before .cards-fit .ensures) ∙ not-false _ (c .before .before .before .before .before .before .if4 .left) in
-    let part : 4 + c .before .before .before .before .before .before .before .before .before .before .before .before .args .state .acted2 - 4 ≡ c .before .before .before .before .before .before .before .before .before .before .before .before .args .state .acted2 = omega arith in
-    sym
-    (reachable-tests (c .before .before .before .before .before .before .before .before .before .before .before .before .args .state) (record { dealt-short = search needs; first-short = search needs; second-short = search needs }) (search needs)
-    ∙ rw fit
-    (sym
-    (c .rounds-fit .ensures
-    ∙ ap₂ (λ b n. rounds-test (eqb (c .before .before .before .before .before .before .before .before .before .before .before .before .args .state .dealt) 2) b (roundOne (c .before .before .before .before .before .before .before .before .before .before .before .before .args .state)) (take n (drop 4 (c .before .before .before .before .before .before .before .before .before .before .before .before .args .state .history)))) (c .before .is-hidden .ensures) part)))
+returns-5 c = let s0 = c .before .before .before .before .before .before in let a = s0 .before .before .before .before .before .before .args in
+    let fit : cards-test a.state ≡ true = sym s0.before.cards-fit.ensures ∙ not-false _ s0.if4.left in
+    let part : 4 + a.state.acted2 - 4 ≡ a.state.acted2 = omega arith in
+    sym (reachable-tests a.state (record { dealt-short = search needs; first-short = search needs; second-short = search needs }) (search needs) ∙
+    rw fit (sym (c.rounds-fit.ensures ∙ ap₂ (λ b n. rounds-test (eqb a.state.dealt 2) b (roundOne a.state) (take n (drop 4 a.state.history)))
+    c.before.is-hidden.ensures part)))
 
 pub is-reachable-spec : {M : Type 1} → statement M
 is-reachable-spec =
-    tie.close
-    (tie.spec
-    returns
-    returns-2
-    returns-3
-    cards-fit-requires
-    returns-4
-    slice-aggregate-all
-    slice-aggregate-rounds-fit
-    add-rounds-fit
-    sub-rounds-fit
-    part-rounds-fit-start
-    part-rounds-fit-end
-    is-hidden-requires
-    rounds-fit-requires
-    returns-5)
+    tie.close (tie.spec returns returns-2 returns-3 cards-fit-requires returns-4 slice-aggregate-all slice-aggregate-rounds-fit add-rounds-fit
+    sub-rounds-fit part-rounds-fit-start part-rounds-fit-end is-hidden-requires rounds-fit-requires returns-5)

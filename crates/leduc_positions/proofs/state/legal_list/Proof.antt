@@ -22,7 +22,7 @@ slice-aggregate-all : tie.Need-slice-aggregate-all
 slice-aggregate-all c = search needs
 
 slice-aggregate-legal-in : tie.Need-slice-aggregate-legal-in
-slice-aggregate-legal-in c = front-length (c .before .before .before .before .args .state .history) _ 8 (search needs) (omega arith)
+slice-aggregate-legal-in c = front-length c.before.before.before.before.args.state.history _ 8 (search needs) (omega arith)
 
 add-legal-in : tie.Need-add-legal-in
 add-legal-in c = search needs
@@ -34,31 +34,20 @@ part-legal-in-start : tie.Need-part-legal-in-start
 part-legal-in-start c = search needs
 
 part-legal-in-end : tie.Need-part-legal-in-end
-part-legal-in-end c =
-    let len : length (c .before .before .before .before .args .state .history) ≡ 8 = search needs in
-    omega arith
+part-legal-in-end c = let len : length c.before.before.before.before.args.state.history ≡ 8 = search needs in omega arith
 
 legal-in-requires : tie.Need-legal-in-requires
 legal-in-requires c κs = search needs
 
 returns : tie.Need-returns
 unfolding legal
-returns c = (
-  c .legal-in .ensures .0,
-  c .legal-in .ensures .1
-      ∙ ap₂ (λ b h₂. cond (and b (eqb (c .before .before .before .before .before .before .args .agent) (turn (roundOne (c .before .before .before .before .before .before .args .state)) h₂))) (options (in-play (roundOne (c .before .before .before .before .before .before .args .state)) h₂)) []) (c .before .before .before .before .before .seat-acts .ensures) (second-part (c .before .before .before .before .before .before .args .state .acted2) (c .before .before .before .before .before .before .args .state .history)),
+returns c = let s0 = c .before .before .before .before .before in let a = s0 .before .args in (
+  c.legal-in.ensures.0,
+  c.legal-in.ensures.1 ∙ ap₂ (λ b h₂. cond (and b (eqb a.agent (turn (roundOne a.state) h₂))) (options (in-play (roundOne a.state) h₂)) [])
+      s0.seat-acts.ensures (second-part a.state.acted2 a.state.history),
 )
 
 pub legal-list-spec : {M : Type 1} → statement M
 legal-list-spec =
-    tie.close
-    (tie.spec
-    seat-acts-requires
-    slice-aggregate-all
-    slice-aggregate-legal-in
-    add-legal-in
-    sub-legal-in
-    part-legal-in-start
-    part-legal-in-end
-    legal-in-requires
-    returns)
+    tie.close (tie.spec seat-acts-requires slice-aggregate-all slice-aggregate-legal-in add-legal-in sub-legal-in part-legal-in-start
+    part-legal-in-end legal-in-requires returns)

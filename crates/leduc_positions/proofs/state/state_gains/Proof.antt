@@ -16,7 +16,7 @@ slice-aggregate-all : tie.Need-slice-aggregate-all
 slice-aggregate-all c = search needs
 
 slice-aggregate-settled : tie.Need-slice-aggregate-settled
-slice-aggregate-settled c = front-length (c .before .before .before .before .args .state .history) _ 8 (search needs) (omega arith)
+slice-aggregate-settled c = front-length c.before.before.before.before.args.state.history _ 8 (search needs) (omega arith)
 
 add-settled : tie.Need-add-settled
 add-settled c = search needs
@@ -28,35 +28,24 @@ part-settled-start : tie.Need-part-settled-start
 part-settled-start c = search needs
 
 part-settled-end : tie.Need-part-settled-end
-part-settled-end c =
-    let len : length (c .before .before .before .before .args .state .history) ≡ 8 = search needs in
-    omega arith
+part-settled-end c = let len : length c.before.before.before.before.args.state.history ≡ 8 = search needs in omega arith
 
 settled-requires : tie.Need-settled-requires
-settled-requires c κs =
-    let len : length (c .before .before .before .before .before .args .state .history) ≡ 8 = search needs in
-    let one = length-take-le (c .before .before .before .before .before .args .state .acted1) (c .before .before .before .before .before .args .state .history) (omega arith) in
-    let two = ap length (second-part (c .before .before .before .before .before .args .state .acted2) (c .before .before .before .before .before .args .state .history)) ∙ second-length (c .before .before .before .before .before .args .state .history) (c .before .before .before .before .before .args .state .acted2) len (omega arith) in
+settled-requires c κs = let a = c .before .before .before .before .before .args in
+    let len : length a.state.history ≡ 8 = search needs in let one = length-take-le a.state.acted1 a.state.history (omega arith) in
+    let two = ap length (second-part a.state.acted2 a.state.history) ∙ second-length a.state.history a.state.acted2 len (omega arith) in
     (omega arith, omega arith)
 
 returns : tie.Need-returns
-returns c =
-    let len : length (c .before .before .before .before .before .before .args .state .cards) ≡ 2 = search needs in
-    let all : c .before .before .before .before .before .before .args .state .cards ≡ cardsOf (c .before .before .before .before .before .before .args .state) = sym (take-all (c .before .before .before .before .before .before .args .state .dealt) (c .before .before .before .before .before .before .args .state .cards) (omega arith)) in
-    let rest = second-part (c .before .before .before .before .before .before .args .state .acted2) (c .before .before .before .before .before .before .args .state .history) in (
-      c .settled .ensures .0 ∙ ap₂ (λ cs h₂. payoff 1 2 4 cs (c .before .before .before .before .before .before .args .state .public) (roundOne (c .before .before .before .before .before .before .args .state)) h₂ 0) all rest,
-      c .settled .ensures .1 ∙ ap₂ (λ cs h₂. payoff 1 2 4 cs (c .before .before .before .before .before .before .args .state .public) (roundOne (c .before .before .before .before .before .before .args .state)) h₂ 1) all rest,
+returns c = let a = c .before .before .before .before .before .before .args in
+    let len : length a.state.cards ≡ 2 = search needs in
+    let all : a.state.cards ≡ cardsOf a.state = sym (take-all a.state.dealt a.state.cards (omega arith)) in
+    let rest = second-part a.state.acted2 a.state.history in (
+      c.settled.ensures.0 ∙ ap₂ (λ cs h₂. payoff 1 2 4 cs a.state.public (roundOne a.state) h₂ 0) all rest,
+      c.settled.ensures.1 ∙ ap₂ (λ cs h₂. payoff 1 2 4 cs a.state.public (roundOne a.state) h₂ 1) all rest,
     )
 
 pub state-gains-spec : {M : Type 1} → statement M
 state-gains-spec =
-    tie.close
-    (tie.spec
-    slice-aggregate-all
-    slice-aggregate-settled
-    add-settled
-    sub-settled
-    part-settled-start
-    part-settled-end
-    settled-requires
+    tie.close (tie.spec slice-aggregate-all slice-aggregate-settled add-settled sub-settled part-settled-start part-settled-end settled-requires
     returns)

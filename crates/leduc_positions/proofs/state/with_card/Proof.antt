@@ -11,10 +11,10 @@ add-next : tie.Need-add-next
 add-next c = search needs
 
 returns : tie.Need-returns
-returns c = rw (lt-ltb (c .before .args .state .dealt) 2 (c .if1 .taken))
+returns c = rw (lt-ltb c.before.args.state.dealt 2 c.if1.taken)
 
 returns-2 : tie.Need-returns-2
-returns-2 c = rw (le-ltb (c .before .before .before .args .state .dealt) 2 (c .before .before .if1 .left))
+returns-2 c = rw (le-ltb c.before.before.before.args.state.dealt 2 c.before.before.if1.left)
 
 pub with-card-spec : {M : Type 1} → statement M
 with-card-spec = tie.close (tie.spec element-write-next add-next returns returns-2)

@@ -6,11 +6,11 @@ use Rattle.leduc_rules.proofs.play.early.Tie as tie
 
 returns : tie.Need-returns
 unfolding or
-returns c = rw (c .if1 .taken)
+returns c = rw c.if1.taken
 
 returns-2 : tie.Need-returns-2
 unfolding or
-returns-2 c = rw (c .if1 .left) (positive (c .before .args .acted))
+returns-2 c = rw c.if1.left (positive c.before.args.acted)
 
 pub early-spec : {M : Type 1} → statement M
 early-spec = tie.close (tie.spec returns returns-2)

@@ -12,14 +12,14 @@ is-due-requires c κs = search needs
 
 returns : tie.Need-returns
 unfolding live or
-returns c = rw (sym (c .before .is-due .ensures) ∙ c .if1 .taken)
+returns c = rw (sym c.before.is-due.ensures ∙ c.if1.taken)
 
 is-terminal-requires : tie.Need-is-terminal-requires
 is-terminal-requires c κs = search needs
 
 returns-2 : tie.Need-returns-2
 unfolding live or
-returns-2 c = rw (sym (c .before .before .is-due .ensures) ∙ c .before .if1 .left) (ap not (c .is-terminal .ensures))
+returns-2 c = rw (sym c.before.before.is-due.ensures ∙ c.before.if1.left) (ap not c.is-terminal.ensures)
 
 pub is-live-spec : {M : Type 1} → statement M
 is-live-spec = tie.close (tie.spec is-due-requires returns is-terminal-requires returns-2)

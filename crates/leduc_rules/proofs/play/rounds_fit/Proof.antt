@@ -17,29 +17,31 @@ early-requires : tie.Need-early-requires
 early-requires c κs = search needs
 
 returns : tie.Need-returns
-returns c = sym (and-left-fails _ (not-true _ (sym (c .before .early .ensures) ∙ c .if1 .taken)))
+returns c = sym (and-left-fails _ (not-true _ (sym c.before.early.ensures ∙ c.if1.taken)))
 
 round-refusal-requires : tie.Need-round-refusal-requires
 round-refusal-requires c κs = search needs
 
 returns-2 : tie.Need-returns-2
-returns-2 c = sym (and-right-fails _ (and-left-fails _ (sym (played-first [] (c .before .before .before .before .before .before .args .round1 .now)) ∙ ne-eqb _ _ (λ e. c .if2 .taken (c .before .round-refusal .ensures ∙ e)))))
+returns-2 c = sym (and-right-fails _ (and-left-fails _ (sym (played-first [] c.before.before.before.before.before.before.args.round1.now) ∙ ne-eqb _ _
+    (λ e. c.if2.taken (c.before.round-refusal.ensures ∙ e)))))
 
 round-refusal-requires-2 : tie.Need-round-refusal-requires-2
 round-refusal-requires-2 c κs = search needs
 
 returns-3 : tie.Need-returns-3
-returns-3 c = sym (and-right-fails _ (and-right-fails _ (and-left-fails _ (sym (played-first [] (c .before .before .before .before .before .before .before .before .args .round2 .now)) ∙ ne-eqb _ _ (λ e. c .if3 .taken (c .before .round-refusal2 .ensures ∙ e))))))
+returns-3 c = sym (and-right-fails _
+    (and-right-fails _ (and-left-fails _ (sym (played-first [] c.before.before.before.before.before.before.before.before.args.round2.now) ∙ ne-eqb _ _
+    (λ e. c.if3.taken (c.before.round-refusal2.ensures ∙ e))))))
 
 returns-4 : tie.Need-returns-4
 unfolding and or
-returns-4 c =
-    let fit : or (c .before .before .before .before .before .before .before .before .before .args .full) (eqb (length (c .before .before .before .before .before .before .before .before .before .args .round1 .now)) 0) ≡ true = not-false _ (sym (c .before .before .before .before .before .before .early .ensures) ∙ c .before .before .before .before .before .if1 .left) in
-    rw (
+returns-4 c = let s1 = c .before .before in let s0 = s1 .before .before in let a = s0 .before .before .before .before .before .args in
+    let fit : or a.full (eqb (length a.round1.now) 0) ≡ true = not-false _ (sym s0.before.before.early.ensures ∙ s0.before.if1.left) in rw (
       fit,
-      sym (played-first [] (c .before .before .before .before .before .before .before .before .before .args .round1 .now)) ∙ eq-eqb _ _ (sym (c .before .before .before .before .round-refusal .ensures) ∙ c .before .before .before .if2 .left),
-      sym (played-first [] (c .before .before .before .before .before .before .before .before .before .args .round2 .now)) ∙ eq-eqb _ _ (sym (c .before .before .round-refusal2 .ensures) ∙ c .before .if3 .left),
-      c .if4 .taken,
+      sym (played-first [] a.round1.now) ∙ eq-eqb _ _ (sym s0.round-refusal.ensures ∙ s1.before.if2.left),
+      sym (played-first [] a.round2.now) ∙ eq-eqb _ _ (sym s1.round-refusal2.ensures ∙ c.before.if3.left),
+      c.if4.taken,
     )
 
 round-over-requires : tie.Need-round-over-requires
@@ -47,26 +49,16 @@ round-over-requires c κs = search needs
 
 returns-5 : tie.Need-returns-5
 unfolding and or
-returns-5 c =
-    let fit : or (c .before .before .before .before .before .before .before .before .before .before .args .full) (eqb (length (c .before .before .before .before .before .before .before .before .before .before .args .round1 .now)) 0) ≡ true = not-false _ (sym (c .before .before .before .before .before .before .before .early .ensures) ∙ c .before .before .before .before .before .before .if1 .left) in
-    rw (
+returns-5 c = let s2 = c .before .before in let s1 = s2 .before .before in let s0 = s1 .before .before in
+    let a = s0 .before .before .before .before .args in
+    let fit : or a.full (eqb (length a.round1.now) 0) ≡ true = not-false _ (sym s0.before.early.ensures ∙ s0.if1.left) in rw (
       fit,
-      sym (played-first [] (c .before .before .before .before .before .before .before .before .before .before .args .round1 .now)) ∙ eq-eqb _ _ (sym (c .before .before .before .before .before .round-refusal .ensures) ∙ c .before .before .before .before .if2 .left),
-      sym (played-first [] (c .before .before .before .before .before .before .before .before .before .before .args .round2 .now)) ∙ eq-eqb _ _ (sym (c .before .before .before .round-refusal2 .ensures) ∙ c .before .before .if3 .left),
-      c .before .if4 .left,
-    )
-    (c .round-over .ensures ∙ sym (and-true _))
+      sym (played-first [] a.round1.now) ∙ eq-eqb _ _ (sym s1.before.round-refusal.ensures ∙ s1.if2.left),
+      sym (played-first [] a.round2.now) ∙ eq-eqb _ _ (sym s2.before.round-refusal2.ensures ∙ s2.if3.left),
+      c.before.if4.left,
+    ) (c.round-over.ensures ∙ sym (and-true _))
 
 pub rounds-fit-spec : {M : Type 1} → statement M
 rounds-fit-spec =
-    tie.close
-    (tie.spec
-    early-requires
-    returns
-    round-refusal-requires
-    returns-2
-    round-refusal-requires-2
-    returns-3
-    returns-4
-    round-over-requires
+    tie.close (tie.spec early-requires returns round-refusal-requires returns-2 round-refusal-requires-2 returns-3 returns-4 round-over-requires
     returns-5)

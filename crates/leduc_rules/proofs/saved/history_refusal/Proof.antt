@@ -10,14 +10,16 @@ unknown-action-requires : tie.Need-unknown-action-requires
 unknown-action-requires c κs = search needs
 
 returns : tie.Need-returns
-returns c = rw (not-too-long (length (c .before .before .before .args .h .now)) (c .before .before .before .args .h .now) (search needs) ∙ sym (c .before .unknown-action .ensures) ∙ c .if1 .taken)
+returns c = let s0 = c .before .before .before in
+    rw (not-too-long (length s0.args.h.now) s0.args.h.now (search needs) ∙ sym c.before.unknown-action.ensures ∙ c.if1.taken)
 
 round-refusal-requires : tie.Need-round-refusal-requires
 round-refusal-requires c κs = search needs
 
 returns-2 : tie.Need-returns-2
-returns-2 c = rw (not-too-long (length (c .before .before .before .before .args .h .now)) (c .before .before .before .before .args .h .now) (search needs) ∙ sym (c .before .before .unknown-action .ensures) ∙ c .before .if1 .left) (c .round-refusal .ensures)
+returns-2 c = let s0 = c .before .before in
+    rw (not-too-long (length s0.before.before.args.h.now) s0.before.before.args.h.now (search needs) ∙ sym s0.unknown-action.ensures ∙
+    c.before.if1.left) c.round-refusal.ensures
 
 pub history-refusal-spec : {M : Type 1} → statement M
-history-refusal-spec =
-    tie.close (tie.spec unknown-action-requires returns round-refusal-requires returns-2)
+history-refusal-spec = tie.close (tie.spec unknown-action-requires returns round-refusal-requires returns-2)

@@ -12,14 +12,14 @@ has-fold-requires c κs = search needs
 
 returns : tie.Need-returns
 unfolding barred-by or
-returns c = rw (sym (c .before .has-fold .ensures) ∙ c .if1 .taken)
+returns c = rw (sym c.before.has-fold.ensures ∙ c.if1.taken)
 
 round-over-requires : tie.Need-round-over-requires
 round-over-requires c κs = search needs
 
 returns-2 : tie.Need-returns-2
 unfolding barred-by or
-returns-2 c = rw (sym (c .before .before .has-fold .ensures) ∙ c .before .if1 .left) (ap not (c .round-over .ensures))
+returns-2 c = rw (sym c.before.before.has-fold.ensures ∙ c.before.if1.left) (ap not c.round-over.ensures)
 
 pub is-barred-spec : {M : Type 1} → statement M
 is-barred-spec = tie.close (tie.spec has-fold-requires returns round-over-requires returns-2)

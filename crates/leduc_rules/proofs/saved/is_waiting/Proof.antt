@@ -12,14 +12,15 @@ round-over-requires c κs = search needs
 
 returns : tie.Need-returns
 unfolding and
-returns c = rw (sym (c .before .round-over .ensures) ∙ not-true (c .before .round-over .result) (c .if1 .taken))
+returns c = rw (sym c.before.round-over.ensures ∙ not-true c.before.round-over.result c.if1.taken)
 
 is-terminal-requires : tie.Need-is-terminal-requires
 is-terminal-requires c κs = search needs
 
 returns-2 : tie.Need-returns-2
 unfolding and
-returns-2 c = rw (sym (c .before .before .round-over .ensures) ∙ not-false (c .before .before .round-over .result) (c .before .if1 .left)) (ap not (c .is-terminal .ensures))
+returns-2 c = rw (sym c.before.before.round-over.ensures ∙ not-false c.before.before.round-over.result c.before.if1.left)
+    (ap not c.is-terminal.ensures)
 
 pub is-waiting-spec : {M : Type 1} → statement M
 is-waiting-spec = tie.close (tie.spec round-over-requires returns is-terminal-requires returns-2)

@@ -10,21 +10,19 @@ is-waiting-requires : tie.Need-is-waiting-requires
 is-waiting-requires c κs = search needs
 
 returns : tie.Need-returns
-returns c = sym (public-missing _ _ _ true (c .before .before .if1 .taken) (sym (c .before .is-waiting .ensures) ∙ c .if2 .taken))
+returns c = sym (public-missing _ _ _ true c.before.before.if1.taken (sym c.before.is-waiting.ensures ∙ c.if2.taken))
 
 returns-2 : tie.Need-returns-2
-returns-2 c = sym (public-missing _ _ _ false (c .before .before .if1 .taken) (sym (c .before .is-waiting .ensures) ∙ c .if2 .left))
+returns-2 c = sym (public-missing _ _ _ false c.before.before.if1.taken (sym c.before.is-waiting.ensures ∙ c.if2.left))
 
 round-over-requires : tie.Need-round-over-requires
 round-over-requires c κs = search needs
 
 returns-3 : tie.Need-returns-3
-returns-3 c = sym (public-there _ _ _ true (c .before .before .if1 .left) (sym (c .before .round-over .ensures) ∙ c .if3 .taken))
+returns-3 c = sym (public-there _ _ _ true c.before.before.if1.left (sym c.before.round-over.ensures ∙ c.if3.taken))
 
 returns-4 : tie.Need-returns-4
-returns-4 c = sym (public-there _ _ _ false (c .before .before .if1 .left) (sym (c .before .round-over .ensures) ∙ c .if3 .left))
+returns-4 c = sym (public-there _ _ _ false c.before.before.if1.left (sym c.before.round-over.ensures ∙ c.if3.left))
 
 pub public-refusal-spec : {M : Type 1} → statement M
-public-refusal-spec =
-    tie.close
-    (tie.spec is-waiting-requires returns returns-2 round-over-requires returns-3 returns-4)
+public-refusal-spec = tie.close (tie.spec is-waiting-requires returns returns-2 round-over-requires returns-3 returns-4)

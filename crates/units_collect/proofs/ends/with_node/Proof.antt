@@ -9,7 +9,7 @@ kind-requires : tie.Need-kind-requires
 kind-requires c κs = search needs
 
 returns : tie.Need-returns
-returns c = λ f h. with-none (c .before .before .args .x) (c .before .before .args .y) f (c .before .before .args .sums .of) h (λ q. c .if1 .taken (c .before .kind .ensures ∙ q))
+returns c = let a = c .before .before .args in λ f h. with-none a.x a.y f a.sums.of h (λ q. c.if1.taken (c.before.kind.ensures ∙ q))
 
 earned-requires : tie.Need-earned-requires
 earned-requires c κs = search needs
@@ -18,7 +18,8 @@ add-requires : tie.Need-add-requires
 add-requires c κs = search needs
 
 returns-2 : tie.Need-returns-2
-returns-2 c = let s0 = c .before .before .before .before in λ f h. with-end (s0 .args .x) (s0 .args .y) f (s0 .args .sums .of) h _ _ (sym (c .before .before .before .kind .ensures) ∙ c .before .before .if1 .left) (c .before .earned .ensures) (c .add .ensures)
+returns-2 c = let s0 = c .before .before in let a = s0 .before .before .args in
+    λ f h. with-end a.x a.y f a.sums.of h _ _ (sym s0.before.kind.ensures ∙ s0.if1.left) c.before.earned.ensures c.add.ensures
 
 pub with-node-spec : {M : Type 1} → statement M
 with-node-spec = tie.close (tie.spec kind-requires returns earned-requires add-requires returns-2)

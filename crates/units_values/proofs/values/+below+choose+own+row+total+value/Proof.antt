@@ -127,22 +127,25 @@ below-kind-requires : (t : ℕ) → below-lts.Need-kind-requires (below-callees 
 below-kind-requires t c κs = search needs
 
 below-ended-requires : (t : ℕ) → below-lts.Need-ended-requires (below-callees t) (below-at t) below.Post
-below-ended-requires t c κs = let s0 = c .before .before .before .before .before .before in (s0 .pre .1 .seat, omega (arith, s0 .pre .1 .place, s0 .pre .1 .units))
+below-ended-requires t c κs = let s0 = c .before .before .before .before .before .before in
+    (s0.pre.1.seat, omega (arith, s0.pre.1.place, s0.pre.1.units))
 
 below-same-length : (t : ℕ) → below-lts.Need-same-length (below-callees t) (below-at t) below.Post
 below-same-length t c = search needs
 
 below-returns : (t : ℕ) → below-lts.Need-returns (below-callees t) (below-at t) below.Post
-below-returns t c = let s0 = c .before .before .before .before .before .before .before in let s1 = c .before .before .before .before in valuing.value-ended (s0 .args .seat) (s0 .args .depth) (s0 .args .heads) (s0 .args .units) (s0 .args .kept) (s0 .args .a) (now (s0 .args .w)) (s1 .word .result) (s1 .word .ensures) _ (sym (c .before .before .before .kind .ensures) ∙ c .before .before .if1 .taken) (c .ended .ensures)
+below-returns t c = let s1 = c .before .before in let s0 = s1 .before .before in let a = s0 .before .before .before .args in
+    valuing.value-ended a.seat a.depth a.heads a.units a.kept a.a (now a.w) s0.word.result s0.word.ensures _
+    (sym s1.before.kind.ensures ∙ s1.if1.taken) c.ended.ensures
 
 below-value-requires : (t : ℕ) → below-lts.Need-value-requires (below-callees t) (below-at t) below.Post
-below-value-requires t c κs = let s0 = c .before .before .before .before .before .before in (omega (arith, s0 .pre .0), s0 .pre .1)
+below-value-requires t c κs = let s0 = c .before .before .before .before .before .before in (omega (arith, s0.pre.0), s0.pre.1)
 
 below-same-length-2 : (t : ℕ) → below-lts.Need-same-length-2 (below-callees t) (below-at t) below.Post
 below-same-length-2 t c = search needs
 
 below-returns-2 : (t : ℕ) → below-lts.Need-returns-2 (below-callees t) (below-at t) below.Post
-below-returns-2 t c = c .before .before .value .ensures
+below-returns-2 t c = c.before.before.value.ensures
 
 abbrev choose-Inv-loop : choose-lts.InvT-loop
 choose-Inv-loop w₀ first count seat depth heads units kept known top₀ action₀ w top action = choosing.Led seat depth heads units kept first count w₀ w (top .action) (top .sum) action × (top .action ≤ action - 1) × (action ≤ count) × (length w ≡ length w₀)
@@ -151,46 +154,62 @@ abbrev choose-μ-loop : choose-lts.MeasureT-loop
 choose-μ-loop w₀ first count seat depth heads units kept known top₀ action₀ w top action = count - action
 
 choose-add-word : (t : ℕ) → choose-lts.Need-add-word (choose-callees t) (choose-at t) choose.Post choose-Inv-loop choose-μ-loop
-choose-add-word t c = record { fits = omega (arith, c .before .before .pre .1 .kept, c .before .before .pre .1 .place) }
+choose-add-word t c = record { fits = omega (arith, c.before.before.pre.1.kept, c.before.before.pre.1.place) }
 
 choose-word-requires : (t : ℕ) → choose-lts.Need-word-requires (choose-callees t) (choose-at t) choose.Post choose-Inv-loop choose-μ-loop
 choose-word-requires t c κs = search needs
 
 choose-sub-result : (t : ℕ) → choose-lts.Need-sub-result (choose-callees t) (choose-at t) choose.Post choose-Inv-loop choose-μ-loop
-choose-sub-result t c = omega (arith, c .if1 .taken)
+choose-sub-result t c = omega (arith, c.if1.taken)
 
 choose-same-length : (t : ℕ) → choose-lts.Need-same-length (choose-callees t) (choose-at t) choose.Post choose-Inv-loop choose-μ-loop
 choose-same-length t c = search needs
 
 choose-returns : (t : ℕ) → choose-lts.Need-returns (choose-callees t) (choose-at t) choose.Post choose-Inv-loop choose-μ-loop
-choose-returns t c = let s0 = c .before .before .before .before in choosing.chosen-known (s0 .args .seat) (s0 .args .depth) (s0 .args .heads) (s0 .args .units) (s0 .args .kept) (s0 .args .first) (s0 .args .count) (now (s0 .args .w)) (c .before .word .result) _ (c .before .word .ensures) (c .if1 .taken) refl
+choose-returns t c = let a = c .before .before .before .before .args in
+    choosing.chosen-known a.seat a.depth a.heads a.units a.kept a.first a.count (now a.w) c.before.word.result _ c.before.word.ensures c.if1.taken
+    refl
 
 choose-start-requires : (t : ℕ) → choose-lts.Need-start-requires (choose-callees t) (choose-at t) choose.Post choose-Inv-loop choose-μ-loop
 choose-start-requires t c κs = search needs
 
 choose-loop-holds : (t : ℕ) → choose-lts.Need-loop-holds (choose-callees t) (choose-at t) choose.Post choose-Inv-loop choose-μ-loop
-choose-loop-holds t c = let s0 = c .before .before .before .before .before in (choosing.led-start (s0 .args .seat) (s0 .args .depth) (s0 .args .heads) (s0 .args .units) (s0 .args .kept) (s0 .args .first) (s0 .args .count) (now (s0 .args .w)) _ _ (c .start .ensures .0) (c .start .ensures .1), omega (arith, c .start .ensures .0), omega arith, refl)
+choose-loop-holds t c = let a = c .before .before .before .before .before .args in (
+  choosing.led-start a.seat a.depth a.heads a.units a.kept a.first a.count (now a.w) _ _ c.start.ensures.0 c.start.ensures.1,
+  omega (arith, c.start.ensures.0),
+  omega arith,
+  refl,
+)
 
 choose-total-requires : (t : ℕ) → choose-lts.Need-total-requires (choose-callees t) (choose-at t) choose.Post choose-Inv-loop choose-μ-loop
-choose-total-requires t c κs = let s0 = c .before .before .before .before .before .before .before .before in (omega (arith, s0 .pre .0), s0 .pre .1)
+choose-total-requires t c κs = let s0 = c .before .before .before .before .before .before .before .before in (omega (arith, s0.pre.0), s0.pre.1)
 
 choose-past-requires : (t : ℕ) → choose-lts.Need-past-requires (choose-callees t) (choose-at t) choose.Post choose-Inv-loop choose-μ-loop
 choose-past-requires t c κs = search needs
 
 choose-add-action : (t : ℕ) → choose-lts.Need-add-action (choose-callees t) (choose-at t) choose.Post choose-Inv-loop choose-μ-loop
-choose-add-action t c = record { fits = omega (arith, c .before .before .before .before .before .loop-test .taken) }
+choose-add-action t c = record { fits = omega (arith, c.before.before.before.before.before.loop-test.taken) }
 
 choose-loop-less : (t : ℕ) → choose-lts.Need-loop-less (choose-callees t) (choose-at t) choose.Post choose-Inv-loop choose-μ-loop
-choose-loop-less t c = omega (arith, c .before .before .before .before .before .loop-test .taken)
+choose-loop-less t c = omega (arith, c.before.before.before.before.before.loop-test.taken)
 
 choose-loop-again : (t : ℕ) → choose-lts.Need-loop-again (choose-callees t) (choose-at t) choose.Post choose-Inv-loop choose-μ-loop
-choose-loop-again t c = let s0 = c .before .before .before .before .before .before .before .before .before .before .before .before in let s1 = c .before .before .before .before .before .before in let s2 = c .before .before .before .before .before in let s3 = c .before .before .before in (choosing.led-more (s0 .args .seat) (s0 .args .depth) (s0 .args .heads) (s0 .args .units) (s0 .args .kept) (s0 .args .first) (s0 .args .count) (now (s0 .args .w)) (s1 .loop .w) (s3 .total .last .0) (s1 .loop .top .action) (s1 .loop .top .sum) (s1 .loop .action) (s3 .total .result) (c .past .result .action) (c .past .result .sum) (s1 .loop .inv .0) (s2 .loop-test .taken) (s3 .total .ensures) (c .past .ensures .0) (c .past .ensures .1), omega (arith, c .past .ensures .0, past-few (ltb (s1 .loop .top .sum) (s3 .total .result)) (s1 .loop .action) (s1 .loop .top .action) (s1 .loop .inv .1)), omega (arith, s2 .loop-test .taken), omega (arith, s3 .total .kept .0, s1 .loop .inv .3))
+choose-loop-again t c = let s2 = c .before .before .before in let s1 = s2 .before .before in let s0 = s1 .before in
+    let a = s0 .before .before .before .before .before .before .args in (
+      choosing.led-more a.seat a.depth a.heads a.units a.kept a.first a.count (now a.w) s0.loop.w s2.total.last.0 s0.loop.top.action s0.loop.top.sum
+          s0.loop.action s2.total.result c.past.result.action c.past.result.sum s0.loop.inv.0 s1.loop-test.taken s2.total.ensures c.past.ensures.0
+          c.past.ensures.1,
+      omega (arith, c.past.ensures.0, past-few (ltb s0.loop.top.sum s2.total.result) s0.loop.action s0.loop.top.action s0.loop.inv.1),
+      omega (arith, s1.loop-test.taken),
+      omega (arith, s2.total.kept.0, s0.loop.inv.3),
+    )
 
 choose-add-put : (t : ℕ) → choose-lts.Need-add-put (choose-callees t) (choose-at t) choose.Post choose-Inv-loop choose-μ-loop
-choose-add-put t c = let s0 = c .before .before .before .before .before .before .before .before in record { fits = omega (arith, s0 .pre .1 .kept, s0 .pre .1 .place) }
+choose-add-put t c = let s0 = c .before .before .before .before .before .before .before .before in
+    record { fits = omega (arith, s0.pre.1.kept, s0.pre.1.place) }
 
 choose-add-put-2 : (t : ℕ) → choose-lts.Need-add-put-2 (choose-callees t) (choose-at t) choose.Post choose-Inv-loop choose-μ-loop
-choose-add-put-2 t c = record { fits = omega (arith, c .before .before .loop .inv .1, c .before .before .loop .inv .2, c .before .loop-test .left) }
+choose-add-put-2 t c = record { fits = omega (arith, c.before.before.loop.inv.1, c.before.before.loop.inv.2, c.before.loop-test.left) }
 
 choose-put-requires : (t : ℕ) → choose-lts.Need-put-requires (choose-callees t) (choose-at t) choose.Post choose-Inv-loop choose-μ-loop
 choose-put-requires t c κs = search needs
@@ -199,7 +218,10 @@ choose-same-length-2 : (t : ℕ) → choose-lts.Need-same-length-2 (choose-calle
 choose-same-length-2 t c = search needs
 
 choose-returns-2 : (t : ℕ) → choose-lts.Need-returns-2 (choose-callees t) (choose-at t) choose.Post choose-Inv-loop choose-μ-loop
-choose-returns-2 t c = let s0 = c .before .before .before .before .before .before .before .before .before .before .before in let s1 = c .before .before .before .before .before in choosing.led-end (s0 .args .seat) (s0 .args .depth) (s0 .args .heads) (s0 .args .units) (s0 .args .kept) (s0 .args .first) (s0 .args .count) (now (s0 .args .w)) (s1 .loop .w) (c .before .before .put .last .0) (s1 .loop .top .action) (s1 .loop .top .sum) (s1 .loop .action) (s1 .loop .inv .0) (omega (arith, c .before .before .before .before .loop-test .left)) (c .before .before .put .ensures)
+choose-returns-2 t c = let s1 = c .before .before in let s0 = s1 .before .before .before in
+    let a = s0 .before .before .before .before .before .before .args in
+    choosing.led-end a.seat a.depth a.heads a.units a.kept a.first a.count (now a.w) s0.loop.w s1.put.last.0 s0.loop.top.action s0.loop.top.sum
+    s0.loop.action s0.loop.inv.0 (omega (arith, s1.before.before.loop-test.left)) s1.put.ensures
 
 own-set-requires : (t : ℕ) → own-lts.Need-set-requires (own-callees t) (own-at t) own.Post
 own-set-requires t c κs = search needs
@@ -208,19 +230,32 @@ own-actions-requires : (t : ℕ) → own-lts.Need-actions-requires (own-callees 
 own-actions-requires t c κs = search needs
 
 own-choose-requires : (t : ℕ) → own-lts.Need-choose-requires (own-callees t) (own-at t) own.Post
-own-choose-requires t c κs = let s0 = c .before .before .before .before in (omega (arith, s0 .pre .0), valuing.walk-at (s0 .args .a + 1) (s0 .args .seat) (s0 .args .depth) (s0 .args .heads) (s0 .args .units) (s0 .args .kept) (s0 .pre .1) (c .before .set .result) (s0 .args .depth) (omega arith) (omega (arith, c .before .set .ensures, s0 .pre .1 .shallow)))
+own-choose-requires t c κs = let s0 = c .before .before .before .before in let a = s0 .args in (
+  omega (arith, s0.pre.0),
+  valuing.walk-at (a.a + 1) a.seat a.depth a.heads a.units a.kept s0.pre.1 c.before.set.result a.depth (omega arith)
+      (omega (arith, c.before.set.ensures, s0.pre.1.shallow)),
+)
 
 own-child-requires : (t : ℕ) → own-lts.Need-child-requires (own-callees t) (own-at t) own.Post
-own-child-requires t c κs = omega (arith, c .before .before .before .before .before .before .before .before .pre .1 .place)
+own-child-requires t c κs = omega (arith, c.before.before.before.before.before.before.before.before.pre.1.place)
 
 own-below-requires : (t : ℕ) → own-lts.Need-below-requires (own-callees t) (own-at t) own.Post
-own-below-requires t c κs = let s0 = c .before .before .before .before .before .before .before .before .before .before in (omega (arith, s0 .pre .0), valuing.walk-at (s0 .args .a + 1) (s0 .args .seat) (s0 .args .depth) (s0 .args .heads) (s0 .args .units) (s0 .args .kept) (s0 .pre .1) (c .before .child .result) (s0 .args .depth) (omega arith) (omega (arith, c .before .child .ensures .near, s0 .pre .1 .shallow)))
+own-below-requires t c κs = let s0 = c .before .before .before .before .before .before .before .before .before .before in let a = s0 .args in (
+  omega (arith, s0.pre.0),
+  valuing.walk-at (a.a + 1) a.seat a.depth a.heads a.units a.kept s0.pre.1 c.before.child.result a.depth (omega arith)
+      (omega (arith, c.before.child.ensures.near, s0.pre.1.shallow)),
+)
 
 own-same-length : (t : ℕ) → own-lts.Need-same-length (own-callees t) (own-at t) own.Post
 own-same-length t c = search needs
 
 own-returns : (t : ℕ) → own-lts.Need-returns (own-callees t) (own-at t) own.Post
-own-returns t c = let s0 = c .before .before .before .before .before .before .before .before .before .before .before .before .before in let s1 = c .before .before .before .before .before .before .before .before .before .before in let s2 = c .before .before .before .before .before .before .before .before in let s3 = c .before .before .before .before in valuing.own-is (s0 .args .seat) (s0 .args .depth) (s0 .args .heads) (s0 .args .units) (s0 .args .kept) (s0 .args .a) (s0 .args .x) (now (s0 .args .w)) (s2 .choose .last .0) (c .before .before .below .last .0) (s2 .choose .result) (s3 .child .result) (c .before .before .below .result) (subst (λ e. Chosen (s0 .args .seat) (s0 .args .depth) (s0 .args .heads) (s0 .args .units) (s0 .args .kept) e (actionsOf (s0 .args .x)) (now (s0 .args .w)) (s2 .choose .last .0) (s2 .choose .result)) (s1 .set .ensures) (subst (λ n. Chosen (s0 .args .seat) (s0 .args .depth) (s0 .args .heads) (s0 .args .units) (s0 .args .kept) (s1 .set .result) n (now (s0 .args .w)) (s2 .choose .last .0) (s2 .choose .result)) (c .before .before .before .before .before .before .before .before .before .actions .ensures) (s2 .choose .ensures))) (s3 .child .ensures) (c .before .before .below .ensures)
+own-returns t c = let s3 = c .before .before in let s2 = s3 .before .before in let s1 = s2 .before .before .before .before in
+    let s0 = s1 .before .before in let a = s0 .before .before .before .args in
+    valuing.own-is a.seat a.depth a.heads a.units a.kept a.a a.x (now a.w) s1.choose.last.0 s3.below.last.0 s1.choose.result s2.child.result
+    s3.below.result (subst (λ e. Chosen a.seat a.depth a.heads a.units a.kept e (actionsOf a.x) (now a.w) s1.choose.last.0 s1.choose.result)
+    s0.set.ensures (subst (λ n. Chosen a.seat a.depth a.heads a.units a.kept s0.set.result n (now a.w) s1.choose.last.0 s1.choose.result)
+    s1.before.actions.ensures s1.choose.ensures)) s2.child.ensures s3.below.ensures
 
 abbrev row-Inv-loop : row-lts.InvT-loop
 row-Inv-loop w₀ a end seat depth heads units kept sum₀ at₀ w sum at = valuing.Along seat depth heads units kept a end w₀ w at sum × (at + depth < 8388608) × (length w ≡ length w₀)
@@ -229,34 +264,48 @@ abbrev row-μ-loop : row-lts.MeasureT-loop
 row-μ-loop w₀ a end seat depth heads units kept sum₀ at₀ w sum at = end - at
 
 row-loop-holds : (t : ℕ) → row-lts.Need-loop-holds (row-callees t) (row-at t) row.Post row-Inv-loop row-μ-loop
-row-loop-holds t c = (valuing.along-start (c .before .args .seat) (c .before .args .depth) (c .before .args .heads) (c .before .args .units) (c .before .args .kept) (c .before .args .a) (c .before .args .end) (now (c .before .args .w)), c .before .pre .1 .place, refl)
+row-loop-holds t c = let a = c .before .args in
+    (valuing.along-start a.seat a.depth a.heads a.units a.kept a.a a.end (now a.w), c.before.pre.1.place, refl)
 
 row-below-requires : (t : ℕ) → row-lts.Need-below-requires (row-callees t) (row-at t) row.Post row-Inv-loop row-μ-loop
-row-below-requires t c κs = let s0 = c .before .before .before .before in (omega (arith, s0 .pre .0), valuing.walk-at (s0 .args .a) (s0 .args .seat) (s0 .args .depth) (s0 .args .heads) (s0 .args .units) (s0 .args .kept) (s0 .pre .1) (c .before .before .loop .at) (s0 .args .depth) (omega arith) (c .before .before .loop .inv .1))
+row-below-requires t c κs = let s1 = c .before .before in let s0 = s1 .before .before in let a = s0 .args in
+    (omega (arith, s0.pre.0), valuing.walk-at a.a a.seat a.depth a.heads a.units a.kept s0.pre.1 s1.loop.at a.depth (omega arith) s1.loop.inv.1)
 
 row-wrapping-add-u64-requires : (t : ℕ) → row-lts.Need-wrapping-add-u64-requires (row-callees t) (row-at t) row.Post row-Inv-loop row-μ-loop
 row-wrapping-add-u64-requires t c κs = search needs
 
 row-behind-requires : (t : ℕ) → row-lts.Need-behind-requires (row-callees t) (row-at t) row.Post row-Inv-loop row-μ-loop
-row-behind-requires t c κs = omega (arith, c .before .before .before .before .before .before .before .loop .inv .1)
+row-behind-requires t c κs = omega (arith, c.before.before.before.before.before.before.before.loop.inv.1)
 
 row-same-length : (t : ℕ) → row-lts.Need-same-length (row-callees t) (row-at t) row.Post row-Inv-loop row-μ-loop
 row-same-length t c = search needs
 
 row-returns : (t : ℕ) → row-lts.Need-returns (row-callees t) (row-at t) row.Post row-Inv-loop row-μ-loop
-row-returns t c = let s0 = c .before .before .before .before .before .before .before .before .before .before .before in let s1 = c .before .before .before .before .before .before .before .before .before in let s2 = c .before .before .before .before .before .before in valuing.along-stuck (s0 .args .seat) (s0 .args .depth) (s0 .args .heads) (s0 .args .units) (s0 .args .kept) (s0 .args .a) (s0 .args .end) (now (s0 .args .w)) (s1 .loop .w) (s2 .below .last .0) (s1 .loop .at) (s1 .loop .sum) (s2 .below .result) (c .before .before .before .wrapping-add-u64 .result) (c .before .behind .result) (s1 .loop .inv .0) (c .before .before .before .before .before .before .before .before .loop-test .taken) (s2 .below .ensures) (c .before .behind .ensures) (c .if1 .taken)
+row-returns t c = let s2 = c .before .before .before .before .before .before in let s1 = s2 .before .before .before in let s0 = s1 .before .before in
+    valuing.along-stuck s0.args.seat s0.args.depth s0.args.heads s0.args.units s0.args.kept s0.args.a s0.args.end (now s0.args.w) s1.loop.w
+    s2.below.last.0 s1.loop.at s1.loop.sum s2.below.result c.before.before.before.wrapping-add-u64.result c.before.behind.result s1.loop.inv.0
+    s2.before.before.loop-test.taken s2.below.ensures c.before.behind.ensures c.if1.taken
 
 row-loop-less : (t : ℕ) → row-lts.Need-loop-less (row-callees t) (row-at t) row.Post row-Inv-loop row-μ-loop
-row-loop-less t c = omega (arith, c .before .before .before .before .before .before .before .before .loop-test .taken, c .if1 .left)
+row-loop-less t c = omega (arith, c.before.before.before.before.before.before.before.before.loop-test.taken, c.if1.left)
 
 row-loop-again : (t : ℕ) → row-lts.Need-loop-again (row-callees t) (row-at t) row.Post row-Inv-loop row-μ-loop
-row-loop-again t c = let s0 = c .before .before .before .before .before .before .before .before .before .before .before in let s1 = c .before .before .before .before .before .before .before .before .before in let s2 = c .before .before .before .before .before .before in let s3 = c .before .before .before in (valuing.along-more (s0 .args .seat) (s0 .args .depth) (s0 .args .heads) (s0 .args .units) (s0 .args .kept) (s0 .args .a) (s0 .args .end) (now (s0 .args .w)) (s1 .loop .w) (s2 .below .last .0) (s1 .loop .at) (s1 .loop .sum) (s2 .below .result) (s3 .wrapping-add-u64 .result) (c .before .behind .result) (s1 .loop .inv .0) (c .before .before .before .before .before .before .before .before .loop-test .taken) (s2 .below .ensures) (s3 .wrapping-add-u64 .ensures) (c .before .behind .ensures), omega (arith, c .before .behind .ensures .near, s0 .pre .1 .shallow), omega (arith, s2 .below .kept .0, s1 .loop .inv .2))
+row-loop-again t c = let s3 = c .before in let s2 = s3 .before .before in let s1 = s2 .before .before .before in
+    let s0 = s1 .before .before .before in let a = s0 .before .before .args in (
+      valuing.along-more a.seat a.depth a.heads a.units a.kept a.a a.end (now a.w) s0.loop.w s1.below.last.0 s0.loop.at s0.loop.sum s1.below.result
+          s2.wrapping-add-u64.result s3.behind.result s0.loop.inv.0 s1.before.before.loop-test.taken s1.below.ensures s2.wrapping-add-u64.ensures
+          s3.behind.ensures,
+      omega (arith, s3.behind.ensures.near, s0.before.before.pre.1.shallow),
+      omega (arith, s1.below.kept.0, s0.loop.inv.2),
+    )
 
 row-same-length-2 : (t : ℕ) → row-lts.Need-same-length-2 (row-callees t) (row-at t) row.Post row-Inv-loop row-μ-loop
 row-same-length-2 t c = search needs
 
 row-returns-2 : (t : ℕ) → row-lts.Need-returns-2 (row-callees t) (row-at t) row.Post row-Inv-loop row-μ-loop
-row-returns-2 t c = let s0 = c .before .before .before in valuing.along-end (s0 .args .seat) (s0 .args .depth) (s0 .args .heads) (s0 .args .units) (s0 .args .kept) (s0 .args .a) (s0 .args .end) (now (s0 .args .w)) (c .before .loop .w) (c .before .loop .at) (c .before .loop .sum) (c .before .loop .inv .0) (omega (arith, c .loop-test .left))
+row-returns-2 t c = let s0 = c .before in let a = s0 .before .before .args in
+    valuing.along-end a.seat a.depth a.heads a.units a.kept a.a a.end (now a.w) s0.loop.w s0.loop.at s0.loop.sum s0.loop.inv.0
+    (omega (arith, c.loop-test.left))
 
 abbrev total-Inv-loop : total-lts.InvT-loop
 total-Inv-loop w₀ first action seat depth heads units kept sum₀ at₀ w sum at = choosing.Summed seat depth heads units kept first action w₀ w at sum × (at < 2097152) × (length w ≡ length w₀)
@@ -265,19 +314,24 @@ abbrev total-μ-loop : total-lts.MeasureT-loop
 total-μ-loop w₀ first action seat depth heads units kept sum₀ at₀ w sum at = 2097152 - at
 
 total-add-word : (t : ℕ) → total-lts.Need-add-word (total-callees t) (total-at t) total.Post total-Inv-loop total-μ-loop
-total-add-word t c = record { fits = omega (arith, c .before .before .pre .1 .heads, c .before .before .pre .1 .place) }
+total-add-word t c = record { fits = omega (arith, c.before.before.pre.1.heads, c.before.before.pre.1.place) }
 
 total-word-requires : (t : ℕ) → total-lts.Need-word-requires (total-callees t) (total-at t) total.Post total-Inv-loop total-μ-loop
 total-word-requires t c κs = search needs
 
 total-loop-holds : (t : ℕ) → total-lts.Need-loop-holds (total-callees t) (total-at t) total.Post total-Inv-loop total-μ-loop
-total-loop-holds t c = let s0 = c .before .before .before in (choosing.summed-start (s0 .args .seat) (s0 .args .depth) (s0 .args .heads) (s0 .args .units) (s0 .args .kept) (s0 .args .first) (s0 .args .action) (now (s0 .args .w)) _ (ap (λ j. j % 2097152) (c .word .ensures)), omega arith, refl)
+total-loop-holds t c = let a = c .before .before .before .args in
+    (choosing.summed-start a.seat a.depth a.heads a.units a.kept a.first a.action (now a.w) _ (ap (λ j. j % 2097152) c.word.ensures), omega arith, refl)
 
 total-child-requires : (t : ℕ) → total-lts.Need-child-requires (total-callees t) (total-at t) total.Post total-Inv-loop total-μ-loop
-total-child-requires t c κs = omega (arith, c .before .before .loop .inv .1)
+total-child-requires t c κs = omega (arith, c.before.before.loop.inv.1)
 
 total-below-requires : (t : ℕ) → total-lts.Need-below-requires (total-callees t) (total-at t) total.Post total-Inv-loop total-μ-loop
-total-below-requires t c κs = let s0 = c .before .before .before .before .before .before .before .before in (omega (arith, s0 .pre .0), valuing.walk-at (s0 .args .first) (s0 .args .seat) (s0 .args .depth) (s0 .args .heads) (s0 .args .units) (s0 .args .kept) (s0 .pre .1) (c .before .child .result) (s0 .args .depth) (omega arith) (omega (arith, c .before .child .ensures .near, s0 .pre .1 .shallow)))
+total-below-requires t c κs = let s0 = c .before .before .before .before .before .before .before .before in let a = s0 .args in (
+  omega (arith, s0.pre.0),
+  valuing.walk-at a.first a.seat a.depth a.heads a.units a.kept s0.pre.1 c.before.child.result a.depth (omega arith)
+      (omega (arith, c.before.child.ensures.near, s0.pre.1.shallow)),
+)
 
 total-wrapping-add-u64-requires : (t : ℕ) → total-lts.Need-wrapping-add-u64-requires (total-callees t) (total-at t) total.Post total-Inv-loop total-μ-loop
 total-wrapping-add-u64-requires t c κs = search needs
@@ -292,22 +346,35 @@ total-same-length : (t : ℕ) → total-lts.Need-same-length (total-callees t) (
 total-same-length t c = search needs
 
 total-returns : (t : ℕ) → total-lts.Need-returns (total-callees t) (total-at t) total.Post total-Inv-loop total-μ-loop
-total-returns t c = let s0 = c .before .before .before .before .before .before .before .before .before .before .before .before .before .before .before .before in let s1 = c .before .before .before .before .before .before .before .before .before .before .before .before in let s2 = c .before .before .before .before .before .before .before .before .before in let s3 = c .before .before .before .before .before .before .before in let s4 = c .before .before .before .before in choosing.summed-stuck (s0 .args .seat) (s0 .args .depth) (s0 .args .heads) (s0 .args .units) (s0 .args .kept) (s0 .args .first) (s0 .args .action) (now (s0 .args .w)) (s1 .loop .w) (s3 .below .last .0) (s1 .loop .at) (s1 .loop .sum) (s2 .child .result) (s3 .below .result) (s4 .wrapping-add-u64 .result) (c .before .later .result) (s1 .loop .inv .0) (c .before .before .before .before .before .before .before .before .before .before .before .loop-test .taken) (s2 .child .ensures) (s3 .below .ensures) (s4 .wrapping-add-u64 .ensures) (c .before .later .ensures ∙ ap laterOf (c .before .before .word2 .ensures)) (c .if1 .taken)
+total-returns t c = let s4 = c .before in let s3 = s4 .before .before .before in let s2 = s3 .before .before .before in let s1 = s2 .before .before in
+    let s0 = s1 .before .before .before in let a = s0 .before .before .before .before .args in
+    choosing.summed-stuck a.seat a.depth a.heads a.units a.kept a.first a.action (now a.w) s0.loop.w s2.below.last.0 s0.loop.at s0.loop.sum
+    s1.child.result s2.below.result s3.wrapping-add-u64.result s4.later.result s0.loop.inv.0 s1.before.before.loop-test.taken s1.child.ensures
+    s2.below.ensures s3.wrapping-add-u64.ensures (s4.later.ensures ∙ ap laterOf s4.before.word2.ensures) c.if1.taken
 
 total-loop-less : (t : ℕ) → total-lts.Need-loop-less (total-callees t) (total-at t) total.Post total-Inv-loop total-μ-loop
-total-loop-less t c = omega (arith, c .if1 .left, c .before .before .before .before .before .before .before .before .before .before .before .before .loop .inv .1)
+total-loop-less t c = omega (arith, c.if1.left, c.before.before.before.before.before.before.before.before.before.before.before.before.loop.inv.1)
 
 total-loop-again : (t : ℕ) → total-lts.Need-loop-again (total-callees t) (total-at t) total.Post total-Inv-loop total-μ-loop
-total-loop-again t c = let s0 = c .before .before .before .before .before .before .before .before .before .before .before .before .before .before .before .before in let s1 = c .before .before .before .before .before .before .before .before .before .before .before .before in let s2 = c .before .before .before .before .before .before .before .before .before in let s3 = c .before .before .before .before .before .before .before in let s4 = c .before .before .before .before in (choosing.summed-more (s0 .args .seat) (s0 .args .depth) (s0 .args .heads) (s0 .args .units) (s0 .args .kept) (s0 .args .first) (s0 .args .action) (now (s0 .args .w)) (s1 .loop .w) (s3 .below .last .0) (s1 .loop .at) (s1 .loop .sum) (s2 .child .result) (s3 .below .result) (s4 .wrapping-add-u64 .result) (c .before .later .result) (s1 .loop .inv .0) (c .before .before .before .before .before .before .before .before .before .before .before .loop-test .taken) (s2 .child .ensures) (s3 .below .ensures) (s4 .wrapping-add-u64 .ensures) (c .before .later .ensures ∙ ap laterOf (c .before .before .word2 .ensures)), omega (arith, c .before .later .ensures), omega (arith, s3 .below .kept .0, s1 .loop .inv .2))
+total-loop-again t c = let s4 = c .before in let s3 = s4 .before .before .before in let s2 = s3 .before .before .before in
+    let s1 = s2 .before .before in let s0 = s1 .before .before .before in let a = s0 .before .before .before .before .args in (
+      choosing.summed-more a.seat a.depth a.heads a.units a.kept a.first a.action (now a.w) s0.loop.w s2.below.last.0 s0.loop.at s0.loop.sum
+          s1.child.result s2.below.result s3.wrapping-add-u64.result s4.later.result s0.loop.inv.0 s1.before.before.loop-test.taken s1.child.ensures
+          s2.below.ensures s3.wrapping-add-u64.ensures (s4.later.ensures ∙ ap laterOf s4.before.word2.ensures),
+      omega (arith, s4.later.ensures),
+      omega (arith, s2.below.kept.0, s0.loop.inv.2),
+    )
 
 total-same-length-2 : (t : ℕ) → total-lts.Need-same-length-2 (total-callees t) (total-at t) total.Post total-Inv-loop total-μ-loop
 total-same-length-2 t c = search needs
 
 total-returns-2 : (t : ℕ) → total-lts.Need-returns-2 (total-callees t) (total-at t) total.Post total-Inv-loop total-μ-loop
-total-returns-2 t c = let s0 = c .before .before .before .before .before in choosing.summed-end (s0 .args .seat) (s0 .args .depth) (s0 .args .heads) (s0 .args .units) (s0 .args .kept) (s0 .args .first) (s0 .args .action) (now (s0 .args .w)) (c .before .loop .w) (c .before .loop .at) (c .before .loop .sum) (c .before .loop .inv .0) (λ l. omega (arith, l, c .loop-test .left))
+total-returns-2 t c = let s0 = c .before in let a = s0 .before .before .before .before .args in
+    choosing.summed-end a.seat a.depth a.heads a.units a.kept a.first a.action (now a.w) s0.loop.w s0.loop.at s0.loop.sum s0.loop.inv.0
+    (λ l. omega (arith, l, c.loop-test.left))
 
 value-returns : (t : ℕ) → value-lts.Need-returns (value-callees t) (value-at t) value.Post
-value-returns t c = valuing.value-none (c .before .before .args .seat) (c .before .before .args .depth) (c .before .before .args .heads) (c .before .before .args .units) (c .before .before .args .kept) (c .before .before .args .a) (now (c .before .before .args .w)) 0 (c .if1 .taken)
+value-returns t c = let a = c .before .before .args in valuing.value-none a.seat a.depth a.heads a.units a.kept a.a (now a.w) 0 c.if1.taken
 
 value-word-requires : (t : ℕ) → value-lts.Need-word-requires (value-callees t) (value-at t) value.Post
 value-word-requires t c κs = search needs
@@ -316,161 +383,111 @@ value-kind-requires : (t : ℕ) → value-lts.Need-kind-requires (value-callees 
 value-kind-requires t c κs = search needs
 
 value-ended-requires : (t : ℕ) → value-lts.Need-ended-requires (value-callees t) (value-at t) value.Post
-value-ended-requires t c κs = let s0 = c .before .before .before .before .before .before .before in (s0 .pre .1 .seat, omega (arith, s0 .pre .1 .place, s0 .pre .1 .units))
+value-ended-requires t c κs = let s0 = c .before .before .before .before .before .before .before in
+    (s0.pre.1.seat, omega (arith, s0.pre.1.place, s0.pre.1.units))
 
 value-same-length : (t : ℕ) → value-lts.Need-same-length (value-callees t) (value-at t) value.Post
 value-same-length t c = search needs
 
 value-returns-2 : (t : ℕ) → value-lts.Need-returns-2 (value-callees t) (value-at t) value.Post
-value-returns-2 t c = let s0 = c .before .before .before .before .before .before .before .before in let s1 = c .before .before .before .before in valuing.value-ended (s0 .args .seat) (s0 .args .depth) (s0 .args .heads) (s0 .args .units) (s0 .args .kept) (s0 .args .a) (now (s0 .args .w)) (s1 .word .result) (s1 .word .ensures) _ (sym (c .before .before .before .kind .ensures) ∙ c .before .before .if2 .taken) (c .ended .ensures)
+value-returns-2 t c = let s1 = c .before .before in let s0 = s1 .before .before in let a = s0 .before .before .before .before .args in
+    valuing.value-ended a.seat a.depth a.heads a.units a.kept a.a (now a.w) s0.word.result s0.word.ensures _
+    (sym s1.before.kind.ensures ∙ s1.if2.taken) c.ended.ensures
 
 value-add-row : (t : ℕ) → value-lts.Need-add-row (value-callees t) (value-at t) value.Post
-value-add-row t c = record { fits = omega (arith, c .before .before .before .before .before .before .before .before .pre .1 .place) }
+value-add-row t c = record { fits = omega (arith, c.before.before.before.before.before.before.before.before.pre.1.place) }
 
 value-next-requires : (t : ℕ) → value-lts.Need-next-requires (value-callees t) (value-at t) value.Post
 value-next-requires t c κs = search needs
 
 value-sub-row : (t : ℕ) → value-lts.Need-sub-row (value-callees t) (value-at t) value.Post
-value-sub-row t c = omega (arith, c .before .before .before .before .before .before .before .if1 .left)
+value-sub-row t c = omega (arith, c.before.before.before.before.before.before.before.if1.left)
 
 value-row-requires : (t : ℕ) → value-lts.Need-row-requires (value-callees t) (value-at t) value.Post
-value-row-requires t c κs = let s0 = c .before .before .before .before .before .before .before .before .before in let s1 = c .before .before .before .before .before .before .before in (omega (arith, s0 .pre .0, s1 .if1 .left), valuing.walk-at (s0 .args .a) (s0 .args .seat) (s0 .args .depth) (s0 .args .heads) (s0 .args .units) (s0 .args .kept) (s0 .pre .1) (s0 .args .a + 1) (s0 .args .depth - 1) (omega arith) (omega (arith, s0 .pre .1 .place, s1 .if1 .left)))
+value-row-requires t c κs = let s1 = c .before .before .before .before .before .before .before in let s0 = s1 .before .before in let a = s0 .args in (
+  omega (arith, s0.pre.0, s1.if1.left),
+  valuing.walk-at a.a a.seat a.depth a.heads a.units a.kept s0.pre.1 (a.a + 1) (a.depth - 1) (omega arith)
+      (omega (arith, s0.pre.1.place, s1.if1.left)),
+)
 
 value-same-length-2 : (t : ℕ) → value-lts.Need-same-length-2 (value-callees t) (value-at t) value.Post
 value-same-length-2 t c = search needs
 
 value-returns-3 : (t : ℕ) → value-lts.Need-returns-3 (value-callees t) (value-at t) value.Post
-value-returns-3 t c = let s0 = c .before .before .before .before .before .before .before .before .before .before .before .before in let s1 = c .before .before .before .before .before .before .before .before in let s2 = c .before .before .before .before .before .before .before in valuing.value-chance (s0 .args .seat) (s0 .args .depth) (s0 .args .heads) (s0 .args .units) (s0 .args .kept) (s0 .args .a) (now (s0 .args .w)) (s1 .word .result) (s1 .word .ensures) (c .before .before .row .last .0) (c .before .before .row .result) (λ q. c .before .before .before .before .before .before .if2 .left (s2 .kind .ensures ∙ q)) (λ q. c .before .before .before .before .before .if3 .taken (s2 .kind .ensures ∙ q)) (subst (λ z. ValuedAll (s0 .args .seat) (s0 .args .depth - 1) (s0 .args .heads) (s0 .args .units) (s0 .args .kept) (s0 .args .a + 1) z (now (s0 .args .w)) (c .before .before .row .last .0) (c .before .before .row .result)) (c .before .before .before .next .ensures) (c .before .before .row .ensures))
+value-returns-3 t c = let s2 = c .before .before in let s1 = s2 .before .before .before in let s0 = s1 .before .before in
+    let a = s0 .before .before .before .before .before .args in
+    valuing.value-chance a.seat a.depth a.heads a.units a.kept a.a (now a.w) s0.before.word.result s0.before.word.ensures s2.row.last.0 s2.row.result
+    (λ q. s1.before.if2.left (s0.kind.ensures ∙ q)) (λ q. s1.if3.taken (s0.kind.ensures ∙ q)) (subst (λ z. ValuedAll a.seat (a.depth - 1) a.heads
+    a.units a.kept (a.a + 1) z (now a.w) s2.row.last.0 s2.row.result) s2.before.next.ensures s2.row.ensures)
 
 value-actor-requires : (t : ℕ) → value-lts.Need-actor-requires (value-callees t) (value-at t) value.Post
 value-actor-requires t c κs = search needs
 
 value-add-row-2 : (t : ℕ) → value-lts.Need-add-row-2 (value-callees t) (value-at t) value.Post
-value-add-row-2 t c = record { fits = omega (arith, c .before .before .before .before .before .before .before .before .before .before .pre .1 .place) }
+value-add-row-2 t c = record { fits = omega (arith, c.before.before.before.before.before.before.before.before.before.before.pre.1.place) }
 
 value-next-requires-2 : (t : ℕ) → value-lts.Need-next-requires-2 (value-callees t) (value-at t) value.Post
 value-next-requires-2 t c κs = search needs
 
 value-sub-row-2 : (t : ℕ) → value-lts.Need-sub-row-2 (value-callees t) (value-at t) value.Post
-value-sub-row-2 t c = omega (arith, c .before .before .before .before .before .before .before .before .before .if1 .left)
+value-sub-row-2 t c = omega (arith, c.before.before.before.before.before.before.before.before.before.if1.left)
 
 value-row-requires-2 : (t : ℕ) → value-lts.Need-row-requires-2 (value-callees t) (value-at t) value.Post
-value-row-requires-2 t c κs = let s0 = c .before .before .before .before .before .before .before .before .before .before .before in let s1 = c .before .before .before .before .before .before .before .before .before in (omega (arith, s0 .pre .0, s1 .if1 .left), valuing.walk-at (s0 .args .a) (s0 .args .seat) (s0 .args .depth) (s0 .args .heads) (s0 .args .units) (s0 .args .kept) (s0 .pre .1) (s0 .args .a + 1) (s0 .args .depth - 1) (omega arith) (omega (arith, s0 .pre .1 .place, s1 .if1 .left)))
+value-row-requires-2 t c κs = let s1 = c .before .before .before .before .before .before .before .before .before in let s0 = s1 .before .before in (
+  omega (arith, s0.pre.0, s1.if1.left),
+  valuing.walk-at s0.args.a s0.args.seat s0.args.depth s0.args.heads s0.args.units s0.args.kept s0.pre.1 (s0.args.a + 1) (s0.args.depth - 1)
+      (omega arith) (omega (arith, s0.pre.1.place, s1.if1.left)),
+)
 
 value-same-length-3 : (t : ℕ) → value-lts.Need-same-length-3 (value-callees t) (value-at t) value.Post
 value-same-length-3 t c = search needs
 
 value-returns-4 : (t : ℕ) → value-lts.Need-returns-4 (value-callees t) (value-at t) value.Post
-value-returns-4 t c = let s0 = c .before .before .before .before .before .before .before .before .before .before .before .before .before .before in let s1 = c .before .before .before .before .before .before .before .before .before .before in valuing.value-other (s0 .args .seat) (s0 .args .depth) (s0 .args .heads) (s0 .args .units) (s0 .args .kept) (s0 .args .a) (now (s0 .args .w)) (s1 .word .result) (s1 .word .ensures) (c .before .before .row2 .last .0) (c .before .before .row2 .result) (sym (c .before .before .before .before .before .before .before .before .before .kind .ensures) ∙ c .before .before .before .before .before .before .before .if3 .left) (λ q. c .before .before .before .before .before .if4 .taken (c .before .before .before .before .before .before .actor .ensures ∙ q)) (subst (λ z. ValuedAll (s0 .args .seat) (s0 .args .depth - 1) (s0 .args .heads) (s0 .args .units) (s0 .args .kept) (s0 .args .a + 1) z (now (s0 .args .w)) (c .before .before .row2 .last .0) (c .before .before .row2 .result)) (c .before .before .before .next2 .ensures) (c .before .before .row2 .ensures))
+value-returns-4 t c = let s2 = c .before .before in let s1 = s2 .before .before .before in let s0 = s1 .before .before .before .before in
+    let a = s0 .before .before .before .before .before .args in
+    valuing.value-other a.seat a.depth a.heads a.units a.kept a.a (now a.w) s0.before.word.result s0.before.word.ensures s2.row2.last.0 s2.row2.result
+    (sym s0.kind.ensures ∙ s1.before.before.if3.left) (λ q. s1.if4.taken (s1.before.actor.ensures ∙ q)) (subst (λ z. ValuedAll a.seat (a.depth - 1)
+    a.heads a.units a.kept (a.a + 1) z (now a.w) s2.row2.last.0 s2.row2.result) s2.before.next2.ensures s2.row2.ensures)
 
 value-sub-own : (t : ℕ) → value-lts.Need-sub-own (value-callees t) (value-at t) value.Post
-value-sub-own t c = omega (arith, c .before .before .before .before .before .before .before .before .if1 .left)
+value-sub-own t c = omega (arith, c.before.before.before.before.before.before.before.before.if1.left)
 
 value-own-requires : (t : ℕ) → value-lts.Need-own-requires (value-callees t) (value-at t) value.Post
-value-own-requires t c κs = let s0 = c .before .before .before .before .before .before .before .before .before .before in let s1 = c .before .before .before .before .before .before .before .before in (omega (arith, s0 .pre .0, s1 .if1 .left), valuing.walk-at (s0 .args .a) (s0 .args .seat) (s0 .args .depth) (s0 .args .heads) (s0 .args .units) (s0 .args .kept) (s0 .pre .1) (s0 .args .a + 1) (s0 .args .depth - 1) (omega arith) (omega (arith, s0 .pre .1 .place, s1 .if1 .left)))
+value-own-requires t c κs = let s1 = c .before .before .before .before .before .before .before .before in let s0 = s1 .before .before in (
+  omega (arith, s0.pre.0, s1.if1.left),
+  valuing.walk-at s0.args.a s0.args.seat s0.args.depth s0.args.heads s0.args.units s0.args.kept s0.pre.1 (s0.args.a + 1) (s0.args.depth - 1)
+      (omega arith) (omega (arith, s0.pre.1.place, s1.if1.left)),
+)
 
 value-same-length-4 : (t : ℕ) → value-lts.Need-same-length-4 (value-callees t) (value-at t) value.Post
 value-same-length-4 t c = search needs
 
 value-returns-5 : (t : ℕ) → value-lts.Need-returns-5 (value-callees t) (value-at t) value.Post
-value-returns-5 t c = let s0 = c .before .before .before .before .before .before .before .before .before .before .before .before .before in let s1 = c .before .before .before .before .before .before .before .before .before in valuing.value-own (s0 .args .seat) (s0 .args .depth) (s0 .args .heads) (s0 .args .units) (s0 .args .kept) (s0 .args .a) (now (s0 .args .w)) (s1 .word .result) (s1 .word .ensures) (c .before .before .own .last .0) (c .before .before .own .result) (sym (c .before .before .before .before .before .before .before .before .kind .ensures) ∙ c .before .before .before .before .before .before .if3 .left) (sym (c .before .before .before .before .before .actor .ensures) ∙ c .before .before .before .before .if4 .left) (c .before .before .own .ensures)
+value-returns-5 t c = let s2 = c .before .before in let s1 = s2 .before .before in let s0 = s1 .before .before .before .before in
+    let a = s0 .before .before .before .before .before .args in
+    valuing.value-own a.seat a.depth a.heads a.units a.kept a.a (now a.w) s0.before.word.result s0.before.word.ensures s2.own.last.0 s2.own.result
+    (sym s0.kind.ensures ∙ s1.before.before.if3.left) (sym s1.before.actor.ensures ∙ s1.if4.left) s2.own.ensures
 
 pub +below+choose+own+row+total+value-spec : {M : Type 1} → statement M
 +below+choose+own+row+total+value-spec =
-    close μ-below μ-choose μ-own μ-row μ-total μ-value (λ t. below-lts.spec (below-callees t) (below-at t)
-    below.Post
-    (below-word-requires t)
-    (below-kind-requires t)
-    (below-ended-requires t)
-    (below-same-length t)
-    (below-returns t)
-    (below-value-requires t)
-    (below-same-length-2 t)
-    (below-returns-2 t))
-    (λ t. choose-lts.spec (choose-callees t) (choose-at t)
-    choose.Post
-    choose-Inv-loop
-    choose-μ-loop
-    (choose-add-word t)
-    (choose-word-requires t)
-    (choose-sub-result t)
-    (choose-same-length t)
-    (choose-returns t)
-    (choose-start-requires t)
-    (choose-loop-holds t)
-    (choose-total-requires t)
-    (choose-past-requires t)
-    (choose-add-action t)
-    (choose-loop-less t)
-    (choose-loop-again t)
-    (choose-add-put t)
-    (choose-add-put-2 t)
-    (choose-put-requires t)
-    (choose-same-length-2 t)
-    (choose-returns-2 t))
-    (λ t. own-lts.spec (own-callees t) (own-at t)
-    own.Post
-    (own-set-requires t)
-    (own-actions-requires t)
-    (own-choose-requires t)
-    (own-child-requires t)
-    (own-below-requires t)
-    (own-same-length t)
-    (own-returns t))
-    (λ t. row-lts.spec (row-callees t) (row-at t)
-    row.Post
-    row-Inv-loop
-    row-μ-loop
-    (row-loop-holds t)
-    (row-below-requires t)
-    (row-wrapping-add-u64-requires t)
-    (row-behind-requires t)
-    (row-same-length t)
-    (row-returns t)
-    (row-loop-less t)
-    (row-loop-again t)
-    (row-same-length-2 t)
-    (row-returns-2 t))
-    (λ t. total-lts.spec (total-callees t) (total-at t)
-    total.Post
-    total-Inv-loop
-    total-μ-loop
-    (total-add-word t)
-    (total-word-requires t)
-    (total-loop-holds t)
-    (total-child-requires t)
-    (total-below-requires t)
-    (total-wrapping-add-u64-requires t)
-    (total-word-requires-2 t)
-    (total-later-requires t)
-    (total-same-length t)
-    (total-returns t)
-    (total-loop-less t)
-    (total-loop-again t)
-    (total-same-length-2 t)
-    (total-returns-2 t))
-    λ t. value-lts.spec (value-callees t) (value-at t)
-    value.Post
-    (value-returns t)
-    (value-word-requires t)
-    (value-kind-requires t)
-    (value-ended-requires t)
-    (value-same-length t)
-    (value-returns-2 t)
-    (value-add-row t)
-    (value-next-requires t)
-    (value-sub-row t)
-    (value-row-requires t)
-    (value-same-length-2 t)
-    (value-returns-3 t)
-    (value-actor-requires t)
-    (value-add-row-2 t)
-    (value-next-requires-2 t)
-    (value-sub-row-2 t)
-    (value-row-requires-2 t)
-    (value-same-length-3 t)
-    (value-returns-4 t)
-    (value-sub-own t)
-    (value-own-requires t)
-    (value-same-length-4 t)
+    close μ-below μ-choose μ-own μ-row μ-total μ-value
+    (λ t. below-lts.spec (below-callees t) (below-at t) below.Post (below-word-requires t) (below-kind-requires t) (below-ended-requires t)
+    (below-same-length t) (below-returns t) (below-value-requires t) (below-same-length-2 t) (below-returns-2 t))
+    (λ t. choose-lts.spec (choose-callees t) (choose-at t) choose.Post choose-Inv-loop choose-μ-loop (choose-add-word t) (choose-word-requires t)
+    (choose-sub-result t) (choose-same-length t) (choose-returns t) (choose-start-requires t) (choose-loop-holds t) (choose-total-requires t)
+    (choose-past-requires t) (choose-add-action t) (choose-loop-less t) (choose-loop-again t) (choose-add-put t) (choose-add-put-2 t)
+    (choose-put-requires t) (choose-same-length-2 t) (choose-returns-2 t))
+    (λ t. own-lts.spec (own-callees t) (own-at t) own.Post (own-set-requires t) (own-actions-requires t) (own-choose-requires t) (own-child-requires
+    t) (own-below-requires t) (own-same-length t) (own-returns t))
+    (λ t. row-lts.spec (row-callees t) (row-at t) row.Post row-Inv-loop row-μ-loop (row-loop-holds t) (row-below-requires t)
+    (row-wrapping-add-u64-requires t) (row-behind-requires t) (row-same-length t) (row-returns t) (row-loop-less t) (row-loop-again t)
+    (row-same-length-2 t) (row-returns-2 t))
+    (λ t. total-lts.spec (total-callees t) (total-at t) total.Post total-Inv-loop total-μ-loop (total-add-word t) (total-word-requires t)
+    (total-loop-holds t) (total-child-requires t) (total-below-requires t) (total-wrapping-add-u64-requires t) (total-word-requires-2 t)
+    (total-later-requires t) (total-same-length t) (total-returns t) (total-loop-less t) (total-loop-again t) (total-same-length-2 t) (total-returns-2
+    t))
+    λ t. value-lts.spec (value-callees t) (value-at t) value.Post (value-returns t) (value-word-requires t) (value-kind-requires t)
+    (value-ended-requires t) (value-same-length t) (value-returns-2 t) (value-add-row t) (value-next-requires t) (value-sub-row t) (value-row-requires
+    t) (value-same-length-2 t) (value-returns-3 t) (value-actor-requires t) (value-add-row-2 t) (value-next-requires-2 t) (value-sub-row-2 t)
+    (value-row-requires-2 t) (value-same-length-3 t) (value-returns-4 t) (value-sub-own t) (value-own-requires t) (value-same-length-4 t)
     (value-returns-5 t)
