@@ -144,12 +144,19 @@ module _ (n dealt bound : ℕ) (cards more : List ℕ) (inside : dealt < length 
         none-left : n - suc dealt ≡ 0
         none-left = omega arith
 
+    pub full-length : dealt + 1 ≡ n → length (nextDeals n dealt (take dealt cards) bound) ≡ length lower + length (recordsOf n (take n more) (histories n))
+    full-length e = ap length (parts-full e) ∙ length-append lower (recordsOf n (take n more) (histories n))
+
     pub parts-more : dealt < n → (dealt + 1 ≡ n → ⊥) → nextDeals n dealt (take dealt cards) bound ≡ lower ++ nextDeals n (dealt + 1) (take (dealt + 1) more) (n + 1)
     unfolding dealRecords nextDeals remaining
     parts-more l f = deals-left n dealt (take dealt cards) bound some-bound low free ∙ ap (λ r. lower ++ r) (ap₂ (λ k r. dealRecords n k r) one-less more-cards)
       where
         one-less : n - suc dealt ≡ suc (n - suc (dealt + 1))
         one-less = omega arith
+
+    pub more-length : dealt < n → (dealt + 1 ≡ n → ⊥)
+        → length (nextDeals n dealt (take dealt cards) bound) ≡ length lower + length (nextDeals n (dealt + 1) (take (dealt + 1) more) (n + 1))
+    more-length l f = ap length (parts-more l f) ∙ length-append lower (nextDeals n (dealt + 1) (take (dealt + 1) more) (n + 1))
 
 -- ---- the node with cards of n seats and so many actions of an array
 module _ (n acted : ℕ) (cards history : List ℕ) (one : 1 ≤ n) (whole : acted ≤ length history) where

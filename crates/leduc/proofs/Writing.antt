@@ -50,3 +50,12 @@ module _ (s : LeducState) (t : ℕ) (one : length (roundOne s) ≡ s .acted1) (t
   pub key-length : length (key-of s t) ≡ 5 + s .acted1 + s .acted2
   unfolding key
   key-length = omega (arith, length-append (roundOne s) (length (roundTwo s) ∷ roundTwo s), one, two)
+
+  -- the key as it is written, from what its parts come to: a is the head, b the second round
+  pub key-written : (a b out o₁ o₂ o₃ o₄ : List ℕ) (n : ℕ) → a ≡ head-of → b ≡ roundTwo s → n ≡ s .acted2 → o₁ ≡ paste out 0 a (length a)
+      → o₂ ≡ paste o₁ 4 (roundOne s) (length (roundOne s)) → o₃ ≡ paste o₂ (4 + s .acted1) (n ∷ []) (length (n ∷ []))
+      → o₄ ≡ paste o₃ (5 + s .acted1) b (length b) → o₄ ≡ at-front (key-of s t) out
+  key-written a b out o₁ o₂ o₃ o₄ n e f g e₁ e₂ e₃ e₄ =
+      let h = ap length e in let ab = length-append a (roundOne s) in let abc = length-append (a ++ roundOne s) (n ∷ []) in
+      write-four a (roundOne s) (n ∷ []) b out o₁ o₂ o₃ o₄ 4 (4 + s .acted1) (5 + s .acted1) h (omega arith) (omega arith) e₁ e₂ e₃ e₄
+      ∙ ap (λ l. at-front l out) (ap₂ (λ x y. x ++ roundOne s ++ (y ∷ []) ++ b) e g ∙ ap (λ d. head-of ++ roundOne s ++ (s .acted2 ∷ []) ++ d) f ∙ key-parts)

@@ -2,10 +2,10 @@
 use mathlib.Core.Path.{refl, sym, _∙_}
 use native.Mathlib.Omega.{arith}
 use borrow.Author.Needs.{needs}
-use lib.ListN.{take}
+use lib.ListN.{length, take}
 use Rattle.listing_records.proofs.Bytes.{wrote-nothing}
 use Rattle.kuhn_listing.proofs.Steps.{hand-none, hand-over, hand-length, wrote-hand}
-use Prim.Native.Nat.{ℕ, _<_}
+use Prim.Native.Nat.{ℕ, _+_, _-_, _≤_, _<_}
 use borrow.Fn.Kinds.{In}
 use borrow.Fn.PlainCycle.{Measures, is, falls, and}
 use Rattle.kuhn_listing.proofs.list_hand.Reads as list-hand
@@ -29,6 +29,10 @@ list-hand-below t =
 
 abbrev list-hand-callees : ℕ → list-hand-lts.Claims
 list-hand-callees t = (is-terminal-reads.Asked, is-terminal-reads.Learnt, write-first-reads.Asked, write-first-reads.Learnt, with-action-reads.Asked, with-action-reads.Learnt, list-hand-below t, list-hand.Post)
+
+-- where the walk goes on the array has a place for one action more
+room : (t : ℕ) (s : list-hand-lts.Else1 (list-hand-callees t) (list-hand-at t) list-hand.Post) → let a = s .before .before .args in a.acted < length a.t5
+room t s = let s0 = s .before .before in let v : s0.args.acted < 11 = omega (arith, s0.pre.1.0.2, s.if1.left) in search (needs, s0.good.1.1.1.1.0)
 
 list-hand-returns : (t : ℕ) → list-hand-lts.Need-returns (list-hand-callees t) (list-hand-at t) list-hand.Post
 list-hand-returns t c = let a = c .before .before .args in wrote-nothing (hand-none a.n (take a.n a.cards) _ (take a.acted a.t5) c.if1.taken)
@@ -59,13 +63,11 @@ list-hand-sub-list-hand : (t : ℕ) → list-hand-lts.Need-sub-list-hand (list-h
 list-hand-sub-list-hand t c = search needs
 
 list-hand-list-hand-requires : (t : ℕ) → list-hand-lts.Need-list-hand-requires (list-hand-callees t) (list-hand-at t) list-hand.Post
-list-hand-list-hand-requires t c κs = let s3 = c .before .before .before .before in let s2 = s3 .before .before in let s1 = s2 .before .before .before in
-    let s0 = s1 .before .before in let a = s0 .args in let v : a.acted < 11 = omega (arith, s0.pre.1.0.2, s1.if1.left) in
-    let h = hand-length a.n (take a.n a.cards) a.t5 a.acted a.left (search (needs, s0.good.1.1.1.1.0)) s1.if1.left
-    (sym s2.before.is-terminal.ensures ∙ s2.if2.left) _ _ c.before.with-action.ensures refl in (
-      omega (arith, s0.pre.0, s1.if1.left),
-      ((s0.pre.1.0.0, s0.pre.1.0.1, omega arith, s0.pre.1.0.3), omega (arith, s0.pre.1.1, s3.write-first.kept.0, s3.write-first.ensures.next)),
-    )
+list-hand-list-hand-requires t c κs = let s3 = c .before .before .before .before in let s2 = s3 .before .before in
+    let s1 = s2 .before .before .before in let s0 = s1 .before .before in let a = s0 .args in let here = s3 .write-first in
+    let h = hand-length a.n (take a.n a.cards) a.t5 a.acted a.left (room t s1) s1.if1.left (sym s2.before.is-terminal.ensures ∙ s2.if2.left) _ _
+    c.before.with-action.ensures refl in let few : a.acted + 1 + (a.left - 1) ≤ 11 = omega (arith, s0.pre.1.0.2, s1.if1.left) in
+    (omega (arith, s0.pre.0, s1.if1.left), ((s0.pre.1.0.0, s0.pre.1.0.1, few, s0.pre.1.0.3), omega (arith, s0.pre.1.1, here.kept.0, here.ensures.next)))
 
 list-hand-with-action-requires-2 : (t : ℕ) → list-hand-lts.Need-with-action-requires-2 (list-hand-callees t) (list-hand-at t) list-hand.Post
 list-hand-with-action-requires-2 t c κs = search needs
@@ -79,15 +81,11 @@ list-hand-sub-list-hand-2 t c = search needs
 list-hand-list-hand-requires-2 : (t : ℕ) → list-hand-lts.Need-list-hand-requires-2 (list-hand-callees t) (list-hand-at t) list-hand.Post
 list-hand-list-hand-requires-2 t c κs = let s4 = c .before .before .before .before in let s3 = s4 .before .before .before .before .before in
     let s2 = s3 .before .before in let s1 = s2 .before .before .before in let s0 = s1 .before .before in let a = s0 .args in
-    let v : a.acted < 11 = omega (arith, s0.pre.1.0.2, s1.if1.left) in
-    let h = hand-length a.n (take a.n a.cards) a.t5 a.acted a.left (search (needs, s0.good.1.1.1.1.0)) s1.if1.left
-    (sym s2.before.is-terminal.ensures ∙ s2.if2.left) _ _ s4.before.before.with-action.ensures c.before.with-action2.ensures in
-    let here = s3.write-first in let passed = s4.list-hand in (
+    let h = hand-length a.n (take a.n a.cards) a.t5 a.acted a.left (room t s1) s1.if1.left (sym s2.before.is-terminal.ensures ∙ s2.if2.left) _ _
+    s4.before.before.with-action.ensures c.before.with-action2.ensures in let here = s3 .write-first in let passed = s4 .list-hand in
+    let few : a.acted + 1 + (a.left - 1) ≤ 11 = omega (arith, s0.pre.1.0.2, s1.if1.left) in (
       omega (arith, s0.pre.0, s1.if1.left),
-      (
-        (s0.pre.1.0.0, s0.pre.1.0.1, omega arith, s0.pre.1.0.3),
-        omega (arith, s0.pre.1.1, here.kept.0, here.ensures.next, passed.kept.0, passed.ensures.next),
-      ),
+      ((s0.pre.1.0.0, s0.pre.1.0.1, few, s0.pre.1.0.3), omega (arith, s0.pre.1.1, here.kept.0, here.ensures.next, passed.kept.0, passed.ensures.next)),
     )
 
 list-hand-same-length : (t : ℕ) → list-hand-lts.Need-same-length (list-hand-callees t) (list-hand-at t) list-hand.Post
@@ -97,8 +95,7 @@ list-hand-returns-3 : (t : ℕ) → list-hand-lts.Need-returns-3 (list-hand-call
 list-hand-returns-3 t c = let s5 = c .before .before .before .before in let s4 = s5 .before .before .before in
     let s3 = s4 .before .before .before .before .before in let s2 = s3 .before .before in let s1 = s2 .before .before .before in
     let s0 = s1 .before .before in let a = s0 .args in
-    wrote-hand a.n (take a.n a.cards) a.t5 a.acted a.left (let v : a.acted < 11 = omega (arith, s0.pre.1.0.2, s1.if1.left) in
-    search (needs, s0.good.1.1.1.1.0)) s1.if1.left (sym s2.before.is-terminal.ensures ∙ s2.if2.left) s4.before.before.with-action.ensures
+    wrote-hand a.n (take a.n a.cards) a.t5 a.acted a.left (room t s1) s1.if1.left (sym s2.before.is-terminal.ensures ∙ s2.if2.left) s4.before.before.with-action.ensures
     s5.with-action2.ensures s3.write-first.ensures s4.list-hand.ensures c.before.before.list-hand2.ensures
 
 pub +list-hand-spec : {M : Type 1} → statement M

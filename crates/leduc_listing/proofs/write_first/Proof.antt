@@ -1,10 +1,8 @@
 -- The record of a spot that is the first of its set. Assumes nothing.
-use mathlib.Core.Bool.{true}
 use mathlib.Core.Path.{_≡_, sym, ap, _∙_}
 use native.Mathlib.Omega.{arith}
 use lib.ListN.{length, take}
 use borrow.Author.Tests.{not-true, not-false}
-use Rattle.leduc_tree.specs.Follows.{acts}
 use Rattle.listing_records.specs.Listing.{padded}
 use Rattle.listing_records.proofs.Bytes.{wrote-nothing}
 use Rattle.leduc_listing_positions.specs.Spots.{placed}
@@ -18,12 +16,10 @@ use Rattle.leduc_listing.proofs.write_first.Tie as tie
 lengths : (s : tie.Start) → (length s.args.s.cards ≡ 2) × (length s.args.s.first ≡ 11) × (length s.args.s.second ≡ 11)
 lengths s = (search needs, search needs, search needs)
 
--- a seat acts, and then two cards are dealt
-turn : (s : tie.Else1) → acts (placed s.before.before.before.args.s) ≡ true
-turn s = sym s.before.seat-acts.ensures ∙ not-false _ s.if1.left
-
+-- where a seat acts two cards are dealt
 two : (s : tie.Else1) → s.before.before.before.args.s.dealt ≡ 2
-two s = let s0 = s .before .before .before in let len = lengths s0 in two-dealt s0.args.s s0.pre.0.seats (omega arith) (turn s)
+two s = let s0 = s .before .before .before in let len = lengths s0 in
+    two-dealt s0.args.s s0.pre.0.seats (omega arith) (sym s.before.seat-acts.ensures ∙ not-false _ s.if1.left)
 
 seat-acts-requires : tie.Need-seat-acts-requires
 seat-acts-requires c κs = search needs
@@ -39,7 +35,8 @@ is-first-requires c κs = (two c.before, c.seat-to-act.ensures.0, c.seat-to-act.
 
 returns-2 : tie.Need-returns-2
 returns-2 c = let s0 = c .before .before .before in
-    wrote-nothing (node-later (placed s0.before.before.before.args.s) (turn s0) (sym c.before.is-first.ensures ∙ not-true _ c.if2.taken))
+    wrote-nothing (node-later (placed s0.before.before.before.args.s) (sym s0.before.seat-acts.ensures ∙ not-false _ s0.if1.left)
+    (sym c.before.is-first.ensures ∙ not-true _ c.if2.taken))
 
 key-of-requires : tie.Need-key-of-requires
 key-of-requires c κs = let s1 = c .before .before .before in let s0 = s1 .before in
@@ -74,7 +71,8 @@ cast-put-record-3 c = search needs
 
 put-record-requires : tie.Need-put-record-requires
 put-record-requires c κs = let s1 = c .before .before .before .before .before .before .before .before in let s0 = s1 .before .before .before in
-    let h = node-length (placed s0.before.before.before.args.s) (turn s0) (sym s1.before.is-first.ensures ∙ not-false _ s1.if2.left) in
+    let h = node-length (placed s0.before.before.before.args.s) (sym s0.before.seat-acts.ensures ∙ not-false _ s0.if1.left)
+    (sym s1.before.is-first.ensures ∙ not-false _ s1.if2.left) in
     omega (arith, s0.before.before.before.pre.1)
 
 add-result : tie.Need-add-result
@@ -87,7 +85,8 @@ returns-3 : tie.Need-returns-3
 returns-3 c = let s3 = c .before .before .before in let s2 = s3 .before .before .before .before .before .before .before .before in
     let s1 = s2 .before .before .before in let s0 = s1 .before .before .before in let a = s0 .args in let len = lengths s0 in
     let long = key-count a.s (omega (arith, s0.pre.0.places)) (omega (arith, s0.pre.0.places)) in
-    wrote-node (placed a.s) a.out.now _ a.at _ _ _ _ _ _ (turn s1) (sym s2.before.is-first.ensures ∙ not-false _ s2.if2.left)
+    wrote-node (placed a.s) a.out.now _ a.at _ _ _ _ _ _ (sym s1.before.seat-acts.ensures ∙ not-false _ s1.if1.left)
+    (sym s2.before.is-first.ensures ∙ not-false _ s2.if2.left)
     s2.before.before.seat-to-act.ensures.0 long s3.before.before.before.before.before.before.key-of.ensures s3.public-byte.ensures
     (s3.before.before.before.before.in-six.ensures ∙ ap (λ k. padded 6 (take k a.s.cards)) (sym (two s1)))
     s3.before.before.legal-count.ensures.0 c.before.before.put-record.ensures

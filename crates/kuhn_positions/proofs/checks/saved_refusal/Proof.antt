@@ -2,12 +2,21 @@
 use mathlib.Core.Path.{_≡_, sym, _∙_}
 use borrow.Author.Needs.{needs}
 use native.Mathlib.Omega.{arith}
+use Prim.Native.Nat.{_≤_}
 use lib.ListN.{length}
 use borrow.Author.Tests.{lt-ltb, le-ltb, eq-eqb, ne-eqb}
 use Rattle.prelude.proofs.Tests.{or-left, or-right, neither}
 use Rattle.kuhn_positions.proofs.Positions.{seats-least, seats-most}
 use Rattle.kuhn_positions.proofs.checks.saved_refusal.Statement.{statement}
 use Rattle.kuhn_positions.proofs.checks.saved_refusal.Tie as tie
+
+-- how long a position's arrays are
+lengths : (s : tie.Start) → (length s.args.state.cards ≡ 10) × (length s.args.state.history ≡ 19)
+lengths s = (search needs, search needs)
+
+-- past the first test the seats are 2 to 10
+seats : (s : tie.Else1) → (2 ≤ s.before.before.args.n) × (s.before.before.args.n ≤ 10)
+seats s = let e = sym s.before.seats-outside.ensures ∙ s.if1.left in (seats-least s.before.before.args.n e, seats-most s.before.before.args.n e)
 
 seats-outside-requires : tie.Need-seats-outside-requires
 seats-outside-requires c κs = search needs
@@ -22,10 +31,7 @@ slice-aggregate-card-outside : tie.Need-slice-aggregate-card-outside
 slice-aggregate-card-outside c = search needs
 
 card-outside-requires : tie.Need-card-outside-requires
-card-outside-requires c κs = let s0 = c .before .before .before in let a = s0 .before .before .args in
-    let tens : length a.state.cards ≡ 10 = search needs in let nineteen : length a.state.history ≡ 19 = search needs in
-    let least = seats-least a.n (sym s0.before.seats-outside.ensures ∙ s0.if1.left) in
-    let most = seats-most a.n (sym s0.before.seats-outside.ensures ∙ s0.if1.left) in omega arith
+card-outside-requires c κs = let s0 = c .before .before .before in let len = lengths s0.before.before in let h = seats s0 in omega arith
 
 returns-3 : tie.Need-returns-3
 returns-3 c = let s0 = c .before .before .before .before in
@@ -35,10 +41,7 @@ slice-aggregate-card-twice : tie.Need-slice-aggregate-card-twice
 slice-aggregate-card-twice c = search needs
 
 card-twice-requires : tie.Need-card-twice-requires
-card-twice-requires c κs = let s0 = c .before .before .before .before .before .before in let a = s0 .before .before .args in
-    let tens : length a.state.cards ≡ 10 = search needs in let nineteen : length a.state.history ≡ 19 = search needs in
-    let least = seats-least a.n (sym s0.before.seats-outside.ensures ∙ s0.if1.left) in
-    let most = seats-most a.n (sym s0.before.seats-outside.ensures ∙ s0.if1.left) in omega arith
+card-twice-requires c κs = let s0 = c .before .before .before .before .before .before in let len = lengths s0.before.before in let h = seats s0 in omega arith
 
 returns-4 : tie.Need-returns-4
 returns-4 c = let s1 = c .before .before .before in let s0 = s1 .before .before .before .before in rw (
@@ -49,14 +52,10 @@ returns-4 c = let s1 = c .before .before .before in let s0 = s1 .before .before 
 )
 
 mul-if5 : tie.Need-mul-if5
-mul-if5 c = let s1 = c .before .before .before .before .before .before .before .before in let s0 = s1 .before in
-    let least = seats-least s0.before.args.n (sym s0.seats-outside.ensures ∙ s1.if1.left) in
-    let most = seats-most s0.before.args.n (sym s0.seats-outside.ensures ∙ s1.if1.left) in omega arith
+mul-if5 c = let h = seats c.before.before.before.before.before.before.before.before in omega arith
 
 sub-if5 : tie.Need-sub-if5
-sub-if5 c = let s1 = c .before .before .before .before .before .before .before .before in let s0 = s1 .before in
-    let least = seats-least s0.before.args.n (sym s0.seats-outside.ensures ∙ s1.if1.left) in
-    let most = seats-most s0.before.args.n (sym s0.seats-outside.ensures ∙ s1.if1.left) in omega arith
+sub-if5 c = let h = seats c.before.before.before.before.before.before.before.before in omega arith
 
 returns-5 : tie.Need-returns-5
 returns-5 c = let s1 = c .before .before .before .before in let s0 = s1 .before .before .before .before in rw (
@@ -72,10 +71,7 @@ slice-aggregate-unknown-action c = search needs
 
 unknown-action-requires : tie.Need-unknown-action-requires
 unknown-action-requires c κs = let s0 = c .before .before .before .before .before .before .before .before .before .before .before in
-    let a = s0 .before .before .args in
-    let tens : length a.state.cards ≡ 10 = search needs in let nineteen : length a.state.history ≡ 19 = search needs in
-    let least = seats-least a.n (sym s0.before.seats-outside.ensures ∙ s0.if1.left) in
-    let most = seats-most a.n (sym s0.before.seats-outside.ensures ∙ s0.if1.left) in omega arith
+    let len = lengths s0.before.before in let h = seats s0 in omega arith
 
 returns-6 : tie.Need-returns-6
 returns-6 c = let s2 = c .before .before .before .before .before in let s1 = s2 .before .before .before in
@@ -93,10 +89,7 @@ slice-aggregate-past-the-end c = search needs
 past-the-end-requires : tie.Need-past-the-end-requires
 past-the-end-requires c κs =
     let s0 = c .before .before .before .before .before .before .before .before .before .before .before .before .before .before in
-    let a = s0 .before .before .args in
-    let tens : length a.state.cards ≡ 10 = search needs in let nineteen : length a.state.history ≡ 19 = search needs in
-    let least = seats-least a.n (sym s0.before.seats-outside.ensures ∙ s0.if1.left) in
-    let most = seats-most a.n (sym s0.before.seats-outside.ensures ∙ s0.if1.left) in (omega arith, omega arith, omega arith)
+    let len = lengths s0.before.before in let h = seats s0 in (omega arith, omega arith, omega arith)
 
 returns-7 : tie.Need-returns-7
 returns-7 c = let s3 = c .before .before .before in let s2 = s3 .before .before .before .before in let s1 = s2 .before .before .before .before in
