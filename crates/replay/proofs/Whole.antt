@@ -1,12 +1,12 @@
 -- Signed numbers as unsigned ones. Assumes nothing.
 use mathlib.Core.Path.{_≡_, refl, sym, subst, _∙_}
-use mathlib.Core.Bool.{true}
+use mathlib.Core.Bool.{true, false}
 use Prim.Native.Nat.{ℕ, zero, suc, _+_, _-_, _^_, _<_}
 use native.Mathlib.Omega.{arith}
 use borrow.Author.Tests.{le-ltb}
 use lib.Dec.{T, ltb→lt}
 use lib.IntN.{ℤ, pos, negsuc, _-ℤ_, natAbs}
-use lib.Signed.{ltZ, leZ, nonNeg}
+use lib.Signed.{ltZ, nonNeg}
 use mir.Syntax.{w64}
 use mir.Val.{Fits, SFits, toZ, ofZ}
 use mir.ValLaws.{toZ-ofZ}
@@ -16,9 +16,9 @@ abbrev pub bits : ℤ → ℤ
 bits x = toZ w64 (ofZ w64 x)
 
 -- a number from 0 on is cast
-pub casts : (x : ℤ) → SFits w64 x → leZ (pos 0) (bits x) ≡ true → T (nonNeg (bits x)) × Fits w64 (natAbs (bits x))
+pub casts : (x : ℤ) → SFits w64 x → ltZ (bits x) (pos 0) ≡ false → T (nonNeg (bits x)) × Fits w64 (natAbs (bits x))
 casts (pos a) f h = rw (toZ-ofZ w64 (pos a) f) (tt, record { fits = omega (arith, f .sfits) })
-casts (negsuc a) f h = absurd (subst T (sym (rw (toZ-ofZ w64 (negsuc a) f) at h)) tt)
+casts (negsuc a) f h = absurd (subst T (rw (toZ-ofZ w64 (negsuc a) f) at h) tt)
 
 -- -1 - x, where x is below 0
 pub mirrored : (x : ℤ) → SFits w64 x → ltZ (bits x) (pos 0) ≡ true → (a : ℕ) × (negsuc 0 -ℤ bits x ≡ pos a) × (a < 2 ^ 63)

@@ -1,21 +1,16 @@
-// What the replay programs share: numbers from standard input, words and a checksum to standard output.
+// What the replay programs share: a list from standard input, words and a checksum to standard output, and memory to lend.
 // Test support. It is proved safe and ending; its contracts say no more.
 mod line;
-mod source;
+mod list;
+mod memory;
 
 pub use line::Line;
-pub use line::end;
-pub use line::mix;
-pub use line::mix_all;
-pub use line::mix_number;
-pub use line::mix_payoff;
-pub use line::say;
-pub use line::say_all;
-pub use line::say_letter;
-pub use line::say_payoff;
-pub use line::say_whole;
-pub use source::Bytes;
-pub use source::Given;
-pub use source::Source;
-pub use source::number;
-pub use source::places;
+pub use line::print_whole;
+pub use list::Source;
+pub use list::behind;
+pub use list::number;
+pub use list::tried;
+pub use memory::least;
+pub use memory::places;
+pub use memory::untouched_bytes;
+pub use memory::untouched_words;

@@ -1,266 +1,187 @@
-// One line of answers: its text, and a checksum of every field of every answer.
+// One line of answers: words, and a checksum of every field of every answer.
 
-// How much of the text stands, the checksum, and whether the text is shown.
+// The checksum so far, and whether the words are written.
 pub struct Line {
-    pub at: usize,
     pub sum: u64,
     pub shown: bool,
 }
 
-impl Line {
-    pub fn new(shown: bool) -> Self {
-        Line {
-            at: 0,
-            sum: 1,
-            shown,
-        }
+// How far a number is from 0.
+fn size(number: i64) -> u64 {
+    if number < 0 {
+        (-1 - number) as u64 + 1
+    } else {
+        number as u64
     }
 }
 
-// A byte more in a checksum.
-pub fn mix(sum: u64, byte: u8) -> u64 {
-    ((sum % 4294967296) * 31 + byte as u64) % 4294967296
-}
-
-// A number more, its lowest byte first.
-pub fn mix_number(sum: u64, number: u64) -> u64 {
-    let mut mixed = sum;
-    let mut rest = number;
-    let mut turns: u64 = 8;
-    while turns > 0 {
-        mixed = mix(mixed, (rest % 256) as u8);
-        rest /= 256;
-        turns -= 1;
+// A whole number, with its sign if it is below 0.
+pub fn print_whole(number: i64) {
+    if number < 0 {
+        io::write_all(1, b"-");
     }
-    mixed
+    io::print_decimal(1, size(number));
 }
-
-pub fn mix_all(sum: u64, bytes: &[u8]) -> u64 {
-    let mut mixed = sum;
-    let mut i = 0;
-    while i < bytes.len() {
-        mixed = mix(mixed, bytes[i]);
-        i += 1;
-    }
-    mixed
-}
-
-// The payoffs that have a code, the first with the code 96.
-const PAYOFFS: [i64; 64] = [
-    -32,
-    -31,
-    -30,
-    -29,
-    -28,
-    -27,
-    -26,
-    -25,
-    -24,
-    -23,
-    -22,
-    -21,
-    -20,
-    -19,
-    -18,
-    -17,
-    -16,
-    -15,
-    -14,
-    -13,
-    -12,
-    -11,
-    -10,
-    -9,
-    -8,
-    -7,
-    -6,
-    -5,
-    -4,
-    -3,
-    -2,
-    -1,
-    0,
-    1,
-    2,
-    3,
-    4,
-    5,
-    6,
-    7,
-    8,
-    9,
-    10,
-    11,
-    12,
-    13,
-    14,
-    15,
-    16,
-    17,
-    18,
-    19,
-    20,
-    21,
-    22,
-    23,
-    24,
-    25,
-    26,
-    27,
-    28,
-    29,
-    30,
-    31,
-];
 
 // 128 more than the payoff; 255 for one that no game here makes.
 fn code(payoff: i64) -> u8 {
-    let mut i: u8 = 0;
-    while i < 64 {
-        if PAYOFFS[i as usize] == payoff {
-            return 96 + i;
-        }
-        i += 1;
+    let size = size(payoff);
+    if 128 <= size {
+        return 255;
     }
-    255
-}
-
-// A payoff more, as its code.
-pub fn mix_payoff(sum: u64, payoff: i64) -> u64 {
-    mix(sum, code(payoff))
-}
-
-// A byte of text; a full buffer takes none.
-fn put(out: &mut [u8; 4096], at: usize, byte: u8) -> usize {
-    if at < 4096 {
-        out[at] = byte;
-        at + 1
+    if payoff < 0 {
+        (128 - size) as u8
     } else {
-        at
+        (128 + size) as u8
     }
 }
 
-fn digit(text: &[u8; 20], i: usize) -> u8 {
-    if i < 20 { text[i] } else { b'?' }
-}
-
-fn put_digits(out: &mut [u8; 4096], at: usize, number: u64) -> usize {
-    let mut text = [0u8; 20];
-    let digits = io::decimal(number, &mut text);
-    let mut end = at;
-    let mut i = 0;
-    while i < digits {
-        end = put(out, end, digit(&text, i));
-        i += 1;
-    }
-    end
-}
-
-// A space before every word but the first.
-fn put_gap(out: &mut [u8; 4096], at: usize) -> usize {
-    if at == 0 { 0 } else { put(out, at, b' ') }
-}
-
-// A word of one letter.
-pub fn say_letter(out: &mut [u8; 4096], line: Line, letter: u8) -> Line {
-    if !line.shown {
-        return line;
-    }
-    let at = put_gap(out, line.at);
-    Line {
-        at: put(out, at, letter),
-        sum: line.sum,
-        shown: true,
-    }
-}
-
-// A word that is a number.
-pub fn say(out: &mut [u8; 4096], line: Line, number: u64) -> Line {
-    if !line.shown {
-        return line;
-    }
-    let at = put_gap(out, line.at);
-    Line {
-        at: put_digits(out, at, number),
-        sum: line.sum,
-        shown: true,
-    }
+// Four bytes more in a checksum, the lowest first.
+fn mixed(sum: u64, four: u64) -> u64 {
+    let first = four % 256 * 29791 + four / 256 % 256 * 961;
+    let last = four / 65536 % 256 * 31 + four / 16777216 % 256;
+    (sum % 4294967296 * 923521 + first + last) % 4294967296
 }
 
 fn wide(byte: u8) -> u64 {
     byte as u64
 }
 
-fn at(bytes: &[u8], i: usize) -> u64 {
-    if i < bytes.len() { wide(bytes[i]) } else { 0 }
-}
+impl Line {
+    pub fn new(shown: bool) -> Self {
+        Line { sum: 1, shown }
+    }
 
-// The first `count` bytes, a word each.
-pub fn say_all(out: &mut [u8; 4096], line: Line, bytes: &[u8], count: usize) -> Line {
-    let mut said = line;
-    let mut i = 0;
-    while i < count {
-        said = say(out, said, at(bytes, i));
-        i += 1;
+    // A byte more in the checksum.
+    pub fn mix(self, byte: u8) -> Self {
+        Line {
+            sum: (self.sum % 4294967296 * 31 + byte as u64) % 4294967296,
+            shown: self.shown,
+        }
     }
-    said
-}
 
-// A word that is a payoff.
-pub fn say_payoff(out: &mut [u8; 4096], line: Line, payoff: i64) -> Line {
-    let coded = code(payoff) as u64;
-    if 128 <= coded {
-        return say(out, line, coded - 128);
+    // A number more, its lowest byte first.
+    pub fn mix_number(self, number: u64) -> Self {
+        Line {
+            sum: mixed(mixed(self.sum, number), number / 4294967296),
+            shown: self.shown,
+        }
     }
-    if !line.shown {
-        return line;
-    }
-    let gap = put_gap(out, line.at);
-    let at = put(out, gap, b'-');
-    Line {
-        at: put_digits(out, at, 128 - coded),
-        sum: line.sum,
-        shown: true,
-    }
-}
 
-// How far a number below 0 is from it.
-fn size(number: i64) -> u64 {
-    if number < 0 {
-        (-1 - number) as u64 + 1
-    } else {
-        0
+    pub fn mix_all(self, bytes: &[u8]) -> Self {
+        let mut line = self;
+        let mut i = 0;
+        while i < bytes.len() {
+            line = line.mix(bytes[i]);
+            i += 1;
+        }
+        line
     }
-}
 
-// A word that is a whole number, with its sign if it is below 0.
-pub fn say_whole(out: &mut [u8; 4096], line: Line, number: i64) -> Line {
-    if 0 <= number {
-        return say(out, line, number as u64);
+    // The words from place `from` on.
+    pub fn mix_words(self, words: &[u64], from: usize) -> Self {
+        let mut line = self;
+        let mut i = from;
+        while i < words.len() {
+            line = line.mix_number(words[i]);
+            i += 1;
+        }
+        line
     }
-    if !line.shown {
-        return line;
-    }
-    let gap = put_gap(out, line.at);
-    let at = put(out, gap, b'-');
-    Line {
-        at: put_digits(out, at, size(number)),
-        sum: line.sum,
-        shown: true,
-    }
-}
 
-fn flush(out: &[u8], at: usize) {
-    if at <= out.len() {
-        let text = &out[0..at];
-        io::write_all(1, text);
+    // The words that a call had to leave: those from `kept` on, or all if it was refused.
+    pub fn mix_left(self, words: &[u64], refusal: u64, kept: usize) -> Self {
+        if refusal == 0 {
+            return self.mix_words(words, kept);
+        }
+        self.mix_words(words, 0)
     }
-}
 
-// The checksum ends the line, which is written.
-pub fn end(out: &mut [u8; 4096], line: Line) {
-    let gap = put_gap(out, line.at);
-    let digits = put_digits(out, gap, line.sum);
-    let at = put(out, digits, b'\n');
-    flush(out, at);
+    // The payoffs, each as its code.
+    pub fn mix_payoffs(self, payoffs: &[i64; 10]) -> Self {
+        let mut line = self;
+        let mut i = 0;
+        while i < 10 {
+            line = line.mix(code(payoffs[i]));
+            i += 1;
+        }
+        line
+    }
+
+    // A word of one letter.
+    pub fn say_letter(self, letter: u8) {
+        if self.shown {
+            io::write_all(1, &[letter, b' ']);
+        }
+    }
+
+    // A word that is a number.
+    pub fn say(self, number: u64) {
+        if self.shown {
+            io::print_decimal(1, number);
+            io::write_all(1, b" ");
+        }
+    }
+
+    // The first `count` bytes, a word each.
+    pub fn say_all(self, bytes: &[u8], count: usize) {
+        let mut i = 0;
+        while i < bytes.len() && i < count {
+            self.say(wide(bytes[i]));
+            i += 1;
+        }
+    }
+
+    // The first `count` whole numbers, a word each.
+    pub fn say_wholes(self, numbers: &[i64], count: usize) {
+        let mut i = 0;
+        while i < numbers.len() && i < count {
+            self.say_whole(numbers[i]);
+            i += 1;
+        }
+    }
+
+    pub fn say_whole(self, number: i64) {
+        if self.shown {
+            print_whole(number);
+            io::write_all(1, b" ");
+        }
+    }
+
+    // The first `count` bytes behind their count.
+    pub fn say_list(self, bytes: &[u8], count: usize) {
+        self.say(count as u64);
+        self.say_all(bytes, count);
+    }
+
+    // The letter of a call, and its refusal number.
+    pub fn say_call(self, call: u8, refusal: u64) {
+        self.say_letter(call);
+        self.say(refusal);
+    }
+
+    // A legal list or a key: all of the output array goes into the checksum.
+    pub fn written(self, call: u8, refusal: u64, count: usize, out: &[u8]) -> Self {
+        self.say_call(call, refusal);
+        if refusal == 0 {
+            self.say_list(out, count);
+        }
+        self.mix_number(count as u64).mix_all(out)
+    }
+
+    // Payoffs.
+    pub fn paid(self, refusal: u64, count: usize, payoffs: &[i64; 10]) -> Self {
+        self.say_call(b'P', refusal);
+        if refusal == 0 {
+            self.say(count as u64);
+            self.say_wholes(payoffs, count);
+        }
+        self.mix_number(count as u64).mix_payoffs(payoffs)
+    }
+
+    // The checksum ends the line.
+    pub fn end(self) {
+        io::print_decimal(1, self.sum);
+        io::write_all(1, b"\n");
+    }
 }

@@ -2,16 +2,16 @@
 use best_response::ValuesAnswer;
 use replay::Line;
 
-// What the calls are lent; the first word that an accepted one has to leave; the code of the call.
-pub struct Call {
-    pub code: u64,
-    pub game: usize,
-    pub seats: usize,
-    pub words: usize,
-    pub kept: usize,
-    pub seat: usize,
-    pub entries: usize,
-}
+// Where a line has its code and what the calls are asked.
+const CODE: usize = 0;
+
+const GAME: usize = 1;
+
+const SEATS: usize = 2;
+
+const KEPT: usize = 4;
+
+const SEAT: usize = 5;
 
 // The calls have the codes below this one, which asks for all of them.
 const ALL: u64 = 5;
@@ -26,97 +26,64 @@ fn letter(code: u64) -> u8 {
     }
 }
 
-// What the work memory holds before each call.
-fn untouched_words(work: &mut [u64]) {
-    let mut i = 0;
-    while i < work.len() {
-        work[i] = std::num::wrapping_add_u64(200, i as u64);
-        i += 1;
-    }
-}
-
-// The line with a checksum of the words that the call had to leave: all of them if it was refused.
-fn mix_words(line: Line, work: &[u64], refusal: u64, kept: usize) -> Line {
-    let mut mixed = line.sum;
-    let mut i = if refusal == 0 { kept } else { 0 };
-    while i < work.len() {
-        mixed = replay::mix_number(mixed, work[i]);
-        i += 1;
-    }
-    Line {
-        at: line.at,
-        sum: mixed,
-        shown: line.shown,
-    }
-}
-
-fn ask(code: u64, call: Call, work: &mut [u64], profile: &[f64]) -> ValuesAnswer {
+fn ask(code: u64, numbers: &[u64; 4096], work: &mut [u64], profile: &[f64]) -> ValuesAnswer {
+    let game = numbers[GAME] as usize;
+    let seats = numbers[SEATS] as usize;
     if code == 0 {
-        return best_response::best_response_value(call.game, call.seats, work, call.seat, profile);
+        let seat = numbers[SEAT] as usize;
+        return best_response::best_response_value(game, seats, work, seat, profile);
     }
     if code == 1 {
-        return best_response::best_response_values(call.game, call.seats, work, profile);
+        return best_response::best_response_values(game, seats, work, profile);
     }
     if code == 2 {
-        return best_response::profile_values(call.game, call.seats, work, profile);
+        return best_response::profile_values(game, seats, work, profile);
     }
     if code == 3 {
-        return best_response::nash_conv(call.game, call.seats, work, profile);
+        return best_response::nash_conv(game, seats, work, profile);
     }
-    best_response::exploitability(call.game, call.seats, work, profile)
+    best_response::exploitability(game, seats, work, profile)
 }
 
 // The bits of a value; a NaN has those of one NaN.
-fn bits_of(values: &[f64; 6], i: usize) -> u64 {
+fn bits_of(value: f64) -> u64 {
     let mut bits = [0u64; 1];
-    if i < 6 {
-        f64_numbers::put_float(&mut bits, 0, values[i]);
-    }
+    f64_numbers::put_float(&mut bits, 0, value);
     bits[0]
 }
 
-fn say_six(text: &mut [u8; 4096], line: Line, values: &[f64; 6]) -> Line {
-    let mut said = line;
+fn say_six(line: Line, values: &[f64; 6]) {
     let mut i: usize = 0;
     while i < 6 {
-        said = replay::say(text, said, bits_of(values, i));
+        line.say(bits_of(values[i]));
         i += 1;
     }
-    said
-}
-
-fn tell(text: &mut [u8; 4096], line: Line, code: u64, answer: ValuesAnswer) -> Line {
-    let named = replay::say_letter(text, line, letter(code));
-    let refused = replay::say(text, named, answer.refusal);
-    let counted = replay::say(text, refused, answer.count as u64);
-    let six = answer.values;
-    say_six(text, counted, &six)
 }
 
 // One call, if the line asks for it.
 fn say_call(
-    text: &mut [u8; 4096],
+    numbers: &[u64; 4096],
     line: Line,
     code: u64,
-    call: Call,
     work: &mut [u64],
     profile: &[f64],
 ) -> Line {
-    if call.code != code && call.code != ALL {
+    if numbers[CODE] != code && numbers[CODE] != ALL {
         return line;
     }
-    untouched_words(work);
-    let answer = ask(code, call, work, profile);
-    let told = tell(text, line, code, answer);
-    mix_words(told, work, answer.refusal, call.kept)
+    replay::untouched_words(work);
+    let answer = ask(code, numbers, work, profile);
+    let six = answer.values;
+    line.say_call(letter(code), answer.refusal);
+    line.say(answer.count as u64);
+    say_six(line, &six);
+    line.mix_left(work, answer.refusal, numbers[KEPT] as usize)
 }
 
-pub fn say_calls(text: &mut [u8; 4096], call: Call, work: &mut [u64], profile: &[f64]) -> Line {
-    let mut said = Line::new(true);
-    let mut code: u64 = 0;
-    while code < ALL {
-        said = say_call(text, said, code, call, work, profile);
-        code += 1;
-    }
-    said
+pub fn say_calls(numbers: &[u64; 4096], work: &mut [u64], profile: &[f64]) -> Line {
+    let one = say_call(numbers, Line::new(true), 0, work, profile);
+    let all = say_call(numbers, one, 1, work, profile);
+    let values = say_call(numbers, all, 2, work, profile);
+    let nash_conv = say_call(numbers, values, 3, work, profile);
+    say_call(numbers, nash_conv, 4, work, profile)
 }

@@ -1,8 +1,9 @@
 // Replays Leduc's calls on the list of standard input; what it writes is held to the Rust's answers.
 // compare/README.md has the format of both.
+ghost use Prim.Native.Nat.{_<_};
+
 mod answers;
-mod position;
-mod rules;
+mod calls;
 
 use leduc::LeducPoker;
 use leduc::LeducState;
@@ -10,81 +11,82 @@ use leduc_betting::Public;
 use replay::Line;
 use replay::Source;
 
-// One line of the list: its call code, and what the code asks for. Answers where reading stands.
-fn replay_line(buf: &mut [u8; 4096], out: &mut [u8; 4096], source: Source) -> Source {
-    let code = replay::number(buf, source);
-    let from = code.source;
-    if from.over {
-        return from;
+// 0 for none, else 1 more than the card.
+fn public_of(number: u64) -> Public {
+    if number == 0 {
+        Public::Hidden
+    } else {
+        Public::Card(((number - 1) % 256) as u8)
     }
-    if code.value == 0 {
-        start(out);
-        return from;
-    }
-    if code.value < 3 {
-        return play(buf, out, from, code.value == 1);
-    }
-    saved(buf, out, from, code.value == 3)
 }
 
-// Code 0: nothing more.
-fn start(out: &mut [u8; 4096]) {
-    let answer = LeducPoker::initial_state();
-    let line = answers::moved(out, Line::new(true), b'I', answer);
-    replay::end(out, line);
+// Both rounds of a line's history: the places that are filled are numbered on.
+fn history_of(numbers: &[u64; 4096], at: usize, each: u64) -> [u8; 8]
+    requires { ⌜ each < 256 ⌝ }
+{
+    let mut first = [0u8; 4];
+    let mut second = [0u8; 4];
+    replay::places(numbers, at, each * 3, each, &mut first);
+    replay::places(
+        numbers,
+        replay::behind(numbers, at),
+        each * 7,
+        each,
+        &mut second,
+    );
+    [
+        first[0],
+        first[1],
+        first[2],
+        first[3],
+        second[0],
+        second[1],
+        second[2],
+        second[3],
+    ]
 }
 
-// Codes 1 and 2: the length of the output lent and a position.
-fn play(buf: &mut [u8; 4096], out: &mut [u8; 4096], source: Source, shown: bool) -> Source {
-    let room = replay::number(buf, source);
-    let from = room.source;
-    let asked = position::read(buf, from);
-    let state = asked.state;
-    let line = rules::family(out, Line::new(shown), state, room.value as usize);
-    replay::end(out, line);
-    asked.source
-}
-
-// Codes 3 and 4: a saved position, checked as it is and then without its public card.
-fn saved(buf: &mut [u8; 4096], out: &mut [u8; 4096], source: Source, shown: bool) -> Source {
-    let asked = position::read(buf, source);
-    let state = asked.state;
-    let cards = state.cards;
-    let history = state.history;
-    let hidden = LeducState {
+// From place `at` of a line on: the cards' length, the public card, the rounds' lengths, the number that fills the arrays, the cards and the rounds.
+fn position(numbers: &[u64; 4096], at: usize) -> LeducState
+    requires { ⌜ at < 3 ⌝ }
+{
+    let each = numbers[at + 4] % 256;
+    let mut cards = [0u8; 2];
+    replay::places(numbers, at + 5, each, each, &mut cards);
+    let public = public_of(numbers[at + 1]);
+    let history = history_of(numbers, replay::behind(numbers, at + 5), each);
+    LeducState {
         cards,
-        dealt: state.dealt,
-        public: Public::Hidden,
+        dealt: numbers[at] as usize,
+        public,
         history,
-        acted1: state.acted1,
-        acted2: state.acted2,
-    };
-    let begun = marks(out, Line::new(shown), state);
-    let line = marks(out, begun, hidden);
-    replay::end(out, line);
-    asked.source
+        acted1: numbers[at + 2] as usize,
+        acted2: numbers[at + 3] as usize,
+    }
 }
 
-fn marks(out: &mut [u8; 4096], line: Line, state: LeducState) -> Line {
-    let zero = check(out, line, state, 0);
-    let one = check(out, zero, state, 1);
-    let two = check(out, one, state, 2);
-    check(out, two, state, 18446744073709551615)
+// One line of the list: its call code, and what the code asks for.
+fn replay_line(numbers: &[u64; 4096]) {
+    let code = numbers[0];
+    if code == 0 {
+        answers::moved(Line::new(true), b'I', LeducPoker::initial_state()).end();
+        return;
+    }
+    if code < 3 {
+        let state = position(numbers, 2);
+        calls::family(Line::new(code == 1), state, numbers[1] as usize).end();
+        return;
+    }
+    let state = position(numbers, 1);
+    calls::saved(Line::new(code == 3), state).end();
 }
 
-fn check(out: &mut [u8; 4096], line: Line, state: LeducState, done: u64) -> Line {
-    let answer = LeducPoker::validate_decoded_state(state, done);
-    answers::checked(out, line, answer, done)
-}
-
-// A proved loop has to end, and nothing says that the input does: the turns are more than any list has.
 fn main() {
-    let mut buf = [0u8; 4096];
-    let mut out = [0u8; 4096];
-    let mut source = Source::new();
-    let mut turns: u64 = 1000000000;
-    while turns > 0 && !source.over {
-        source = replay_line(&mut buf, &mut out, source);
-        turns -= 1;
+    let mut list = [0u8; 4194304];
+    let mut numbers = [0u64; 4096];
+    let mut source = Source::open(&mut list);
+    while source.left > 0 {
+        source = source.line(&list, &mut numbers);
+        replay_line(&numbers);
     }
 }

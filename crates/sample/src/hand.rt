@@ -1,6 +1,7 @@
 // One hand of Kuhn poker for three seats, through the rules calls.
 use crate::words::say;
 use crate::words::say_action;
+use crate::words::say_actions;
 use crate::words::say_key;
 use crate::words::say_number;
 use crate::words::say_payoff;
@@ -38,7 +39,7 @@ fn act(game: KuhnPoker, state: KuhnState, action: u8) -> KuhnState {
     say_number(seat as u64);
     key(game, state, seat);
     legal(game, state, seat);
-    say(b", does ");
+    say(b", does");
     say_action(action);
     say(b"\n");
     let answer = game.step(state, action as usize);
@@ -48,7 +49,7 @@ fn act(game: KuhnPoker, state: KuhnState, action: u8) -> KuhnState {
 fn key(game: KuhnPoker, state: KuhnState, seat: usize) {
     let mut out = [0u8; 21];
     let answer = game.information_state_key(state, seat, &mut out);
-    say(b" has the key ");
+    say(b" has the key");
     say_key(&out, answer.count);
 }
 
@@ -56,43 +57,24 @@ fn legal(game: KuhnPoker, state: KuhnState, seat: usize) {
     let mut out = [0u8; 2];
     let answer = game.legal_actions(state, seat, &mut out);
     say(b", may");
-    say_legal(&out, answer.count);
-}
-
-fn say_legal(actions: &[u8; 2], count: usize) {
-    let mut i = 0;
-    while i < count {
-        say_choice(actions, i);
-        i += 1;
-    }
-}
-
-fn say_choice(actions: &[u8; 2], i: usize) {
-    if i < 2 {
-        say(b" ");
-        say_action(actions[i]);
-    }
+    say_actions(&out, 0, answer.count);
 }
 
 // What each seat gains or loses.
 fn pay(game: KuhnPoker, state: KuhnState) {
     let answer = game.payouts(state);
     let payoffs = answer.payoffs;
-    let mut seat = 0;
-    while seat < SEATS {
-        say_share(&payoffs, seat);
-        seat += 1;
-    }
+    say_share(0, payoffs[0]);
+    say_share(1, payoffs[1]);
+    say_share(2, payoffs[2]);
 }
 
-fn say_share(payoffs: &[i64; 10], seat: usize) {
-    if seat < 10 {
-        say(b"seat ");
-        say_number(seat as u64);
-        say(b": ");
-        say_payoff(payoffs[seat]);
-        say(b"\n");
-    }
+fn say_share(seat: u64, payoff: i64) {
+    say(b"seat ");
+    say_number(seat);
+    say(b": ");
+    say_payoff(payoff);
+    say(b"\n");
 }
 
 // Plays the hand and prints it.

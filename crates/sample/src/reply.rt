@@ -1,11 +1,12 @@
 // A table of Kuhn poker for two seats: what it is worth, and the best reply to it.
 use crate::words::say;
 use crate::words::say_action;
+use crate::words::say_actions;
 use crate::words::say_number;
-use crate::words::say_whole;
 use crate::words::wide;
 use games::Game;
 use kuhn::KuhnPoker;
+use replay::print_whole;
 
 const SEATS: usize = 2;
 
@@ -54,9 +55,9 @@ fn say_worths(work: &mut [u64], table: &[u8]) {
     let answer = worths::worths(Game::KUHN, SEATS, work, PARTS, table);
     let each = answer.worths;
     say(b"The table is worth ");
-    say_whole(each[0]);
+    print_whole(each[0]);
     say(b" to seat 0 and ");
-    say_whole(each[1]);
+    print_whole(each[1]);
     say(b" to seat 1.\n");
 }
 
@@ -66,23 +67,19 @@ fn say_best(work: &mut [u64], table: &[u8], seat: usize, out: &mut [u8]) {
     say(b"The best reply of seat ");
     say_number(seat as u64);
     say(b" is worth ");
-    say_whole(answer.value);
+    print_whole(answer.value);
     say(b" to that seat.\n");
 }
 
 // The actions so far: those of the key of a set's record, behind the seat and the card.
-fn say_history(record: &[u8], length: u8) {
-    if length <= 2 {
+fn say_history(record: &[u8]) {
+    let end = at(record, 1) as usize + 2;
+    if end <= 4 {
         say(b", first action of the hand");
         return;
     }
     say(b", after");
-    let mut i: u8 = 2;
-    while i < length {
-        say(b" ");
-        say_action(at(record, i as usize + 2));
-        i += 1;
-    }
+    say_actions(record, 4, end);
 }
 
 // The action that has the part, by that of PASS.
@@ -99,8 +96,8 @@ fn say_set(record: &[u8], pass: u8) {
     if at(record, 0) == 0 {
         say(b"  card ");
         say_number(wide(at(record, 3)));
-        say_history(record, at(record, 1));
-        say(b": ");
+        say_history(record);
+        say(b":");
         say_action(chosen(pass));
         say(b"\n");
     }

@@ -1,6 +1,5 @@
 // Words and numbers on standard output.
 use kuhn::KuhnPoker;
-use replay::Line;
 
 pub fn wide(byte: u8) -> u64 {
     byte as u64
@@ -16,42 +15,38 @@ pub fn say_number(number: u64) {
 
 pub fn say_action(action: u8) {
     if action == KuhnPoker::PASS {
-        say(b"PASS");
+        say(b" PASS");
     } else {
-        say(b"BET");
+        say(b" BET");
     }
 }
 
-// The bytes of a key, a space between them.
-pub fn say_key(key: &[u8; 21], count: usize) {
-    let mut out = [0u8; 4096];
-    let line = replay::say_all(&mut out, Line::new(true), key, count);
-    show(&out, line.at);
+// The actions from place `from` up to place `to`.
+pub fn say_actions(actions: &[u8], from: usize, to: usize) {
+    let mut i = from;
+    while i < actions.len() && i < to {
+        say_action(actions[i]);
+        i += 1;
+    }
+}
+
+fn say_byte(byte: u8) {
+    say(b" ");
+    say_number(wide(byte));
+}
+
+// The first bytes of a key.
+pub fn say_key(key: &[u8], count: usize) {
+    let mut i = 0;
+    while i < key.len() && i < count {
+        say_byte(key[i]);
+        i += 1;
+    }
 }
 
 pub fn say_payoff(payoff: i64) {
     if 0 < payoff {
         say(b"+");
     }
-    let mut out = [0u8; 4096];
-    let line = replay::say_payoff(&mut out, Line::new(true), payoff);
-    show(&out, line.at);
-}
-
-// A whole number, with its sign if it is below 0.
-pub fn say_whole(number: i64) {
-    let mut out = [0u8; 4096];
-    let line = replay::say_whole(&mut out, Line::new(true), number);
-    show(&out, line.at);
-}
-
-fn show(out: &[u8; 4096], at: usize) {
-    say_front(out, at);
-}
-
-fn say_front(text: &[u8], at: usize) {
-    if at <= text.len() {
-        let front = &text[0..at];
-        say(front);
-    }
+    replay::print_whole(payoff);
 }

@@ -36,9 +36,20 @@ pub struct Definition {
     pub lines: usize,
     pub first: usize,
     pub last: usize,
-    /// A type without parameters: what it says is said of nothing else, so it can be a statement.
-    pub closed: bool,
+    /// A type, or one with parameters: what can be stated.
+    pub stated: Stated,
     pub names: Mentions,
+}
+
+/// Whether a definition can be a statement for readers.
+#[derive(Clone, Copy, Debug, PartialEq, Eq)]
+pub enum Stated {
+    /// A type without parameters.
+    Closed,
+    /// A type with parameters: a statement, if no contract and no definition names it.
+    Open,
+    /// No type.
+    No,
 }
 
 /// What a text names.
@@ -408,9 +419,12 @@ impl Walk<'_> {
     }
 }
 
-/// Whether a signature is `Type 0`.
-fn is_type(signature: &[Node]) -> bool {
-    matches!(signature, [word, Node::Leaf(Leaf::Number, _)] if word.is("Type"))
+fn stated(found: &Declaration) -> Stated {
+    match &found.signature[..] {
+        [word, Node::Leaf(Leaf::Number, _)] if word.is("Type") && found.parameters.is_empty() => Stated::Closed,
+        [.., word, Node::Leaf(Leaf::Number, _)] if word.is("Type") => Stated::Open,
+        _ => Stated::No,
+    }
 }
 
 pub fn graph(files: &Files) -> Result<Graph, String> {
@@ -429,8 +443,8 @@ pub fn graph(files: &Files) -> Result<Graph, String> {
             let (first, last) = declaration.lines;
             let lines = text[first - 1..last].iter().filter(|line| !line.trim().is_empty()).count();
             let place = Place { path: path.clone(), name: declaration.name.clone() };
-            let closed = declaration.parameters.is_empty() && is_type(&declaration.signature);
-            let definition = Definition { place: place.clone(), lines, first, last, closed, names: walk.mentions };
+            let stated = stated(declaration);
+            let definition = Definition { place: place.clone(), lines, first, last, stated, names: walk.mentions };
             if graph.definitions.insert(place, definition).is_some() {
                 return Err(format!("{path}: {} stands twice", declaration.name));
             }
@@ -530,6 +544,16 @@ pub struct Reached {
 }
 
 impl Graph {
+    /// What a contract or another definition names.
+    fn named(&self) -> BTreeSet<&Place> {
+        let contracts = self.calls.iter().flat_map(|call| &call.names.definitions);
+        let definitions = self.definitions.values().flat_map(|found| {
+            let own = &found.place;
+            found.names.definitions.iter().filter(move |place| *place != own)
+        });
+        contracts.chain(definitions).collect()
+    }
+
     /// All that is named from these, directly or not.
     pub fn reached<'a>(&self, roots: impl Iterator<Item = &'a Mentions>) -> Reached {
         let mut reached = Reached { from: BTreeMap::new(), proofs: BTreeMap::new() };
@@ -621,9 +645,11 @@ pub fn report(files: &Files) -> Result<Report, String> {
         [file, one].into_iter().find(|entry| pending.contains(entry))
     };
     let contracts = graph.reached(graph.calls.iter().filter(|call| call.public).map(|call| &call.names));
+    let named = graph.named();
     let is_statement = |found: &&Definition| {
         let place = &found.place;
-        let said = found.closed || place.is_of(CASES);
+        let alone = found.stated == Stated::Open && !named.contains(place);
+        let said = found.stated == Stated::Closed || alone || place.is_of(CASES);
         said && !place.is_internal() && listed(place).is_none() && !contracts.from.contains_key(place)
     };
     let statements = graph.definitions.values().filter(is_statement).map(|found| found.place.clone());

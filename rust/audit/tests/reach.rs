@@ -76,6 +76,16 @@ fn names_are_followed_definition_by_definition() {
 }
 
 #[test]
+fn a_type_with_parameters_is_a_statement_where_nothing_names_it() {
+    let alone = "abbrev pub Alone : ℕ → Type 0\nAlone x = other ≡ x\n\nabbrev pub Said";
+    let files = small().replaced(RULES, "abbrev pub Said", alone);
+    assert_eq!(class(&files, RULES, "Alone"), Class::Statement);
+    assert_eq!(class(&files, RULES, "other"), Class::Statement);
+    assert_eq!(class(&files, RULES, "Tool"), Class::Internal);
+    assert_eq!(class(&files.replaced(PUBLIC, "Rules.Tool x", "Rules.Alone x"), RULES, "Alone"), Class::Internal);
+}
+
+#[test]
 fn every_way_to_name_a_definition_is_followed() {
     let reaches = |old: &str, new: &str, name: &str| {
         assert_eq!(class(&small().replaced(CALLS, old, new), RULES, name), Class::Contract, "{new}");

@@ -1,54 +1,10 @@
--- `main` is safe and ends.
--- Assumes nothing.
+-- `main` is safe and ends. Assumes nothing.
 use borrow.Author.Needs.{needs}
 use Rattle.replay_listing.proofs.main.Statement.{statement}
 use Rattle.replay_listing.proofs.main.Tie as tie
 
-abbrev Inv-loop : tie.InvT-loop
-Inv-loop buf₀ text₀ work out₀ source₀ turns₀ buf text out source turns = Unit {0}
-
-abbrev μ-loop : tie.MeasureT-loop
-μ-loop buf₀ text₀ work out₀ source₀ turns₀ buf text out source turns = turns
-
-untouched-words-requires : tie.Need-untouched-words-requires Inv-loop μ-loop
-untouched-words-requires c κs = tt
-
-new-requires : tie.Need-new-requires Inv-loop μ-loop
-new-requires c κs = tt
-
-loop-holds : tie.Need-loop-holds Inv-loop μ-loop
-loop-holds c = tt
-
-replay-line-requires : tie.Need-replay-line-requires Inv-loop μ-loop
-replay-line-requires c κs = tt
-
-sub-turns : tie.Need-sub-turns Inv-loop μ-loop
-sub-turns c = search needs
-
-loop-less : tie.Need-loop-less Inv-loop μ-loop
-loop-less c = search needs
-
-loop-again : tie.Need-loop-again Inv-loop μ-loop
-loop-again c = tt
-
-returns : tie.Need-returns Inv-loop μ-loop
-returns c = tt
-
-returns-2 : tie.Need-returns-2 Inv-loop μ-loop
-returns-2 c = tt
-
 pub main-spec : {M : Type 1} → statement M
-main-spec =
-    tie.close
-    (tie.spec
-    Inv-loop
-    μ-loop
-    untouched-words-requires
-    new-requires
-    loop-holds
-    replay-line-requires
-    sub-turns
-    loop-less
-    loop-again
-    returns
-    returns-2)
+main-spec = tie.close (tie.spec
+    (λ list numbers₀ source₀ numbers source. Unit {0})
+    (λ list numbers₀ source₀ numbers source. source .left)
+    (λ c κs. tt) (λ c. tt) (search needs) (λ c κs. tt) (search needs) (λ c. tt) (λ c. tt))

@@ -1,7 +1,6 @@
--- `size` is safe and ends.
--- Assumes nothing.
+-- `size` is safe and ends. Assumes nothing.
 use borrow.Author.Needs.{needs}
-use Rattle.replay.proofs.Whole.{mirrored-fits, mirrored-casts, mirrored-next}
+use Rattle.replay.proofs.Whole.{casts, mirrored-fits, mirrored-casts, mirrored-next}
 use Rattle.replay.proofs.line.size.Statement.{statement}
 use Rattle.replay.proofs.line.size.Tie as tie
 
@@ -14,11 +13,8 @@ cast-result c = mirrored-casts (c .before .args .number) (c .before .fits .numbe
 add-result : tie.Need-add-result
 add-result c = mirrored-next (c .before .args .number) (c .before .fits .number) (c .if1 .taken)
 
-returns : tie.Need-returns
-returns c = search needs
-
-returns-2 : tie.Need-returns-2
-returns-2 c = search needs
+cast-result-2 : tie.Need-cast-result-2
+cast-result-2 c = casts (c .before .args .number) (c .before .fits .number) (c .if1 .left)
 
 pub size-spec : {M : Type 1} → statement M
-size-spec = tie.close (tie.spec sub-result cast-result add-result returns returns-2)
+size-spec = tie.close (tie.spec sub-result cast-result add-result cast-result-2 (search needs) (search needs))

@@ -1,47 +1,11 @@
--- `say_six` is safe and ends.
--- Assumes nothing.
+-- `say_six` is safe and ends. Assumes nothing.
 use Prim.Native.Nat.{_-_}
 use borrow.Author.Needs.{needs}
 use Rattle.replay_f64.proofs.answers.say_six.Statement.{statement}
 use Rattle.replay_f64.proofs.answers.say_six.Tie as tie
 
-abbrev Inv-loop : tie.InvT-loop
-Inv-loop text₀ values said₀ i₀ text said i = Unit {0}
-
-abbrev μ-loop : tie.MeasureT-loop
-μ-loop text₀ values said₀ i₀ text said i = 6 - i
-
-loop-holds : tie.Need-loop-holds Inv-loop μ-loop
-loop-holds c = tt
-
-bits-of-requires : tie.Need-bits-of-requires Inv-loop μ-loop
-bits-of-requires c κs = tt
-
-say-requires : tie.Need-say-requires Inv-loop μ-loop
-say-requires c κs = tt
-
-add-i : tie.Need-add-i Inv-loop μ-loop
-add-i c = search needs
-
-loop-less : tie.Need-loop-less Inv-loop μ-loop
-loop-less c = search needs
-
-loop-again : tie.Need-loop-again Inv-loop μ-loop
-loop-again c = tt
-
-returns : tie.Need-returns Inv-loop μ-loop
-returns c = tt
-
 pub say-six-spec : {M : Type 1} → statement M
-say-six-spec =
-    tie.close
-    (tie.spec
-    Inv-loop
-    μ-loop
-    loop-holds
-    bits-of-requires
-    say-requires
-    add-i
-    loop-less
-    loop-again
-    returns)
+say-six-spec = tie.close (tie.spec
+    (λ line values i₀ i. Unit {0})
+    (λ line values i₀ i. 6 - i)
+    (λ c. tt) (search needs) (search needs) (λ c κs. tt) (λ c κs. tt) (search needs) (search needs) (λ c. tt) (λ c. tt))
