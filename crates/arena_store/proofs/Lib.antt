@@ -1,1 +1,7 @@
-pub mod Games
+-- Laws of the games' stored trees.
+pub mod Levels
+pub mod Shaped
+pub mod Room
+pub mod Stored
+pub mod Staging
+pub mod Memory

@@ -4,6 +4,9 @@ use arena::walk::behind;
 ghost use Prim.Native.Nat.{_<_};
 ghost use Rattle.arena_walks.specs.Child.{Child};
 
+// The depth of a walk: no path of a game has more nodes.
+pub const DEPTH: usize = 32;
+
 // The place of child c, at most the third, of the node at place a.
 pub fn child(w: &[u64], a: usize, c: usize) -> usize
     requires { ⌜ a < 8388607 ⌝ }

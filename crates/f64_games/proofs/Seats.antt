@@ -16,9 +16,9 @@ use Rattle.games.specs.Games.{treeOf}
 use Rattle.arena.specs.Index.{laterIn}
 use Rattle.f64_worths.specs.Expected.{Expected}
 use Rattle.arena_store.specs.Stored.{Stored}
-use Rattle.units_worths.specs.Facts.{Known}
-use Rattle.units_worths.proofs.Facts.{games-shaped, games-legible}
-use Rattle.profile_refusals.specs.Accepted.{Accepted}
+use Rattle.games.specs.Known.{Known}
+use Rattle.arena_store.proofs.Shaped.{games-shaped, games-legible}
+use Rattle.tree_refusals.specs.Accepted.{AcceptedProfile}
 use Rattle.f64_games.specs.Values.{bestOf, worthOf, bySeat, bestsOf, worthsOf, gaps, nashConvOf}
 
 -- the first k of six places have f
@@ -79,6 +79,6 @@ pub paired-more : (k n : ℕ) → Paired k n → k < n → Paired (k + 1 + 1) n
 paired-more k n e l m = let p = e l in (suc (p .0), omega (arith, p .1))
 
 -- what is read of the tree for a seat
-pub worth-is : (g : Game) (P : List Float) → Accepted g P → (w : List ℕ) → Stored g w → (i : ℕ) (r : Float) → i < g .seats → Expected P w 0 32 i r → r ≡ worthOf g P i
+pub worth-is : (g : Game) (P : List Float) → AcceptedProfile g P → (w : List ℕ) → Stored g w → (i : ℕ) (r : Float) → i < g .seats → Expected P w 0 32 i r → r ≡ worthOf g P i
 unfolding worthOf
 worth-is g P a w x i r l o = o (g .seats) (treeOf g) (treeOf g) (laterIn (treeOf g)) l (games-legible g w (length P) (a .game) x (a .long))

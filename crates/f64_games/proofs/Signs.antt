@@ -13,9 +13,8 @@ use Rattle.game_tree_f64.specs.Signs.{minusNought, sumFrom}
 use Rattle.game_tree_f64.proofs.Signs.{gain-signed, start-signed}
 use Rattle.games.specs.declared.Game.{Game}
 use Rattle.games.specs.Games.{treeOf}
-use Rattle.units_worths.specs.Facts.{Known}
-use Rattle.units_worths.proofs.Facts.{games-shaped}
-use Rattle.units_worths.proofs.Places.{Deals, root-deals}
+use Rattle.arena_store.proofs.Shaped.{games-shaped}
+use Rattle.arena_store.proofs.Room.{Deals, root-deals}
 use Rattle.f64_games.specs.Values.{bestOf, worthOf, gaps}
 use Rattle.f64_games.specs.Signs.{FromMinusNought}
 

@@ -9,10 +9,9 @@ use lib.Dec.{eqb}
 use lib.Ieee.{Float}
 use lib.ListN.{length, getD}
 use Rattle.prelude.proofs.Tests.{Tested, holds, fails, tested}
-use Rattle.game_tree.specs.Tree.{Tree, end, chance, decide, Every}
+use Rattle.game_tree.specs.Tree.{Tree, Every}
 use Rattle.game_tree.specs.Reply.{Choice}
 use Rattle.game_tree.specs.Sets.{size, entries, firstEntry, SameHeights}
-use Rattle.game_tree.proofs.Entries.{entry-inside}
 use Rattle.game_tree.proofs.Against.{every-both}
 use Rattle.kuhn_tree.proofs.Facts as Kuhn
 use Rattle.leduc_tree_facts.proofs.Facts as Leduc
@@ -20,9 +19,7 @@ use Rattle.games.specs.declared.Game.{Game}
 use Rattle.games.specs.Games.{treeOf}
 use Rattle.games.specs.Facts.{nodesOf, entriesOf}
 use Rattle.games.proofs.Facts.{games-fit, nodes-are, entries-are}
-use Rattle.arena.specs.Words.{CHANCE, kindOf}
-use Rattle.arena.specs.Held.{Says, Held}
-use Rattle.arena.specs.Index.{laterIn, Indexed, Cleared}
+use Rattle.arena.specs.Index.{laterIn, Cleared}
 use Rattle.arena.specs.Legible.{Legible}
 use Rattle.game_tree_f64.specs.Values.{Profile, profileOf, one, bestValue, best}
 use Rattle.game_tree_f64.proofs.Deciding.{best-decides}
@@ -32,13 +29,14 @@ use Rattle.f64_collect.specs.Reached.{Storable, Reached, Marked}
 use Rattle.f64_collect.proofs.Storing.{marked-same}
 use Rattle.f64_values.specs.Valued.{Walkable, Scene, Valued}
 use Rattle.arena_store.specs.Stored.{headsOf, Stored}
-use Rattle.units_worths.specs.Facts as Whole
-use Rattle.units_worths.proofs.Facts.{games-shaped, games-legible}
-use Rattle.units_worths.specs.Places.{unitsAt, keptAt}
-use Rattle.units_worths.proofs.Places.{Roomy, roomy, Deals, root-deals}
-use Rattle.units_worths.proofs.Standing.{indexed-same, some-actions}
+use Rattle.arena_store.specs.Places.{reachAt, keptAt, placesOf}
+use Rattle.arena_store.specs.declared.Places.{Places}
+use Rattle.arena_store.specs.Shaped.{Shaped}
+use Rattle.arena_store.proofs.Shaped.{games-shaped, games-legible, some-actions}
+use Rattle.arena_store.proofs.Room.{Roomy, roomy}
+use Rattle.arena_store.proofs.Staging as behind
+use Rattle.tree_refusals.specs.Accepted.{AcceptedProfile}
 use Rattle.f64_games.specs.Values.{bestOf}
-use Rattle.profile_refusals.specs.Accepted.{Accepted}
 
 -- decisions of one seat with equal keys have the same remaining depth
 same-heights : (g : Game) → SameHeights (treeOf g)
@@ -49,7 +47,7 @@ same-heights g = at (tested (eqb (g .number) 0))
     at (holds t) = rw t (Kuhn.depth-by-key 1 1 (g .seats))
     at (fails t) = rw t (Leduc.depth-by-key 1 2 4)
 
-module _ (g : Game) (i : ℕ) (P : List Float) (a : Accepted g P) (l : i < g .seats) where
+module _ (g : Game) (i : ℕ) (P : List Float) (a : AcceptedProfile g P) (l : i < g .seats) where
   abbrev T : Tree
   T = treeOf g
 
@@ -59,7 +57,7 @@ module _ (g : Game) (i : ℕ) (P : List Float) (a : Accepted g P) (l : i < g .se
   abbrev c : Choice
   c = best s i T
 
-  shaped : Whole.Shaped g
+  shaped : Shaped g
   shaped = games-shaped g (a .game)
 
   room : Roomy g
@@ -75,8 +73,8 @@ module _ (g : Game) (i : ℕ) (P : List Float) (a : Accepted g P) (l : i < g .se
   some = some-actions g (a .game)
 
   -- the words of a tree with its index, then with reaches, then with no choice
-  module _ (v w z : List ℕ) (x : Stored g v) (long : 12 * nodesOf g ≤ length v) (o : Reached P i (unitsAt g) 0 one 32 v w) (r : Cleared (keptAt g) (keptAt g + entriesOf g) w z) where
-    same : (p : ℕ) → p < unitsAt g → getD z p 0 ≡ getD v p 0
+  module _ (v w z : List ℕ) (x : Stored g v) (long : 12 * nodesOf g ≤ length v) (o : Reached P i (reachAt g) 0 one 32 v w) (r : Cleared (keptAt g) (keptAt g + entriesOf g) w z) where
+    same : (p : ℕ) → p < reachAt g → getD z p 0 ≡ getD v p 0
     same p k = r .kept .words p (inl (omega arith)) ∙ o .same p k
 
     length-is : length z ≡ length v
@@ -85,40 +83,15 @@ module _ (g : Game) (i : ℕ) (P : List Float) (a : Accepted g P) (l : i < g .se
     legible : Legible (g .seats) T (laterIn T) v (length P) 0 32 T
     legible = games-legible g v (length P) (a .game) x (a .long)
 
-    indexed : Indexed (g .seats) (headsOf g) z T
-    indexed = indexed-same (g .seats) (headsOf g) v z T some (omega (arith, size-is, room .before)) (λ p k. same p (omega (arith, entries-is))) x
+    marked : Marked s i (reachAt g) z 0 one T
+    marked = marked-same s i (reachAt g) w z 0 one T (λ p h k. r .kept .words p (inl (omega (arith, size-is))))
+        (o .is v (g .seats) T T (laterIn T) (λ p k. refl) legible (omega (arith, size-is)) (omega (arith, size-is, room .within, long)) .0)
 
-    marked : Marked s i (unitsAt g) z 0 one T
-    marked = marked-same s i (unitsAt g) w z 0 one T (λ p h k. r .kept .words p (inl (omega (arith, size-is))))
-        (o .is v (g .seats) T T (laterIn T) (λ p k. refl) legible (omega (arith, size-is, room .before)) (omega (arith, size-is, room .within, long)) .0)
+    abbrev stage : Stage i (headsOf g) (keptAt g)
+    stage = behind.stage g (a .game) i l c v z x long same length-is
 
-    unfoldable stage : Stage i (headsOf g) (keptAt g)
-    unfolding Deals Held Says
-    stage = record {
-      words = z;
-      seats = g .seats;
-      tree = T;
-      choice = c;
-      levels = shaped .levels .0;
-      indexed = indexed;
-      deals = dealt T (root-deals g (a .game)) (indexed .held);
-      level = shaped .levels .1;
-      actions = games-fit g (a .game .known) (a .game .seats) .actions;
-      few = shaped .actions;
-      seat = l;
-      room = omega (arith, size-is, room .nodes);
-      nodes = omega (arith, size-is, room .before);
-      before = omega (arith, entries-is);
-      long = omega (arith, entries-is, room .within, long, length-is);
-    }
-      where
-        dealt : (t : Tree) → Deals t → Held (g .seats) (firstEntry T) (laterIn T) z 0 t → kindOf (getD z 0 0) ≡ CHANCE
-        dealt (end p) d h = absurd d
-        dealt (chance f) d h = h .0 .0
-        dealt (decide j k f) d h = absurd d
-
-    unfoldable scene : Scene P i (headsOf g) (unitsAt g) (keptAt g)
-    unfolding stage profileOf
+    unfoldable scene : Scene P i (headsOf g) (reachAt g) (keptAt g)
+    unfolding behind.stage profileOf
     scene = record {
       stage = stage;
       inside = every-both (λ j k n. firstEntry T j k + n ≤ entries T) (λ j k n. 1 ≤ n) (λ j k n. firstEntry T j k + n ≤ length P) (λ j k n e f. omega (arith, a .long)) T (shaped .inside) some;
@@ -127,45 +100,38 @@ module _ (g : Game) (i : ℕ) (P : List Float) (a : Accepted g P) (l : i < g .se
       below = omega (arith, size-is);
     }
 
-    -- no choice is noted
     noted : Noted stage z
-    unfolding stage
-    noted = record {
-      words = λ p k. refl;
-      long = refl;
-      choices = λ y n k. inl (r .zero (keptAt g + firstEntry T i y) (omega arith) (omega (arith, entries-is, entry-inside T some (i, y, n) k)));
-    }
+    noted = behind.none-noted g (a .game) i l c v z x long same length-is (r .zero)
 
-    module _ (e : List ℕ) (q : Float) (k : Valued P i 32 (headsOf g) (unitsAt g) (keptAt g) 0 z e q) where
+    module _ (e : List ℕ) (q : Float) (k : Valued P i 32 (headsOf g) (reachAt g) (keptAt g) 0 z e q) where
       found : Noted stage e × (q ≡ bestOf g P i)
-      unfolding scene stage bestOf bestValue
+      unfolding scene behind.stage bestOf bestValue
       found = k scene noted T 32 (NatL.le-refl 32) (root-stands stage)
 
       stored : Stored g e
-      unfolding stage
-      stored = indexed-same (g .seats) (headsOf g) z e T some (omega (arith, size-is, room .before)) (λ p j. found .0 .words p (omega (arith, entries-is))) indexed
+      stored = behind.still-stored g (a .game) i l c v z x long same length-is e (found .0)
 
   -- the same by the numbers in hand
-  module _ (E h n : ℕ) (p : E ≡ entriesOf g) (q : h ≡ headsOf g) (t : n ≡ nodesOf g) where
-    pub near : h + E + n + E ≤ 8388608
-    near = omega (arith, room .near, p, q, t)
+  module _ (p : Places) (q : p ≡ placesOf g) where
+    pub near : (E : ℕ) → E ≡ entriesOf g → p .kept + E ≤ 8388608
+    near E e = rw q (omega (arith, room .near))
 
-    pub walkable : Walkable 0 i 32 h (h + E) (h + E + n)
-    walkable = record { place = omega arith; seat = omega (arith, l, shaped .most); shallow = omega arith; heads = omega (arith, near); reach = omega (arith, near); kept = omega (arith, near) }
+    pub walkable : Walkable 0 i 32 (p .heads) (p .reach) (p .kept)
+    walkable = rw q (record { place = omega arith; seat = omega (arith, l, shaped .most); shallow = omega arith; heads = omega (arith, room .near); reach = omega (arith, room .near); kept = omega (arith, room .near) })
 
-    pub storable : Storable 0 (h + E) 32
-    storable = record { place = omega arith; shallow = omega arith; base = omega (arith, near) }
+    pub storable : Storable 0 (p .reach) 32
+    storable = rw q (record { place = omega arith; shallow = omega arith; base = omega (arith, room .near) })
 
-    pub answered : (v w z y : List ℕ) → Stored g v → 12 * nodesOf g ≤ length v → Reached P i (h + E) 0 one 32 v w → Cleared (h + E + n) (h + E + n + E) w z → (r : Float)
-        → Valued P i 32 h (h + E) (h + E + n) 0 z y r → (r ≡ bestOf g P i) × Stored g y
-    answered v w z y x long o u r k = (found v w z x long o′ u′ y r k′ .1, stored v w z x long o′ u′ y r k′)
-      where
-        o′ : Reached P i (unitsAt g) 0 one 32 v w
-        o′ = rw (p, q) at o
+    module _ (E : ℕ) (t : E ≡ entriesOf g) (v w z y : List ℕ) (x : Stored g v) (long : 12 * nodesOf g ≤ length v) (o : Reached P i (p .reach) 0 one 32 v w)
+        (u : Cleared (p .kept) (p .kept + E) w z) (r : Float) (k : Valued P i 32 (p .heads) (p .reach) (p .kept) 0 z y r) where
+      o′ : Reached P i (reachAt g) 0 one 32 v w
+      o′ = rw q at o
 
-        u′ : Cleared (keptAt g) (keptAt g + entriesOf g) w z
-        u′ = rw (p, q, t) at u
+      u′ : Cleared (keptAt g) (keptAt g + entriesOf g) w z
+      u′ = rw (q, t) at u
 
-        k′ : Valued P i 32 (headsOf g) (unitsAt g) (keptAt g) 0 z y r
-        k′ = subst (λ d. Valued P i 32 (headsOf g) (unitsAt g) (unitsAt g + d) 0 z y r) t (subst (λ d. Valued P i 32 (headsOf g) (headsOf g + d) (headsOf g + d + n) 0 z y r) p
-            (subst (λ d. Valued P i 32 d (d + E) (d + E + n) 0 z y r) q k))
+      k′ : Valued P i 32 (headsOf g) (reachAt g) (keptAt g) 0 z y r
+      k′ = subst (λ (n : Places). Valued P i 32 (n .heads) (n .reach) (n .kept) 0 z y r) q k
+
+      pub answered : (r ≡ bestOf g P i) × Stored g y
+      answered = (found v w z x long o′ u′ y r k′ .1, stored v w z x long o′ u′ y r k′)

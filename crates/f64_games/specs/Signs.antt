@@ -5,7 +5,7 @@ use lib.Ieee.{Float, binary64, sub}
 use Rattle.prelude.specs.Finite.{places}
 use Rattle.game_tree_f64.specs.Signs.{minusNought, sumFrom}
 use Rattle.games.specs.declared.Game.{Game}
-use Rattle.units_worths.specs.Facts.{Known}
+use Rattle.games.specs.Known.{Known}
 use Rattle.f64_games.specs.Values.{bestOf, worthOf, nashConvOf}
 
 -- best value − worth, seat after seat

@@ -1,45 +1,42 @@
 // The f64 values of a profile by the game's number, where the game's tree is stored. Behind the tree's index stand the reaches of a seat's nodes, and behind
 // these its choices.
 use arena::words::clear;
+use arena_store::places_of;
+use arena_walks::DEPTH;
 use f64_collect::collect;
 use f64_values::values::value;
 use games::Game;
-use units::DEPTH;
-use units_worths::heads_of;
 ghost use mathlib.Core.Path.{_≡_};
 ghost use Prim.Native.Nat.{_*_, _≤_, _<_};
 ghost use lib.IntN.{pos};
 ghost use lib.Ieee.{binary64, ofInt, div};
 ghost use lib.ListN.{length};
 ghost use Rattle.games.specs.Facts.{nodesOf};
+ghost use Rattle.tree_refusals.specs.Accepted.{AcceptedProfile};
 ghost use Rattle.arena_store.specs.Stored.{Stored};
-ghost use Rattle.profile_refusals.specs.Accepted.{Accepted};
 ghost use Rattle.f64_games.specs.Values.{bestOf, bestsOf, worthsOf, nashConvOf, exploitabilityOf};
 
 // The best response value of a seat to a profile that is not refused.
-pub fn best_value(g: Game, w: &mut [u64], seat: usize, profile: &[f64]) -> f64
-    requires { ⌜ Stored g (now w) × Accepted g (now profile) × (seat < g .seats) × (12 * nodesOf g ≤ length (now w)) ⌝ }
-    ensures { λ r. ⌜ (r ≡ bestOf g (now (profile .entry)) seat) × Stored g (now (w .exit)) ⌝ }
+pub fn best_value(g: Game, words: &mut [u64], seat: usize, profile: &[f64]) -> f64
+    requires { ⌜ Stored g (now words) × AcceptedProfile g (now profile) × (seat < g .seats) × (12 * nodesOf g ≤ length (now words)) ⌝ }
+    ensures { λ r. ⌜ (r ≡ bestOf g (now (profile .entry)) seat) × Stored g (now (words .exit)) ⌝ }
 {
-    let entries = g.entries();
-    let heads = heads_of(g);
-    let reach = heads + entries;
-    let kept = reach + g.nodes();
-    collect(w, profile, 0, 1.0, seat, reach, DEPTH);
-    clear(w, kept, kept + entries);
-    value(w, profile, 0, seat, DEPTH, heads, reach, kept)
+    let at = places_of(g);
+    collect(words, profile, 0, 1.0, seat, at.reach, DEPTH);
+    clear(words, at.kept, at.kept + g.entries());
+    value(words, profile, 0, seat, DEPTH, at.heads, at.reach, at.kept)
 }
 
 // The same of each seat; 0.0 past them.
-pub fn best_values(g: Game, w: &mut [u64], profile: &[f64]) -> [f64; 6]
-    requires { ⌜ Stored g (now w) × Accepted g (now profile) × (12 * nodesOf g ≤ length (now w)) ⌝ }
+pub fn best_values(g: Game, words: &mut [u64], profile: &[f64]) -> [f64; 6]
+    requires { ⌜ Stored g (now words) × AcceptedProfile g (now profile) × (12 * nodesOf g ≤ length (now words)) ⌝ }
     ensures { λ r. ⌜ r ≡ bestsOf g (now (profile .entry)) ⌝ }
 {
     let seats = g.seats;
     let mut out = [0.0; 6];
     let mut seat = 0;
     while seat < seats {
-        let best = best_value(g, w, seat, profile);
+        let best = best_value(g, words, seat, profile);
         out[seat] = best;
         seat += 1;
     }
@@ -47,14 +44,14 @@ pub fn best_values(g: Game, w: &mut [u64], profile: &[f64]) -> [f64; 6]
 }
 
 // What the profile is worth to each seat; 0.0 past them.
-pub fn worths(g: Game, w: &[u64], profile: &[f64]) -> [f64; 6]
-    requires { ⌜ Stored g (now w) × Accepted g (now profile) ⌝ }
+pub fn worths(g: Game, words: &[u64], profile: &[f64]) -> [f64; 6]
+    requires { ⌜ Stored g (now words) × AcceptedProfile g (now profile) ⌝ }
     ensures { λ r. ⌜ r ≡ worthsOf g (now (profile .entry)) ⌝ }
 {
     let mut out = [0.0; 6];
     let mut seat = 0;
     while seat < g.seats {
-        let two = f64_worths::worths(w, profile, 0, seat, DEPTH);
+        let two = f64_worths::worths(words, profile, 0, seat, DEPTH);
         out[seat] = two.first;
         seat += 1;
         if seat < g.seats {
@@ -66,16 +63,16 @@ pub fn worths(g: Game, w: &[u64], profile: &[f64]) -> [f64; 6]
 }
 
 // NashConv: the sum of best value − worth by seat, from 0.0.
-pub fn nash_conv(g: Game, w: &mut [u64], profile: &[f64]) -> f64
-    requires { ⌜ Stored g (now w) × Accepted g (now profile) × (12 * nodesOf g ≤ length (now w)) ⌝ }
+pub fn nash_conv(g: Game, words: &mut [u64], profile: &[f64]) -> f64
+    requires { ⌜ Stored g (now words) × AcceptedProfile g (now profile) × (12 * nodesOf g ≤ length (now words)) ⌝ }
     ensures { λ r. ⌜ r ≡ nashConvOf g (now (profile .entry)) ⌝ }
 {
-    let worths = worths(g, w, profile);
+    let worths = worths(g, words, profile);
     let seats = g.seats;
     let mut sum = 0.0;
     let mut seat = 0;
     while seat < seats {
-        let best = best_value(g, w, seat, profile);
+        let best = best_value(g, words, seat, profile);
         sum = sum + (best - worths[seat]);
         seat += 1;
     }
@@ -91,9 +88,9 @@ fn shared(x: f64, seats: usize) -> f64
 }
 
 // Exploitability: NashConv divided by the seats.
-pub fn exploitability(g: Game, w: &mut [u64], profile: &[f64]) -> f64
-    requires { ⌜ Stored g (now w) × Accepted g (now profile) × (12 * nodesOf g ≤ length (now w)) ⌝ }
+pub fn exploitability(g: Game, words: &mut [u64], profile: &[f64]) -> f64
+    requires { ⌜ Stored g (now words) × AcceptedProfile g (now profile) × (12 * nodesOf g ≤ length (now words)) ⌝ }
     ensures { λ r. ⌜ r ≡ exploitabilityOf g (now (profile .entry)) ⌝ }
 {
-    shared(nash_conv(g, w, profile), g.seats)
+    shared(nash_conv(g, words, profile), g.seats)
 }

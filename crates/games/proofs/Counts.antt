@@ -2,21 +2,22 @@
 use mathlib.Core.Path.{_≡_, refl, sym, ap, _∙_}
 use mathlib.Core.Bool.{Bool, true, false, cond}
 use mathlib.Core.List.{List, [], _∷_}
-use Prim.Native.Nat.{ℕ, zero, suc, _+_, _*_, _≤_, _<_}
+use Prim.Native.Nat.{ℕ, zero, suc, _+_, _-_, _*_, _≤_, _<_}
 use native.Mathlib.Nat as NatL
 use native.Mathlib.Omega.{arith}
-use lib.Dec.{ltb}
-use borrow.Author.Tests.{eq-eqb, ne-eqb, ltb-false}
+use lib.Dec.{eqb, ltb}
+use borrow.Author.Tests.{eq-eqb, ne-eqb, eqb-true, eqb-false, ltb-false}
 use lib.ListN.{length, getD, take, replicate, length-replicate, getD-replicate}
 use Rattle.prelude.specs.Finite.{or, places}
-use Rattle.prelude.proofs.Tests.{or-false-left, or-false-right}
+use Rattle.prelude.proofs.Tests.{Tested, holds, fails, tested, or-false-left, or-false-right}
+use Rattle.kuhn_tree.specs.Tree as Kuhn
 use Rattle.kuhn_tree.specs.Counts.{dealNodes, kuhnNodes, kuhnSets, kuhnEntries}
 use Rattle.leduc_tree.specs.Turns.{actionsInOrder}
 use Rattle.leduc_set_actions.proofs.Facts.{threes, actionsAt, in-words, actions-in-all}
 use Rattle.games.specs.Seats.{seats-out}
 use Rattle.games.specs.Facts.{nodesOf, setsOf, entriesOf}
 use Rattle.games.specs.Actions.{actionsOf}
-use Rattle.games.specs.Games.{isKuhn}
+use Rattle.games.specs.Games.{isKuhn, C, m}
 use Rattle.games.specs.declared.Game.{Game}
 use Rattle.games.proofs.Totals.{total, total-same, total-more, total-most}
 
@@ -41,12 +42,23 @@ nodes-table = 0 ∷ 0 ∷ 58 ∷ 617 ∷ 7886 ∷ 116437 ∷ 1944020 ∷ 3619600
 abbrev pub sets-table : List ℕ
 sets-table = 0 ∷ 0 ∷ 12 ∷ 48 ∷ 160 ∷ 480 ∷ 1344 ∷ 3584 ∷ 9216 ∷ 23040 ∷ 56320 ∷ []
 
+abbrev pub fans-table : List ℕ
+fans-table = 0 ∷ 0 ∷ 6 ∷ 24 ∷ 120 ∷ 720 ∷ 5040 ∷ 40320 ∷ 362880 ∷ 3628800 ∷ 39916800 ∷ []
+
 pub nodes-right : (n : ℕ) → 2 ≤ n → n ≤ 10 → getD nodes-table n 0 ≡ kuhnNodes n
 unfolding dealNodes
 nodes-right = each-seats (λ n. getD nodes-table n 0 ≡ kuhnNodes n) refl refl refl refl refl refl refl refl refl
 
 pub sets-right : (n : ℕ) → 2 ≤ n → n ≤ 10 → getD sets-table n 0 ≡ kuhnSets n
 sets-right = each-seats (λ n. getD sets-table n 0 ≡ kuhnSets n) refl refl refl refl refl refl refl refl refl
+
+fans-right : (n : ℕ) → 2 ≤ n → n ≤ 10 → getD fans-table n 0 ≡ Kuhn.C n
+unfolding Kuhn.C
+fans-right = each-seats (λ n. getD fans-table n 0 ≡ Kuhn.C n) refl refl refl refl refl refl refl refl refl
+
+-- with more than six seats there are too many nodes
+pub six-seats : (n : ℕ) → 2 ≤ n → n ≤ 10 → getD nodes-table n 0 ≤ 4000000 → n ≤ 6
+six-seats = each-seats (λ n. getD nodes-table n 0 ≤ 4000000 → n ≤ 6) (λ h. omega arith) (λ h. omega arith) (λ h. omega arith) (λ h. omega arith) (λ h. omega arith) (λ h. omega arith) (λ h. omega arith) (λ h. omega arith) (λ h. omega arith)
 
 -- the seats of Kuhn, once number 2 is settled
 module _ (g : Game) (k : g .number ≡ 0) where
@@ -68,6 +80,12 @@ module _ (g : Game) (k : g .number ≡ 0) where
   pub kuhn-entries : 2 * setsOf g ≡ entriesOf g
   kuhn-entries = ap (λ t. 2 * cond t (kuhnSets (g .seats)) 936) (eq-eqb (g .number) 0 k) ∙ NatL.mul-comm 2 (kuhnSets (g .seats)) ∙ ap (λ t. cond t (kuhnEntries (g .seats)) 2184) (sym (eq-eqb (g .number) 0 k))
 
+  pub kuhn-fans : seats-out g ≡ false → getD fans-table (g .seats) 0 ≡ C g
+  kuhn-fans e = fans-right (g .seats) (kuhn-least e) (kuhn-most e) ∙ ap (λ t. cond t (Kuhn.C (g .seats)) 120) (sym (eq-eqb (g .number) 0 k))
+
+  pub kuhn-turns : 2 * g .seats - 1 ≡ m g
+  kuhn-turns = ap (λ t. cond t (2 * g .seats - 1) 8) (sym (eq-eqb (g .number) 0 k))
+
   pub sets-at-most : seats-out g ≡ false → setsOf g ≤ 56320
   sets-at-most e = rw (← (kuhn-sets e)) (each-seats (λ n. getD sets-table n 0 ≤ 56320) (omega arith) (omega arith) (omega arith) (omega arith)
       (omega arith) (omega arith) (omega arith) (omega arith) (omega arith) (g .seats) (kuhn-least e) (kuhn-most e))
@@ -86,9 +104,22 @@ module _ (g : Game) (k : g .number ≡ 0 → ⊥) where
   pub leduc-sets : 936 ≡ setsOf g
   leduc-sets = ap (λ t. cond t (kuhnSets (g .seats)) 936) (sym (ne-eqb (g .number) 0 k))
 
+  pub leduc-fans : 120 ≡ C g
+  leduc-fans = ap (λ t. cond t (Kuhn.C (g .seats)) 120) (sym (ne-eqb (g .number) 0 k))
+
+  pub leduc-turns : 8 ≡ m g
+  leduc-turns = ap (λ t. cond t (2 * g .seats - 1) 8) (sym (ne-eqb (g .number) 0 k))
+
   pub leduc-actions : (x : ℕ) → getD actionsInOrder x 0 ≡ getD (actionsOf g) x 0
   unfolding actionsOf
   leduc-actions x = ap (λ t. getD (cond t (replicate (kuhnSets (g .seats)) 2) actionsInOrder) x 0) (sym (ne-eqb (g .number) 0 k))
+
+pub sets-bounded : (g : Game) → seats-out g ≡ false → setsOf g ≤ 56320
+sets-bounded g out = at (tested (eqb (g .number) 0))
+  where
+    at : Tested (eqb (g .number) 0) → setsOf g ≤ 56320
+    at (holds e) = sets-at-most g (eqb-true (g .number) 0 e) out
+    at (fails e) = omega (arith, leduc-sets g (eqb-false (g .number) 0 e))
 
 -- ---- the actions of all sets
 

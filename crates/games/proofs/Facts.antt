@@ -51,6 +51,10 @@ module _ (g : Game) where
   pub leduc-out : (g .number ≡ 0 → ⊥) → seats-out g ≡ not (eqb (g .seats) 2)
   leduc-out k = ap (λ t. cond t (or (ltb (g .seats) 2) (ltb 10 (g .seats))) (not (eqb (g .seats) 2))) (ne-eqb (g .number) 0 k)
 
+  -- Leduc has two seats, once number 2 is settled
+  pub leduc-two : (g .number ≡ 0 → ⊥) → seats-out g ≡ false → g .seats ≡ 2
+  leduc-two k out = eqb-true (g .seats) 2 (not-false (eqb (g .seats) 2) (sym (leduc-out k) ∙ out))
+
   pub kuhn-parts : g .number ≡ 0 → mostParts g ≡ cond (leb (g .seats) 4) 64 16
   kuhn-parts k = ap (λ t. cond t (cond (leb (g .seats) 4) 64 16) 64) (eq-eqb (g .number) 0 k)
 
@@ -118,13 +122,10 @@ games-fit g known out = by (tested (eqb (g .number) 0))
       pays = λ i w. subst (λ b. Pays (cond b (KuhnTree.largestPayoff 1 1 (g .seats)) 13) i (treeOf g)) (sym t) (subst (Pays (KuhnTree.largestPayoff 1 1 (g .seats)) i) (sym e) (KuhnFacts.payoffs-bounded 1 1 (g .seats) i (kuhn-least g (eqb-true (g .number) 0 t) out) w));
     }
 
-    two-seats : (g .number ≡ 0 → ⊥) → g .seats ≡ 2
-    two-seats k = eqb-true (g .seats) 2 (not-false (eqb (g .seats) 2) (sym (leduc-out g k) ∙ out))
-
     leduc-fit : eqb (g .number) 0 ≡ false → treeOf g ≡ leducTree 1 2 4 → Fit g
     leduc-fit t e = record {
       splits = subst (λ b. Splits (cond b (KuhnTree.C (g .seats)) 120) (cond b (KuhnTree.m (g .seats)) 8) (treeOf g)) (sym t) (subst (Splits 120 8) (sym e) (LeducFacts.fans-divide 1 2 4));
-      recall = λ i w. subst (PerfectRecall i) (sym e) (LeducFacts.recalls 1 2 4 i (let s = two-seats (eqb-false (g .number) 0 t) in omega arith));
+      recall = λ i w. subst (PerfectRecall i) (sym e) (LeducFacts.recalls 1 2 4 i (let s = leduc-two g (eqb-false (g .number) 0 t) out in omega arith));
       actions = subst SameActions (sym e) (LeducFacts.actions-by-key 1 2 4);
       pays = λ i w. subst (λ b. Pays (cond b (KuhnTree.largestPayoff 1 1 (g .seats)) 13) i (treeOf g)) (sym t) (subst (Pays 13 i) (sym e) (LeducFacts.payoffs-bounded 1 2 4 i));
     }

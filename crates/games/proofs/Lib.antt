@@ -2,3 +2,4 @@
 pub mod Totals
 pub mod Counts
 pub mod Facts
+pub mod Known

@@ -2,8 +2,9 @@
 ghost use mathlib.Core.Path.{_≡_};
 ghost use mathlib.Core.Bool.{false};
 ghost use Prim.Native.Nat.{_≤_, _<_};
+ghost use lib.Dec.{ltb};
 ghost use lib.ListN.{getD};
-ghost use Rattle.games.specs.Games.{mostParts};
+ghost use Rattle.games.specs.Games.{mostParts, C, m};
 ghost use Rattle.games.specs.Seats.{seats-out};
 ghost use Rattle.games.specs.Facts.{nodesOf, setsOf, entriesOf};
 ghost use Rattle.games.specs.Actions.{actionsOf};
@@ -31,11 +32,31 @@ const KUHN_NODES: [usize; 11] = [
 
 const KUHN_SETS: [usize; 11] = [0, 0, 12, 48, 160, 480, 1344, 3584, 9216, 23040, 56320];
 
+// C of Kuhn's units, (n + 1)!, with 2 to 10 seats, from place 2.
+const KUHN_C: [u64; 11] = [
+    0,
+    0,
+    6,
+    24,
+    120,
+    720,
+    5040,
+    40320,
+    362880,
+    3628800,
+    39916800,
+];
+
 const LEDUC_NODES: usize = 9457;
 
 const LEDUC_SETS: usize = 936;
 
 const LEDUC_ENTRIES: usize = 2184;
+
+// C of Leduc's units, and m: the most actions in a hand.
+const LEDUC_C: u64 = 120;
+
+const LEDUC_M: usize = 8;
 
 impl Game {
     pub const KUHN: usize = 0;
@@ -44,6 +65,27 @@ impl Game {
 
     // The words of work memory that a node takes.
     pub const WORDS: usize = 12;
+
+    // Whether no game has the number.
+    pub fn is_unknown(self) -> bool
+        ensures { λ r. ⌜ r ≡ ltb 1 (self .number) ⌝ }
+    {
+        Self::LEDUC < self.number
+    }
+
+    // Whether the seat count is outside 2 to 10 for Kuhn, or not 2 for Leduc.
+    pub fn seats_outside(self) -> bool
+        ensures { λ r. ⌜ r ≡ seats-out self ⌝ }
+    {
+        let seats = self.seats;
+        if self.number != Self::KUHN {
+            return seats != 2;
+        }
+        if seats < 2 {
+            return true;
+        }
+        10 < seats
+    }
 
     // The most parts per set: 64, or 16 for Kuhn with more than 4 seats.
     pub fn most_parts(self) -> usize
@@ -99,5 +141,28 @@ impl Game {
             return 2;
         }
         leduc_set_actions::actions(set)
+    }
+
+    // C of the units: the fans of a hand's chance nodes, multiplied.
+    pub fn fans(self) -> u64
+        requires { ⌜ seats-out self ≡ false ⌝ }
+        ensures { λ r. ⌜ r ≡ C self ⌝ }
+    {
+        let seats = self.seats;
+        if self.number == Self::KUHN {
+            return KUHN_C[seats];
+        }
+        LEDUC_C
+    }
+
+    // m of the units: the most actions in a hand.
+    pub fn turns(self) -> usize
+        requires { ⌜ seats-out self ≡ false ⌝ }
+        ensures { λ r. ⌜ r ≡ m self ⌝ }
+    {
+        if self.number == Self::KUHN {
+            return 2 * self.seats - 1;
+        }
+        LEDUC_M
     }
 }

@@ -1,8 +1,6 @@
 // Kuhn's tree, laid out in work memory: the deals, and below each full deal a hand.
 use arena::words::chance;
-use arena::words::clear;
 use arena::words::put;
-use arena_index::index;
 use kuhn_arena_hands::before_bet;
 use kuhn_arena_words::card_of;
 ghost use mathlib.Core.Path.{_≡_};
@@ -14,8 +12,7 @@ ghost use Rattle.kuhn_tree.specs.Counts.{kuhnNodes};
 ghost use Rattle.prelude.specs.Finite.{has};
 ghost use Rattle.game_tree.specs.Sets.{size, sizes};
 ghost use Rattle.arena.specs.Built.{Built, Row, Room};
-ghost use Rattle.arena.specs.Index.{Indexed};
-ghost use Rattle.kuhn_arena_layout.specs.Layout.{codeOf, codeCount, cardsIn, dealAt, childrenTo, childAt, Dealing};
+ghost use Rattle.kuhn_arena_layout.specs.Layout.{codeOf, cardsIn, dealAt, childrenTo, childAt, Dealing};
 
 // Whether one of the first seats has a card.
 fn is_dealt(cards: u64, dealt: usize, card: usize) -> bool
@@ -95,25 +92,4 @@ pub fn build(w: &mut [u64], n: usize) -> usize
     ensures { λ r. ⌜ Built n (codeOf n) 0 (now (w .entry)) (now (w .exit)) (kuhnTree ante stake n) r ⌝ }
 {
     deal(w, 0, n, 0, 0, n)
-}
-
-const CODES: [usize; 7] = [0, 0, 24, 128, 640, 3072, 14336];
-
-// How many codes the sets of n seats may have.
-fn codes(n: usize) -> usize
-    requires { ⌜ (2 ≤ n) × (n ≤ 6) ⌝ }
-    ensures { λ r. ⌜ r ≡ codeCount n ⌝ }
-{
-    CODES[n]
-}
-
-// Stores Kuhn's tree for n seats with its index.
-pub fn store(w: &mut [u64], n: usize)
-    requires { ⌜ (2 ≤ n) × (n ≤ 6) × (12 * kuhnNodes n ≤ length (now w)) ⌝ }
-    ensures { λ _. ⌜ Indexed n (kuhnNodes n + codeCount n) (now (w .exit)) (kuhnTree ante stake n) ⌝ }
-{
-    let nodes = build(w, n);
-    let count = codes(n);
-    clear(w, nodes, nodes + 2 * count);
-    index(w, nodes, count);
 }

@@ -1,19 +1,15 @@
 -- The codes of Leduc's sets: each tells the seat and the key of its set. Assumes nothing.
 use mathlib.Core.Path.{_≡_, sym, ap, _∙_}
-use mathlib.Core.List.{List}
-use Prim.Native.Nat.{ℕ, _+_, _≤_, _<_}
-use native.Mathlib.Omega.{arith}
-use lib.ListN.{length, getD}
-use borrow.Author.Tests.{eqb-true, ltb-true, leb-true}
+use Prim.Native.Nat.{ℕ}
+use lib.ListN.{getD}
+use borrow.Author.Tests.{eqb-true, ltb-true}
 use Rattle.prelude.proofs.Tests.{and-left, and-right}
 use Rattle.game_tree.specs.Tree.{Key, Every}
 use Rattle.game_tree.proofs.Tests.{T-of, same→eq}
 use Rattle.game_tree.proofs.Against.{every-both}
-use Rattle.arena.specs.Held.{Held}
-use Rattle.arena.specs.Index.{unlinked, Codes, Coded}
+use Rattle.arena.specs.Index.{Codes}
 use Rattle.leduc_rules.specs.Stakes.{ante, raise₁, raise₂}
 use Rattle.leduc_tree.specs.Tree.{leducTree}
-use Rattle.leduc_tree_facts.proofs.Facts.{counts}
 use Rattle.leduc_arena_layout.specs.Codes.{codeOf, codes}
 use Rattle.leduc_arena_layout.proofs.Agreeing.{keyOf, told, Told, leduc-told}
 
@@ -30,27 +26,9 @@ each-told : (P : ℕ → Key → ℕ → Type 0) → ((j : ℕ) (k : Key) (n : �
 each-told P g = every-both Told Told P (λ j k n e f. g j k n e) (leducTree ante raise₁ raise₂) leduc-told leduc-told
 
 -- ---- what an index of the tree asks
-leduc-codes : Codes codeOf codes (leducTree ante raise₁ raise₂)
+pub leduc-codes : Codes codeOf codes (leducTree ante raise₁ raise₂)
 unfolding told
 leduc-codes = record {
   inside = each-told _ (λ j k n e. ltb-true _ _ (and-left _ _ e));
   apart = each-told _ (λ j k n e. each-told _ (λ i l m f. one-set j k n i l m e f));
 }
-
-leduc-acts : Every (λ j k n. 1 ≤ n) (leducTree ante raise₁ raise₂)
-unfolding told
-leduc-acts = each-told _ (λ j k n e. leb-true _ _ (and-right _ _ (and-right _ _ (and-right _ _ e))))
-
--- behind its 9457 nodes the index has 10164 words for the codes and 2184 for the entries
-pub leduc-coded : (w : List ℕ) → Held 2 codeOf unlinked w 0 (leducTree ante raise₁ raise₂) → ((i : ℕ) → i < 12348 → getD w (9457 + i) 0 ≡ 0) → 21805 ≤ length w → Coded 2 codeOf codes w (leducTree ante raise₁ raise₂)
-leduc-coded w h z l =
-    let nodes = counts ante raise₁ raise₂ .0 in
-    let many = counts ante raise₁ raise₂ .2 in
-    record {
-      codes = leduc-codes;
-      acts = leduc-acts;
-      few = omega arith;
-      held = h;
-      clear = λ i k. ap (λ n. getD w (n + i) 0) nodes ∙ z i (omega arith);
-      room = omega arith;
-    }

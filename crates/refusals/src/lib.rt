@@ -1,4 +1,8 @@
 // The numbers that a refused call answers, in the order of document 01's list; specs/Refusals.antt says what each means. 0 is an accepted call.
+ghost use mathlib.Core.Path.{_≡_};
+ghost use mathlib.Core.Bool.{cond};
+ghost use lib.Dec.{eqb};
+
 pub const ACCEPTED: u64 = 0;
 
 pub const GAME: u64 = 1;
@@ -40,3 +44,13 @@ pub const END_MARK: u64 = 18;
 pub const UNREACHABLE: u64 = 19;
 
 pub const UNFIT: u64 = 20;
+
+// The earlier of two refusals, a before b in the order of the checks.
+pub fn earlier(a: u64, b: u64) -> u64
+    ensures { λ r. ⌜ r ≡ cond (eqb a 0) b a ⌝ }
+{
+    if a == ACCEPTED {
+        return b;
+    }
+    a
+}

@@ -5,4 +5,3 @@ pub mod Lifting
 pub mod Found
 pub mod Gains
 pub mod Choices
-pub mod Levels

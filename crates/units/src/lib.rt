@@ -4,6 +4,3 @@ pub mod sums;
 
 // Units are below this number, 2^57.
 pub const UNITS: u64 = 144115188075855872;
-
-// The depth of a walk: no path of a game has more nodes.
-pub const DEPTH: usize = 32;

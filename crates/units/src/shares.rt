@@ -1,8 +1,15 @@
 // What goes on to an action of the units at a decision.
-use game_tree::decision_share;
 ghost use mathlib.Core.Path.{_≡_};
-ghost use Prim.Native.Nat.{_*_, _/_, _<_, _≤_};
+ghost use Prim.Native.Nat.{_*_, _/_, _^_, _<_, _≤_};
 ghost use lib.ListN.{length, getD};
+
+// The units of an action's child: its parent's, times the action's part, over the parts of the set.
+fn decision_share(units: u64, part: u64, parts: u64) -> u64
+    requires { ⌜ (0 < parts) × (units * part < 2 ^ 64) ⌝ }
+    ensures { λ r. ⌜ r ≡ units * part / parts ⌝ }
+{
+    units * part / parts
+}
 
 // A part as a number.
 fn wide(x: u8) -> u64

@@ -10,20 +10,17 @@ use mathlib.Core.Bool.{cond}
 use lib.Dec.{eqb}
 use lib.ListN.{length, getD}
 use lib.Seq.{sets}
-use Rattle.game_tree.specs.Tree.{Key, Strategy, Tree, end, chance, decide, Every, Pays, all, Valid}
+use Rattle.game_tree.specs.Tree.{Key, Strategy, Tree, Every, Pays, all, Valid}
 use Rattle.game_tree.specs.Reply.{Choice, pure, replyTree, best, bestValue, reply}
 use Rattle.game_tree.specs.Sets.{size, entries, firstEntry, setCount}
 use Rattle.game_tree.specs.Table.{Table, strategyOf, tableOf, tableBest, replyTable}
-use Rattle.game_tree.proofs.Entries.{entry-inside}
 use Rattle.game_tree.proofs.Against.{every-both}
 use Rattle.game_tree.proofs.TableTheorem.{table-valid}
 use Rattle.games.specs.declared.Game.{Game}
 use Rattle.games.specs.Games.{treeOf, C, m}
 use Rattle.games.specs.Facts.{nodesOf, entriesOf, setsOf, rootUnits}
 use Rattle.games.proofs.Facts.{reply-best, games-fit, nodes-are, entries-are, counted-games}
-use Rattle.arena.specs.Words.{CHANCE, kindOf}
-use Rattle.arena.specs.Held.{Says, Held}
-use Rattle.arena.specs.Index.{laterIn, Indexed, Cleared}
+use Rattle.arena.specs.Index.{laterIn, Cleared}
 use Rattle.units.specs.Readable.{Readable}
 use Rattle.units.specs.Gain.{gain, setGain, topmost, Stocked}
 use Rattle.units.proofs.Gains.{gain-bound, set-gain-bound}
@@ -35,18 +32,19 @@ use Rattle.units_values.specs.Valued.{Scene, Valued, Walkable}
 use Rattle.units_reply.specs.Laid.{Tabled, replied, Laid}
 use Rattle.units_values.proofs.Scenes.{root-here}
 use Rattle.arena_store.specs.Stored.{headsOf, Stored}
-use Rattle.units_worths.specs.Facts as Whole
-use Rattle.units_worths.specs.Accepted.{Accepted}
-use Rattle.units_worths.proofs.Facts.{games-shaped, units-fit, games-readable}
-use Rattle.units_worths.specs.Places.{unitsAt, keptAt}
+use Rattle.arena_store.specs.Places.{reachAt, keptAt, placesOf}
+use Rattle.arena_store.specs.declared.Places.{Places}
+use Rattle.arena_store.proofs.Shaped.{games-shaped, some-actions}
+use Rattle.arena_store.proofs.Room.{Roomy, roomy}
+use Rattle.arena_store.proofs.Staging as behind
+use Rattle.tree_refusals.specs.Accepted.{AcceptedTable}
+use Rattle.units_worths.proofs.Facts.{units-fit, games-readable}
 use Rattle.units_worths.proofs.Lowering.{pays-sixty, back, few-parts}
 use Rattle.units_worths.proofs.Standing as standing
-use Rattle.units_worths.proofs.Places.{Roomy, roomy, Deals, root-deals}
-use Rattle.units_worths.proofs.Standing.{indexed-same, some-actions}
 use Rattle.units_best.specs.Best.{Unbeaten, BestReply}
 use Rattle.units_best.specs.Staged.{Staged}
 
-module _ (g : Game) (D i : ℕ) (table : Table) (a : Accepted g D table) (l : i < g .seats) where
+module _ (g : Game) (D i : ℕ) (table : Table) (a : AcceptedTable g D table) (l : i < g .seats) where
   abbrev T : Tree
   T = treeOf g
 
@@ -58,9 +56,6 @@ module _ (g : Game) (D i : ℕ) (table : Table) (a : Accepted g D table) (l : i 
 
   abbrev c : Choice
   c = best (replyTree D s i U T)
-
-  shaped : Whole.Shaped g
-  shaped = games-shaped g (a .game)
 
   room : Roomy g
   room = roomy g (a .game)
@@ -87,8 +82,8 @@ module _ (g : Game) (D i : ℕ) (table : Table) (a : Accepted g D table) (l : i 
   below x u h k = omega arith
 
   -- the words of a tree with its index, then with units, then with no choice
-  module _ (v w z : List ℕ) (x : Stored g v) (long : 12 * nodesOf g ≤ length v) (o : Collected table D i (unitsAt g) 0 U 32 v w) (r : Cleared (keptAt g) (keptAt g + entriesOf g) w z) where
-    same : (p : ℕ) → p < unitsAt g → getD z p 0 ≡ getD v p 0
+  module _ (v w z : List ℕ) (x : Stored g v) (long : 12 * nodesOf g ≤ length v) (o : Collected table D i (reachAt g) 0 U 32 v w) (r : Cleared (keptAt g) (keptAt g + entriesOf g) w z) where
+    same : (p : ℕ) → p < reachAt g → getD z p 0 ≡ getD v p 0
     same p k = r .kept .words p (inl (omega arith)) ∙ o .same p k
 
     length-is : length z ≡ length v
@@ -97,40 +92,15 @@ module _ (g : Game) (D i : ℕ) (table : Table) (a : Accepted g D table) (l : i 
     readable : Readable (g .seats) T (laterIn T) v table D 0 32 T
     readable = games-readable g D v table (a .game) x (a .valid)
 
-    indexed : Indexed (g .seats) (headsOf g) z T
-    indexed = indexed-same (g .seats) (headsOf g) v z T some (omega (arith, size-is, room .before)) (λ p k. same p (omega (arith, entries-is))) x
+    stocked : Stocked D s i (reachAt g) z 0 U T
+    stocked = stocked-same D s i (reachAt g) w z 0 U T (λ p h k. r .kept .words p (inl (omega (arith, size-is))))
+        (o .is v (g .seats) T T (laterIn T) (λ p k. refl) readable (omega (arith, size-is)) (omega (arith, size-is, room .within, long)) .0)
 
-    stocked : Stocked D s i (unitsAt g) z 0 U T
-    stocked = stocked-same D s i (unitsAt g) w z 0 U T (λ p h k. r .kept .words p (inl (omega (arith, size-is))))
-        (o .is v (g .seats) T T (laterIn T) (λ p k. refl) readable (omega (arith, size-is, room .before)) (omega (arith, size-is, room .within, long)) .0)
+    abbrev stage : Stage i (headsOf g) (keptAt g)
+    stage = behind.stage g (a .game) i l c v z x long same length-is
 
-    unfoldable stage : Stage i (headsOf g) (keptAt g)
-    unfolding Deals Held Says
-    stage = record {
-      words = z;
-      seats = g .seats;
-      tree = T;
-      choice = c;
-      levels = shaped .levels .0;
-      indexed = indexed;
-      deals = dealt T (root-deals g (a .game)) (indexed .held);
-      level = shaped .levels .1;
-      actions = games-fit g (a .game .known) (a .game .seats) .actions;
-      few = shaped .actions;
-      seat = l;
-      room = omega (arith, size-is, room .nodes);
-      nodes = omega (arith, size-is, room .before);
-      before = omega (arith, entries-is);
-      long = omega (arith, entries-is, room .within, long, length-is);
-    }
-      where
-        dealt : (t : Tree) → Deals t → Held (g .seats) (firstEntry T) (laterIn T) z 0 t → kindOf (getD z 0 0) ≡ CHANCE
-        dealt (end p) d h = absurd d
-        dealt (chance f) d h = h .0 .0
-        dealt (decide j k f) d h = absurd d
-
-    unfoldable scene : Scene i (headsOf g) (unitsAt g) (keptAt g)
-    unfolding stage strategyOf
+    unfoldable scene : Scene i (headsOf g) (reachAt g) (keptAt g)
+    unfolding behind.stage strategyOf
     scene = record {
       stage = stage;
       parts = D;
@@ -150,18 +120,12 @@ module _ (g : Game) (D i : ℕ) (table : Table) (a : Accepted g D table) (l : i 
             let b = best-gains (C g) (m g) D i s T (a .least) (games-fit g (a .game .known) (a .game .seats) .splits) (games-fit g (a .game .known) (a .game .seats) .recall i l) valid pays some in
             every-both (λ j y n. j ≡ i → (c y < n) × (c y ≡ topmost (setGain D s i c T U y) (pred n))) (λ j y n. 1 ≤ n) (λ j y n. j ≡ i → c y ≡ topmost (setGain D s i c T U y) (pred n)) (λ j y n e f q. e q .1) T b some
 
-    -- no choice is noted
     noted : Noted stage z
-    unfolding stage
-    noted = record {
-      words = λ p k. refl;
-      long = refl;
-      choices = λ y n k. inl (r .zero (keptAt g + firstEntry T i y) (omega arith) (omega (arith, entries-is, entry-inside T some (i, y, n) k)));
-    }
+    noted = behind.none-noted g (a .game) i l c v z x long same length-is (r .zero)
 
-    module _ (e : List ℕ) (sum : ℕ) (k : Valued i 32 (headsOf g) (unitsAt g) (keptAt g) 0 z e sum) where
+    module _ (e : List ℕ) (sum : ℕ) (k : Valued i 32 (headsOf g) (reachAt g) (keptAt g) 0 z e sum) where
       found : Noted stage e × (sum ≡ gain D s i c U T % 2 ^ 64)
-      unfolding stage scene
+      unfolding behind.stage scene
       found = k scene noted T U 32 (NatL.le-refl 32) (root-here scene)
 
       gain-few : gain D s i c U T ≤ U * 124
@@ -179,51 +143,49 @@ module _ (g : Game) (D i : ℕ) (table : Table) (a : Accepted g D table) (l : i 
           ∙ gain-best (C g) (m g) D i s T (a .least) (games-fit g (a .game .known) (a .game .seats) .splits) (games-fit g (a .game .known) (a .game .seats) .recall i l) valid pays some)
 
       pub staged : Staged g D i table e
-      unfolding stage scene
+      unfolding behind.stage scene
       staged = record { scene = scene; noted = found .0; tree = refl; parts = refl; strategy = refl; root = refl; choice = refl }
 
       pub stored : Stored g e
-      unfolding stage scene
-      stored = indexed-same (g .seats) (headsOf g) z e T some (omega (arith, size-is, room .before)) (λ p j. found .0 .words p (omega (arith, entries-is))) indexed
+      stored = behind.still-stored g (a .game) i l c v z x long same length-is e (found .0)
 
   pub parts-few : D ≤ 64
   parts-few = few-parts g D table a
 
   -- the same by the numbers in hand
-  module _ (E h n : ℕ) (p : E ≡ entriesOf g) (q : h ≡ headsOf g) (t : n ≡ nodesOf g) where
-    pub near : h + E + n + E ≤ 8388608
-    near = omega (arith, room .near, p, q, t)
+  module _ (p : Places) (q : p ≡ placesOf g) where
+    pub near : (E : ℕ) → E ≡ entriesOf g → p .kept + E ≤ 8388608
+    near E e = rw q (omega (arith, room .near))
 
-    pub walks : Walkable 0 i 32 h (h + E) (h + E + n)
-    walks = record { place = omega arith; seat = omega (arith, l, shaped .most); shallow = omega arith; heads = omega (arith, near); units = omega (arith, near); kept = omega (arith, near) }
+    pub walks : Walkable 0 i 32 (p .heads) (p .reach) (p .kept)
+    walks = rw q (record { place = omega arith; seat = omega (arith, l, games-shaped g (a .game) .most); shallow = omega arith; heads = omega (arith, room .near); units = omega (arith, room .near); kept = omega (arith, room .near) })
 
-  module _ (E h n u : ℕ) (p : E ≡ entriesOf g) (q : h ≡ headsOf g) (t : n ≡ nodesOf g) (j : (u ≡ U) × (u < 144115188075855872)) where
-    pub storable : Storable 0 u D (h + E) 32
-    storable = standing.storable g D table a h E q p u j
+    module _ (u : ℕ) (j : (u ≡ U) × (u < 144115188075855872)) where
+      pub storable : Storable 0 u D (p .reach) 32
+      storable = standing.storable g D table a (p .reach) (ap (λ x. x .reach) q) u j
 
-    module _ (v w z y : List ℕ) (x : Stored g v) (long : 12 * nodesOf g ≤ length v) (o : Collected table D i (h + E) 0 u 32 v w) (r : Cleared (h + E + n) (h + E + n + E) w z) (sum : ℕ)
-        (k : Valued i 32 h (h + E) (h + E + n) 0 z y sum) where
-      o′ : Collected table D i (unitsAt g) 0 U 32 v w
-      o′ = rw (p, q, j .0) at o
+      module _ (E : ℕ) (t : E ≡ entriesOf g) (v w z y : List ℕ) (x : Stored g v) (long : 12 * nodesOf g ≤ length v) (o : Collected table D i (p .reach) 0 u 32 v w)
+          (r : Cleared (p .kept) (p .kept + E) w z) (sum : ℕ) (k : Valued i 32 (p .heads) (p .reach) (p .kept) 0 z y sum) where
+        o′ : Collected table D i (reachAt g) 0 U 32 v w
+        o′ = rw (q, j .0) at o
 
-      r′ : Cleared (keptAt g) (keptAt g + entriesOf g) w z
-      r′ = rw (p, q, t) at r
+        r′ : Cleared (keptAt g) (keptAt g + entriesOf g) w z
+        r′ = rw (q, t) at r
 
-      k′ : Valued i 32 (headsOf g) (unitsAt g) (keptAt g) 0 z y sum
-      k′ = subst (λ d. Valued i 32 (headsOf g) (unitsAt g) (unitsAt g + d) 0 z y sum) t (subst (λ d. Valued i 32 (headsOf g) (headsOf g + d) (headsOf g + d + n) 0 z y sum) p
-          (subst (λ d. Valued i 32 d (d + E) (d + E + n) 0 z y sum) q k))
+        k′ : Valued i 32 (headsOf g) (reachAt g) (keptAt g) 0 z y sum
+        k′ = subst (λ (x : Places). Valued i 32 (x .heads) (x .reach) (x .kept) 0 z y sum) q k
 
-      pub few-sum : sum ≤ 124 * u
-      few-sum = rw (j .0) (sum-few v w z x long o′ r′ y sum k′)
+        pub few-sum : sum ≤ 124 * u
+        few-sum = rw (j .0) (sum-few v w z x long o′ r′ y sum k′)
 
-      pub is-best : (b : ℤ) → b ≡ pos sum -ℤ pos (64 * u) → b ≡ tableBest T D U table i
-      is-best b e = e ∙ ap (λ d. pos sum -ℤ pos (64 * d)) (j .0) ∙ sum-best v w z x long o′ r′ y sum k′
+        pub is-best : (b : ℤ) → b ≡ pos sum -ℤ pos (64 * u) → b ≡ tableBest T D U table i
+        is-best b e = e ∙ ap (λ d. pos sum -ℤ pos (64 * d)) (j .0) ∙ sum-best v w z x long o′ r′ y sum k′
 
-      pub is-staged : Staged g D i table y
-      is-staged = staged v w z x long o′ r′ y sum k′
+        pub is-staged : Staged g D i table y
+        is-staged = staged v w z x long o′ r′ y sum k′
 
-      pub is-stored : Stored g y
-      is-stored = stored v w z x long o′ r′ y sum k′
+        pub is-stored : Stored g y
+        is-stored = stored v w z x long o′ r′ y sum k′
 
   -- ---- what is demanded of the reply
   pub best-reply : BestReply g D i table (tableBest T D U table i) (replyTable T D U table i)
@@ -247,12 +209,11 @@ module _ (g : Game) (D i : ℕ) (table : Table) (a : Accepted g D table) (l : i 
     reply-is = ap (λ t. by t (x .scene .parts) (x .scene .stage .choice) (x .scene .strategy)) (x .tree) ∙ ap (λ d. by T d (x .scene .stage .choice) (x .scene .strategy)) (x .parts)
         ∙ ap (λ e. by T D e (x .scene .strategy)) (x .choice) ∙ ap (by T D c) (x .strategy)
 
-    module _ (E h n b : ℕ) (p : E ≡ entriesOf g) (q : h ≡ headsOf g) (t : n ≡ nodesOf g) (o : b ≡ setsOf g) where
+    module _ (p : Places) (q : p ≡ placesOf g) (b : ℕ) (o : b ≡ setsOf g) where
       pub few-sets : b ≤ 16384
       few-sets = omega (arith, o, room .sets)
 
-      pub is-reply : (w out written : List ℕ) → Laid table b i D h (h + E) (h + E + n) y w out written → written ≡ sets out 0 (replyTable T D U table i)
+      pub is-reply : (w out written : List ℕ) → Laid table b i D (p .heads) (p .reach) (p .kept) y w out written → written ≡ sets out 0 (replyTable T D U table i)
       is-reply w out written r =
-          let r′ : Laid table b i D (headsOf g) (unitsAt g) (keptAt g) y w out written = subst (λ d. Laid table b i D (headsOf g) (unitsAt g) (unitsAt g + d) y w out written) t (subst (λ d. Laid table b i D (headsOf g) (headsOf g + d) (headsOf g + d + n) y w out written) p
-          (subst (λ d. Laid table b i D d (d + E) (d + E + n) y w out written) q r)) in
+          let r′ : Laid table b i D (headsOf g) (reachAt g) (keptAt g) y w out written = rw q at r in
           r′ (x .scene) (x .noted) tabled (o ∙ sym (counted-games g (a .game .seats) .1) ∙ ap setCount (sym (x .tree))) .1 ∙ ap (sets out 0) reply-is

@@ -8,13 +8,13 @@ use Rattle.games.specs.declared.Game.{Game}
 use Rattle.games.specs.Games.{treeOf}
 use Rattle.games.specs.Facts.{rootUnits}
 use Rattle.arena_store.specs.Stored.{headsOf}
-use Rattle.units_worths.specs.Places.{unitsAt, keptAt}
+use Rattle.arena_store.specs.Places.{reachAt, keptAt}
 use Rattle.arena_walks.specs.Stage.{Noted}
 use Rattle.units_values.specs.Valued.{Scene}
 
 -- seat i's units against a table with D parts in each set stand there, and choices, each the best one
 pub record Staged (g : Game) (D i : ℕ) (table : Table) (w : List ℕ) : Type 0 where
-  pub scene : Scene i (headsOf g) (unitsAt g) (keptAt g)
+  pub scene : Scene i (headsOf g) (reachAt g) (keptAt g)
   pub noted : Noted (scene .stage) w
   pub tree : scene .stage .tree ≡ treeOf g
   pub parts : scene .parts ≡ D

@@ -2,7 +2,7 @@
 use arena::words::actions;
 use arena::words::actor;
 use arena::words::word;
-use units::DEPTH;
+use arena_walks::DEPTH;
 use units_values::values::choose;
 ghost use mathlib.Core.Path.{_≡_};
 ghost use mathlib.Core.Bool.{cond};

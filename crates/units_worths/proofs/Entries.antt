@@ -1,4 +1,4 @@
--- The entries of a valid table: where a set's stand, and how large they are. Assumes nothing.
+-- How large the entries of a valid table are. Assumes nothing.
 use mathlib.Core.Path.{_≡_, refl, ap, _∙_}
 use mathlib.Core.Bool.{Bool, true, false, cond}
 use mathlib.Core.List.{List, [], _∷_, map}
@@ -10,25 +10,10 @@ use lib.ListN.{length, getD, drop, length-drop}
 use lib.Seq.{getD-drop}
 use Rattle.prelude.proofs.Tests.{Tested, holds, fails, tested}
 use Rattle.game_tree.specs.Sums.{sumℕ, parts}
-use Rattle.game_tree.specs.Tree.{Tree, Every}
-use Rattle.game_tree.specs.Sets.{Decision, sets, entriesOf, entries, firstEntry, SameActions}
+use Rattle.game_tree.specs.Sets.{Decision, entriesOf}
 use Rattle.game_tree.specs.Table.{Table, addUp}
-use Rattle.game_tree.proofs.Against.{every-both}
-use Rattle.game_tree.proofs.Sets.{Stands, sets-stand, clash}
-use Rattle.game_tree.proofs.Tables.{seats-at}
-use Rattle.arena.specs.Legible.{Entered}
+use Rattle.game_tree.proofs.Sets.{clash}
 
--- ---- where they stand
-module _ (t : Tree) (h : SameActions t) (f : Every (λ j k n. (2 ≤ n) × (n ≤ 3)) t) where
-  pub entries-inside : Every (λ j k n. firstEntry t j k + n ≤ entries t) t
-  entries-inside = every-both (λ j k n. Stands j k n (sets t)) (λ j k n. (2 ≤ n) × (n ≤ 3)) (λ j k n. firstEntry t j k + n ≤ entries t)
-      (λ j k n s (a, b). let l = seats-at j k n (sets t) s (n - 1) (omega arith) .1 in omega arith) t (sets-stand t h) f
-
-  pub all-entered : (E : ℕ) → E ≡ entries t → Every (Entered t E) t
-  all-entered E e = every-both (λ j k n. (2 ≤ n) × (n ≤ 3)) (λ j k n. firstEntry t j k + n ≤ entries t) (Entered t E)
-      (λ j k n (a, b) i. (a, b, omega arith)) t f entries-inside
-
--- ---- how large they are
 part-few : (n : ℕ) (p : ℕ → ℕ) (a : ℕ) → a < n → p a ≤ parts n p
 unfolding parts
 part-few zero p a l = absurd (omega arith)

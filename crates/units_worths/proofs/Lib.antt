@@ -1,9 +1,6 @@
--- Laws of the games' trees and units.
+-- Laws of whole units by game number.
 pub mod Entries
 pub mod Facts
 pub mod Powers
-pub mod Passed
 pub mod Lowering
-pub mod Places
 pub mod Standing
-pub mod Leaving

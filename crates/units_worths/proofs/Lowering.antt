@@ -21,8 +21,9 @@ use Rattle.games.proofs.Facts.{games-fit}
 use Rattle.units.specs.Lifted.{lifted}
 use Rattle.units.proofs.Lifting.{lifted-is}
 use Rattle.units_worths.specs.Worths.{worthsOf, loweredOf}
-use Rattle.units_worths.specs.Accepted.{Accepted}
-use Rattle.units_worths.proofs.Facts.{games-shaped, units-fit}
+use Rattle.tree_refusals.specs.Accepted.{AcceptedTable}
+use Rattle.arena_store.proofs.Shaped.{games-shaped}
+use Rattle.units_worths.proofs.Facts.{units-fit}
 
 -- ---- a difference as a signed number
 pub minus-less : (s l : ℕ) → s < l → pos s -ℤ pos l ≡ negℤ (pos (l - s))
@@ -77,7 +78,7 @@ pub back : (z : ℤ) (l u : ℕ) → pos l ≡ z +ℤ pos u → pos l -ℤ pos u
 back z l u e = ap (λ x. x -ℤ pos u) e ∙ +ℤ-negℤ-cancel z (pos u)
 
 -- ---- the worths of a table that is not refused
-module _ (g : Game) (D : ℕ) (table : Table) (a : Accepted g D table) where
+module _ (g : Game) (D : ℕ) (table : Table) (a : AcceptedTable g D table) where
   abbrev U : ℕ
   U = rootUnits g D
 

@@ -1,8 +1,8 @@
 // What a table is worth to each seat, from the game's tree in work memory.
-use crate::heads_of;
 use crate::root_units;
+use arena_store::places_of;
+use arena_walks::DEPTH;
 use games::Game;
-use units::DEPTH;
 use units::sums::Sums;
 use units_collect::collect;
 use units_collect::ends::end_sums;
@@ -12,7 +12,7 @@ ghost use lib.IntN.{pos, _-ℤ_};
 ghost use lib.ListN.{length, getD};
 ghost use Rattle.games.specs.Facts.{nodesOf};
 ghost use Rattle.arena_store.specs.Stored.{Stored};
-ghost use Rattle.units_worths.specs.Accepted.{Accepted};
+ghost use Rattle.tree_refusals.specs.Accepted.{AcceptedTable};
 ghost use Rattle.units_worths.specs.Worths.{worthsOf, loweredOf};
 
 // No actor's number: its field holds 0 to 7.
@@ -47,13 +47,13 @@ fn lowered_all(sums: Sums, u: u64, n: usize) -> [i64; 6]
 }
 
 // The worths of a table that is not refused, where the game's tree is stored. For nobody's reply the units of each node are those of the table.
-pub fn table_worths(g: Game, w: &mut [u64], d: usize, table: &[u8]) -> [i64; 6]
-    requires { ⌜ Stored g (now w) × Accepted g d (now table) × (12 * nodesOf g ≤ length (now w)) ⌝ }
-    ensures { λ r. ⌜ (r ≡ worthsOf g d (now (table .entry))) × Stored g (now (w .exit)) ⌝ }
+pub fn table_worths(g: Game, words: &mut [u64], d: usize, table: &[u8]) -> [i64; 6]
+    requires { ⌜ Stored g (now words) × AcceptedTable g d (now table) × (12 * nodesOf g ≤ length (now words)) ⌝ }
+    ensures { λ r. ⌜ (r ≡ worthsOf g d (now (table .entry))) × Stored g (now (words .exit)) ⌝ }
 {
-    let units = heads_of(g) + g.entries();
+    let at = places_of(g);
     let u = root_units(g, d);
-    collect(w, table, 0, u, NOBODY, d, units, DEPTH);
-    let sums = end_sums(w, g.nodes(), units);
+    collect(words, table, 0, u, NOBODY, d, at.reach, DEPTH);
+    let sums = end_sums(words, g.nodes(), at.reach);
     lowered_all(sums, u, g.seats)
 }

@@ -1,30 +1,37 @@
+-- The tree, then its index. Assumes nothing.
 use borrow.Author.Needs.{needs}
-use Rattle.arena_store.proofs.Games.{two-seats, few-seats, kuhn-words, kuhn-stored, leduc-words, leduc-stored}
+use native.Mathlib.Omega.{arith}
+use mathlib.Core.Path.{refl}
+use Rattle.arena_store.proofs.Stored.{nodes-near, codes-near, index-near, stored}
 use Rattle.arena_store.proofs.store.Statement.{statement}
 use Rattle.arena_store.proofs.store.Tie as tie
 
-store-requires : tie.Need-store-requires
-store-requires c κs =
-    let g = c .before .before .before .before .args .g in
-    let h = c .before .before .before .before .pre in
-    (two-seats g _ h (c .before .if1 .taken), few-seats g _ h (c .before .if1 .taken), kuhn-words g _ h (c .before .if1 .taken))
+build-requires : tie.Need-build-requires
+build-requires c κs = (c .before .before .pre .0, omega (arith, c .before .before .pre .1))
+
+codes-of-requires : tie.Need-codes-of-requires
+codes-of-requires c κs = c .before .before .before .before .before .pre .0
+
+add-clear : tie.Need-add-clear
+add-clear c = omega (arith, index-near (c .before .before .before .before .before .before .before .args .g) (c .before .before .before .before .before .before .before .pre .0) _ _ _ _ _ (c .before .before .before .before .before .before .before .pre .1) (c .before .before .before .before .build .ensures) (c .before .codes-of .ensures) refl)
+
+entries-requires : tie.Need-entries-requires
+entries-requires c κs = c .before .before .before .before .before .before .before .pre .0 .seats
+
+add-clear-2 : tie.Need-add-clear-2
+add-clear-2 c = omega (arith, index-near (c .before .before .before .before .before .before .before .before .args .g) (c .before .before .before .before .before .before .before .before .pre .0) _ _ _ _ _ (c .before .before .before .before .before .before .before .before .pre .1) (c .before .before .before .before .before .build .ensures) (c .before .before .codes-of .ensures) (c .entries .ensures))
+
+clear-requires : tie.Need-clear-requires
+clear-requires c κs = omega arith
+
+index-requires : tie.Need-index-requires
+index-requires c κs = (nodes-near (c .before .before .before .before .before .before .before .before .before .before .before .before .args .g) (c .before .before .before .before .before .before .before .before .before .before .before .before .pre .0) _ _ _ _ _ (c .before .before .before .before .before .before .before .before .before .before .before .before .pre .1) (c .before .before .before .before .before .before .before .before .before .build .ensures) (c .before .before .before .before .before .before .codes-of .ensures) (c .before .before .before .before .entries .ensures), codes-near (c .before .before .before .before .before .before .before .before .before .before .before .before .args .g) (c .before .before .before .before .before .before .before .before .before .before .before .before .pre .0) _ _ _ _ _ (c .before .before .before .before .before .before .before .before .before .before .before .before .pre .1) (c .before .before .before .before .before .before .before .before .before .build .ensures) (c .before .before .before .before .before .before .codes-of .ensures) (c .before .before .before .before .entries .ensures))
 
 same-length : tie.Need-same-length
 same-length c = search needs
 
 returns : tie.Need-returns
-returns c = let s0 = c .before .before .before .before .before .before .before in kuhn-stored (s0 .args .g) _ (s0 .pre) (c .before .before .before .before .if1 .taken) _ (c .before .before .store .ensures)
-
-store-leduc-requires : tie.Need-store-leduc-requires
-store-leduc-requires c κs = let s0 = c .before .before .before .before in leduc-words (s0 .args .g) _ (s0 .pre) (c .before .if1 .left)
-
-same-length-2 : tie.Need-same-length-2
-same-length-2 c = search needs
-
-returns-2 : tie.Need-returns-2
-returns-2 c = let s0 = c .before .before .before .before .before .before .before in leduc-stored (s0 .args .g) _ (s0 .pre) (c .before .before .before .before .if1 .left) _ (c .before .before .store-leduc .ensures)
+returns c = stored (c .before .before .before .before .before .before .before .before .before .before .before .before .before .before .before .args .g) (c .before .before .before .before .before .before .before .before .before .before .before .before .before .before .before .pre .0) _ _ _ _ _ (c .before .before .before .before .before .before .before .before .before .before .before .before .before .before .before .pre .1) (c .before .before .before .before .before .before .before .before .before .before .before .before .build .ensures) (c .before .before .before .before .before .before .before .before .before .codes-of .ensures) (c .before .before .before .before .before .before .before .entries .ensures) _ _ (c .before .before .before .before .before .before .clear .ensures) (c .before .before .index .ensures)
 
 pub store-spec : {M : Type 1} → statement M
-store-spec =
-    tie.close
-    (tie.spec store-requires same-length returns store-leduc-requires same-length-2 returns-2)
+store-spec = tie.close (tie.spec build-requires codes-of-requires add-clear entries-requires add-clear-2 clear-requires index-requires same-length returns)

@@ -1,2 +1,0 @@
--- Lemmas on the checks of a call on a profile.
-pub mod Checks

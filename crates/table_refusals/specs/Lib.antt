@@ -1,2 +1,0 @@
--- When a call that needs a tree is refused (document 01, "What comes back when a call is refused").
-pub mod Checks

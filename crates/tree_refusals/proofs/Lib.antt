@@ -1,0 +1,3 @@
+-- Laws of the checks of a tree and of a table.
+pub mod Tree
+pub mod Parts

@@ -1,0 +1,3 @@
+-- When a call that needs a tree is refused (document 01, "What comes back when a call is refused"). Accepted serves private contracts.
+pub mod Checks
+pub mod Accepted
