@@ -26,7 +26,7 @@ module _ (x y : ℕ) where
   if-greater : Stands x y Greater → y < x
   if-greater (above l) = l
 
-  case-told : Tells Less Equal Greater (compared x y) x y
+  case-told : Tells _<_ Less Equal Greater (compared x y) x y
   case-told = record {
     less = (λ e. if-less (said e), λ l. sym (case-is x y (below l)));
     equal = (λ e. if-equal (said e), λ e. sym (case-is x y (level e)));

@@ -27,19 +27,19 @@ turned Greater = Less
 
 -- ---- for every four numbers
 
--- c is l, e or g exactly as x is below, equal to or above y
-pub record Tells {A : Type 0} (l e g c : A) (x y : ℕ) : Type 0 where
-  pub less : (c ≡ l) ↔ (x < y)
+-- c is l, e or g exactly as x is below, equal to or above y, by an order of such numbers
+pub record Tells {A B : Type 0} (below : B → B → Type 0) (l e g c : A) (x y : B) : Type 0 where
+  pub less : (c ≡ l) ↔ below x y
   pub equal : (c ≡ e) ↔ (x ≡ y)
-  pub greater : (c ≡ g) ↔ (y < x)
+  pub greater : (c ≡ g) ↔ below y x
 
 -- the case tells how the cross products stand,
 abbrev pub Case-tells : Type 0
-Case-tells = (a u b v : ℕ) → Tells Less Equal Greater (quotients a u b v) (a * v) (b * u)
+Case-tells = (a u b v : ℕ) → Tells _<_ Less Equal Greater (quotients a u b v) (a * v) (b * u)
 
 -- and so does the number for C
 abbrev pub Number-tells : Type 0
-Number-tells = (a u b v : ℕ) → Tells (negℤ (pos 1)) (pos 0) (pos 1) (numberOf (quotients a u b v)) (a * v) (b * u)
+Number-tells = (a u b v : ℕ) → Tells _<_ (negℤ (pos 1)) (pos 0) (pos 1) (numberOf (quotients a u b v)) (a * v) (b * u)
 
 -- a quotient compares equal with itself,
 abbrev pub Equal-to-itself : Type 0

@@ -1,0 +1,3 @@
+-- The comparison among evaluated tables, and tried on some.
+pub mod Tables
+pub mod Tried
