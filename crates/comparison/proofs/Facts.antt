@@ -1,12 +1,12 @@
--- What the comparison of quotients is. Assumes nothing.
+-- What the comparison of comparedQuotients is. Assumes nothing.
 use mathlib.Core.Path.{_≡_, refl, sym, ap, subst, _∙_}
 use mathlib.Core.Logic.{_⊎_, inl, inr}
 use Prim.Native.Nat.{ℕ, zero, suc, _*_, _≤_, _<_}
 use native.Mathlib.Nat.{mul-assoc, mul-comm, mul-left-comm, mul-le-mul-right, mul-lt-mul-of-pos-right, le-of-mul-le-mul-left, lt-of-mul-lt-mul-left}
 use native.Mathlib.Omega.{arith}
 use lib.IntN.{ℤ, pos, negsuc}
-use Rattle.comparison.specs.Order.{compared, numberOf}
-use Rattle.comparison.specs.Facts.{quotients, NotGreater, turned, Tells, Case-tells, Number-tells, Equal-to-itself, Equal-to-multiples, Nought-of-nought, Turns, Comparable, Neither-greater, Transitive, Less-onward}
+use Rattle.comparison.specs.Order.{compared, comparedQuotients, numberOf}
+use Rattle.comparison.specs.Facts.{NotGreater, turned, Tells, Case-tells, Number-tells, Equal-to-itself, Equal-to-multiples, Nought-of-nought, Turns, Comparable, Neither-greater, Transitive, Less-onward}
 use Rattle.comparison.specs.declared.Comparison.{Comparison}
 use Rattle.comparison.specs.declared.Comparison.the-variants.{Less, Equal, Greater}
 use Rattle.comparison.proofs.Standing.{Stands, below, level, above, stands, case-is}
@@ -116,8 +116,8 @@ number-tells a u b v = let t = case-tells a u b v in record {
   greater = (λ e. t .greater .0 (same Greater e), λ l. ap numberOf (t .greater .1 l));
 }
   where
-    same : (d : Comparison) → numberOf (quotients a u b v) ≡ numberOf d → quotients a u b v ≡ d
-    same d e = sym (number-back (quotients a u b v)) ∙ ap caseOf e ∙ number-back d
+    same : (d : Comparison) → numberOf (comparedQuotients a u b v) ≡ numberOf d → comparedQuotients a u b v ≡ d
+    same d e = sym (number-back (comparedQuotients a u b v)) ∙ ap caseOf e ∙ number-back d
 
 pub equal-to-itself : Equal-to-itself
 equal-to-itself a u = sym (case-is (a * u) (a * u) (level refl))

@@ -1,7 +1,7 @@
 // The comparison of two quotients of whole numbers, by cross products of 128 bits in halves of 64.
 ghost use mathlib.Core.Path.{_≡_};
 ghost use Prim.Native.Nat.{_+_, _*_, _^_};
-ghost use Rattle.comparison.specs.Order.{compared, numberOf};
+ghost use Rattle.comparison.specs.Order.{compared, comparedQuotients, numberOf};
 
 // How one quotient stands to another.
 pub enum Comparison {
@@ -51,7 +51,7 @@ fn order(x: u64, y: u64) -> Comparison
 
 // How NashConv a of u units stands to NashConv b of v units: as a × v does to b × u.
 pub fn compare(a: u64, u: u64, b: u64, v: u64) -> Comparison
-    ensures { λ r. ⌜ r ≡ compared (a * v) (b * u) ⌝ }
+    ensures { λ r. ⌜ r ≡ comparedQuotients a u b v ⌝ }
 {
     let left = product(a, v);
     let right = product(b, u);

@@ -5,7 +5,8 @@ use mathlib.Core.Logic.{_⊎_, _↔_}
 use Prim.Native.Nat.{ℕ}
 use lib.IntN.{ℤ, pos, _*ℤ_}
 use lib.Signed.{_<ℤ_}
-use Rattle.comparison.specs.Facts.{quotients, Units, NotGreater, Tells}
+use Rattle.comparison.specs.Order.{comparedQuotients}
+use Rattle.comparison.specs.Facts.{Units, NotGreater, Tells}
 use Rattle.comparison.specs.declared.Comparison.{Comparison}
 use Rattle.comparison.specs.declared.Comparison.the-variants.{Less, Equal, Greater}
 use Rattle.game_tree.specs.Table.{Table}
@@ -29,7 +30,7 @@ answerOf x = answer (evaluation-refusal (x .game) (x .words) (x .D) (x .table)) 
 
 -- what compare answers of the four numbers answered
 abbrev pub between : Evaluated → Evaluated → Comparison
-between x y = quotients (answerOf x .«nash_conv») (answerOf x .units) (answerOf y .«nash_conv») (answerOf y .units)
+between x y = comparedQuotients (answerOf x .«nash_conv») (answerOf x .units) (answerOf y .«nash_conv») (answerOf y .units)
 
 -- x's NashConv times y's units, over whole numbers
 abbrev pub crossed : Evaluated → Evaluated → ℤ

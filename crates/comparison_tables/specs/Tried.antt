@@ -1,8 +1,8 @@
--- The comparison tried on tables: what the call for NashConv answers of some, and how these quotients compare. Proved in proofs/Tried.antt by computing.
+-- The comparison tried on tables: what the call for NashConv answers of some, and how these comparedQuotients compare. Proved in proofs/Tried.antt by computing.
 use mathlib.Core.Path.{_≡_}
 use mathlib.Core.List.{List, [], _∷_, map}
 use Prim.Native.Nat.{ℕ}
-use Rattle.comparison.specs.Facts.{quotients}
+use Rattle.comparison.specs.Order.{comparedQuotients}
 use Rattle.comparison.specs.declared.Comparison.{Comparison}
 use Rattle.comparison.specs.declared.Comparison.the-variants.{Less, Equal, Greater}
 use Rattle.game_tree.specs.Table.{Table}
@@ -37,7 +37,7 @@ pub data Try : Type 0 where
   try : (a u b v : ℕ) → Comparison → Try
 
 abbrev pub given : Try → Comparison
-given (try a u b v c) = quotients a u b v
+given (try a u b v c) = comparedQuotients a u b v
 
 abbrev pub said : Try → Comparison
 said (try a u b v c) = c
