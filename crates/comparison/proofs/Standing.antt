@@ -1,5 +1,5 @@
 -- How two numbers stand to each other, by the case of their comparison; of numbers in halves the upper decide, and where these are equal the lower. Assumes nothing.
-use mathlib.Core.Path.{_≡_, refl, sym, subst, _∙_}
+use mathlib.Core.Path.{_≡_, refl}
 use mathlib.Core.Bool.{Bool, true, false, cond}
 use Prim.Native.Nat.{ℕ, _+_, _*_, _^_, _<_}
 use native.Mathlib.Omega.{arith}

@@ -1,11 +1,11 @@
 -- The comparison among evaluated tables: their units are above 0 and NashConv is not below 0, so the facts of the comparison hold of them. Assumes nothing.
-use mathlib.Core.Path.{_≡_, refl, sym, ap, ap₂, subst, _∙_}
+use mathlib.Core.Path.{_≡_, refl, ap, ap₂, subst, _∙_}
 use mathlib.Core.Bool.{Bool, true, false, cond}
-use Prim.Native.Nat.{ℕ, zero, suc, _+_, _*_, _^_, _≤_, _<_, zero-le}
+use Prim.Native.Nat.{ℕ, zero, suc, _+_, _*_, _≤_, _<_}
 use native.Mathlib.Nat as NatL
 use native.Mathlib.Omega.{arith}
-use lib.Dec.{T, ltb→lt, lt→ltb}
-use lib.IntN.{ℤ, pos, _+ℤ_, _-ℤ_, _*ℤ_, natAbs, +ℤ-idl, -ℤ-+ℤ-cancel}
+use lib.Dec.{ltb→lt, lt→ltb}
+use lib.IntN.{ℤ, pos, _-ℤ_, _*ℤ_, natAbs, +ℤ-idl, -ℤ-+ℤ-cancel}
 use lib.Signed.{_≤ℤ_, _<ℤ_, ≤ℤ-refl, yes-nonNeg, pos-natAbs}
 use Rattle.comparison.specs.Facts.{Tells}
 use Rattle.comparison.specs.declared.Comparison.the-variants.{Less, Equal, Greater}

@@ -3,7 +3,6 @@
 use crate::game::Game;
 use chukkanalli::archive::{compare as stands, nash_conv_units};
 use host::memory::Memory;
-use host::stack::stack_of;
 use judge::parts::{table, KINDS};
 use judge::units::Call;
 use random::Random;
@@ -89,6 +88,4 @@ pub fn compare(random: &mut Random) {
         }
     }
     println!("comparison: {} tables, {pairs} pairs agree, {of_two_games} of two games, {equal} equal", all.len());
-    let stack = stack_of(|| _ = stands(u64::MAX, u64::MAX, u64::MAX, u64::MAX));
-    println!("comparison: at most {stack} bytes of stack");
 }
