@@ -1,4 +1,4 @@
--- What the comparison of comparedQuotients is. Assumes nothing.
+-- What the comparison of quotients is. Assumes nothing.
 use mathlib.Core.Path.{_≡_, refl, sym, ap, subst, _∙_}
 use mathlib.Core.Logic.{_⊎_, inl, inr}
 use Prim.Native.Nat.{ℕ, zero, suc, _*_, _≤_, _<_}

@@ -1,4 +1,4 @@
--- The comparison tried on tables: what the call for NashConv answers of some, and how these comparedQuotients compare. Proved in proofs/Tried.antt by computing.
+-- The comparison tried on tables: what the call for NashConv answers of some, and how these quotients compare. Proved in proofs/Tried.antt by computing.
 use mathlib.Core.Path.{_≡_}
 use mathlib.Core.List.{List, [], _∷_, map}
 use Prim.Native.Nat.{ℕ}
