@@ -161,6 +161,41 @@ static void units_cases(void) {
     units_case("l", 3, "303030210303302121303003", -9, -9, 9, 0, NULL);
 }
 
+/* ---- The comparison of NashConv / units: of tables of Kuhn 2, and of any four numbers, both ways round */
+
+static chukkanalli_nash_conv_answer kuhn_conv(uint64_t d, uint8_t pass, uint8_t bet) {
+    static uint64_t work[12 * 58];
+    uint8_t table[24];
+    for (int entry = 0; entry < 24; entry++) {
+        table[entry] = entry % 2 == 0 ? pass : bet;
+    }
+    chukkanalli_nash_conv_answer answer = chukkanalli_nash_conv_units(CHUKKANALLI_KUHN_POKER, 2, work, 12 * 58, d, table, 24);
+    expect("a table to compare", answer.refusal == 0);
+    return answer;
+}
+
+static void compared(int64_t answer, uint64_t nash_conv, uint64_t units, uint64_t other_nash_conv, uint64_t other_units) {
+    expect("a comparison",
+        chukkanalli_compare(nash_conv, units, other_nash_conv, other_units) == answer
+            && chukkanalli_compare(other_nash_conv, other_units, nash_conv, units) == -answer);
+}
+
+static void comparisons(void) {
+    chukkanalli_nash_conv_answer once = kuhn_conv(1, 1, 0), twice = kuhn_conv(2, 2, 0), mixed = kuhn_conv(3, 2, 1);
+    expect("NashConv to compare", once.nash_conv == 12 && twice.nash_conv == 96 && mixed.nash_conv == 198);
+    compared(0, once.nash_conv, once.units, twice.nash_conv, twice.units);
+    compared(1, once.nash_conv, once.units, mixed.nash_conv, mixed.units);
+    compared(0, 12, 6, 240, 120); /* Leduc, always the first action, D 1 */
+    compared(-1, 12, 6, 956821248, 201553920); /* Leduc, even parts, D 6 */
+    compared(1, 956821248, 201553920, 74975788562120704, 33776997205278720); /* Leduc, 1 part on each action but the first, D 64 */
+    compared(0, 1383552240, 691776120, 615093750000, 307546875000); /* Leduc, always the first action, D 7 and D 15 */
+    compared(-1, UINT64_MAX - 1, UINT64_MAX, UINT64_MAX, UINT64_MAX);
+    compared(-1, UINT64_MAX - 2, UINT64_MAX - 1, UINT64_MAX - 1, UINT64_MAX);
+    compared(0, 0, 0, UINT64_MAX, 1); /* with 0 units it is no order: 0 of 0 is equal to both */
+    compared(0, 0, 0, 1, UINT64_MAX);
+    compared(1, 1, 0, UINT64_MAX, 1);
+}
+
 /* ---- The values in f64 of the profile of Kuhn 2 that is 1/2 everywhere, near the exact ones */
 
 static int f64_near(chukkanalli_values answer, uint64_t count, double zero, double one) {
@@ -320,6 +355,7 @@ int main(void) {
     leduc_cases();
     listing();
     units_cases();
+    comparisons();
     f64_cases();
     refusals();
     kuhn_calls();

@@ -1,9 +1,9 @@
 /*
- * Kuhn poker for 2 to 10 seats and Leduc hold'em for 2: the rules calls, the saved-position checks, the listing and the
- * evaluations in whole units and in f64 of libchukkanalli.a, for x86-64 Linux.
+ * Kuhn poker for 2 to 10 seats and Leduc hold'em for 2: the rules calls, the saved-position checks, the listing, the
+ * evaluations in whole units and in f64 and the comparison of evaluated tables of libchukkanalli.a, for x86-64 Linux.
  *
  * Every call is defined on every input, and answers a refusal number: 0 if it was accepted, else the first number of the list below that
- * applies. A refused call leaves all lent memory as it was. Every answer of a call on a position holds a position: the new one of an
+ * applies; chukkanalli_compare alone refuses nothing. A refused call leaves all lent memory as it was. Every answer of a call on a position holds a position: the new one of an
  * accepted deal or step, else the one handed in, to the byte. Every other field of a refused answer is 0. A call touches no memory but what
  * it is lent, and keeps no state.
  *
@@ -224,6 +224,11 @@ typedef struct {
 /* NashConv of a table. Refuses with 1, 2, 3, 4, 6, 7, 8. */
 chukkanalli_nash_conv_answer chukkanalli_nash_conv_units(
     uint64_t game, uint64_t seats, uint64_t *work, size_t work_len, uint64_t d, const uint8_t *table, size_t table_len);
+
+/* How NashConv / units of one table stands to that of another, of any games, seats and d: -1 less, 0 equal, 1 greater; the lesser is closer to equilibrium.
+ * Of any four numbers it compares nash_conv * other_units with other_nash_conv * units, as whole numbers. Units of 0, which no accepted call answers,
+ * make it no order: 0 of 0 is equal to everything. */
+int64_t chukkanalli_compare(uint64_t nash_conv, uint64_t units, uint64_t other_nash_conv, uint64_t other_units);
 
 /* Values in f64. A profile lists an entry for each action, set after set in set order, any bits; products, sums and quotients are rounded in the order
  * that document 01 says. What these calls answer: count values, 0.0 past them. */

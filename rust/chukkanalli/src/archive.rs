@@ -193,6 +193,11 @@ pub fn nash_conv_units(game: u64, seats: u64, work: &mut [u64], d: u64, table: &
     unsafe { exports::chukkanalli_nash_conv_units(game, seats, work, words, d, table.as_ptr(), table.len()) }
 }
 
+/// How nash_conv × other_units stands to other_nash_conv × units, as whole numbers: −1, 0 or 1. Never refuses.
+pub fn compare(nash_conv: u64, units: u64, other_nash_conv: u64, other_units: u64) -> i64 {
+    unsafe { exports::chukkanalli_compare(nash_conv, units, other_nash_conv, other_units) }
+}
+
 /// Refuses with 1, 2, 3, 4, 5, 7.
 pub fn best_response_value(game: u64, seats: u64, work: &mut [u64], seat: u64, profile: &[f64]) -> ValuesAnswer {
     let (work, words) = (work.as_mut_ptr(), work.len());

@@ -1,6 +1,7 @@
 //! The calls that need a game's tree: the listing of its sets, and the evaluations in whole units.
 
 use std::alloc::{self, Layout};
+use std::cmp::Ordering;
 
 use crate::archive::{self, accepted};
 use crate::{
@@ -36,6 +37,14 @@ pub struct BestReply {
 pub struct NashConv {
     pub nash_conv: u64,
     pub units: u64,
+}
+
+impl NashConv {
+    /// How NashConv / U stands to that of another table, of any game, seats and D: the lesser is closer to equilibrium. Among answers of
+    /// [`Evaluator::nash_conv_units`] it is an order; with 0 units, which no table has, it is none, so there is no `Ord`.
+    pub fn compare(&self, other: &NashConv) -> Ordering {
+        archive::compare(self.nash_conv, self.units, other.nash_conv, other.units).cmp(&0)
+    }
 }
 
 impl Evaluator {

@@ -86,6 +86,7 @@ extern "C" {
         table: *const u8,
         table_len: usize,
     ) -> NashConvAnswer;
+    pub fn chukkanalli_compare(nash_conv: u64, units: u64, other_nash_conv: u64, other_units: u64) -> i64;
 
     pub fn chukkanalli_best_response_value(
         game: u64,

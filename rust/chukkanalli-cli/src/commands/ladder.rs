@@ -54,12 +54,10 @@ impl Standing {
     }
 
     fn ranks(&self) -> String {
-        let fractions: Vec<Fraction> =
-            self.ranked.iter().map(|(_, conv)| Fraction::of_sum(conv.nash_conv, conv.units)).collect();
         let mut rows = vec![["rank", "NashConv", "chips per hand", "in decimals", "table"].map(str::to_string)];
-        for (rank, place) in ranked(&fractions) {
+        for (rank, place) in ranked(&self.ranked, |(_, one), (_, other)| one.compare(other)) {
             let (name, conv) = &self.ranked[place];
-            let chips = fractions[place];
+            let chips = Fraction::of_sum(conv.nash_conv, conv.units);
             rows.push([
                 rank.to_string(),
                 conv.nash_conv.to_string(),

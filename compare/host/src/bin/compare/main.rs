@@ -1,6 +1,8 @@
 //! `compare [CALLS [SEED]]`: as many hands of each game, and as many listings, with random inputs, held to the unchanged Rust; and tables of
-//! each game, held to the reference in whole units, and profiles, held to the Rust. It prints its seed, and stops at the first difference.
+//! each game, held to the reference in whole units, profiles, held to the Rust, and the comparison of tables, held to the reference. It prints its seed,
+//! and stops at the first difference.
 
+mod comparison;
 mod floats;
 mod game;
 mod listing;
@@ -22,6 +24,7 @@ fn main() {
     listing::compare(calls, &mut random);
     units::compare(&mut random);
     floats::compare(&mut random);
+    comparison::compare(&mut random);
 }
 
 fn clock() -> u64 {
