@@ -94,7 +94,7 @@ fn read_list(list: &Path, gathered: &mut Gathered, console: &mut Console) -> Res
         gathered.input_is_taken = true;
         ("standard input".to_string(), tables::limited(console.input(), MOST_OF_A_LIST))
     } else {
-        let file = fs::File::open(list);
+        let file = tables::opened(list);
         (file_name(list), file.and_then(|file| tables::limited(file, MOST_OF_A_LIST)))
     };
     let bytes = read.map_err(|error| tables::unreadable(error).sentences(&name).join("\n"))?;

@@ -60,7 +60,8 @@ fn the_order_of_the_lines_changes_no_value() {
     let mut random = Random::new(24);
     for (game, d) in GAMES.into_iter().zip([12, 64, 7]) {
         let labels = labels(game);
-        let folders = ["plain", "shuffled", "csv"].map(|name| folder(&format!("order-{}-{}-{name}", game.name(), game.seats())));
+        let folders =
+            ["plain", "shuffled", "csv"].map(|name| folder(&format!("order-{}-{}-{name}", game.name(), game.seats())));
         for k in 0..200 {
             let parts = parts(&mut random, &labels, d);
             let plain: Vec<String> = parts.iter().map(u8::to_string).collect();
@@ -94,7 +95,9 @@ const DAMAGES: [(&str, Damage); 14] = [
     ("a part is missing", |parts, label| format!("{}  # {label}", parts[1..].join(" "))),
     ("a part too many", |parts, label| format!("{} 0  # {label}", parts.join(" "))),
     ("no parts", |_, label| format!("# {label}")),
-    ("a wrong sum", |parts, label| format!("{} {}  # {label}", 1 + parts[0].parse::<u8>().unwrap(), parts[1..].join(" "))),
+    ("a wrong sum", |parts, label| {
+        format!("{} {}  # {label}", 1 + parts[0].parse::<u8>().unwrap(), parts[1..].join(" "))
+    }),
     ("a decimal", |parts, label| format!("{}.0 {}  # {label}", parts[0], parts[1..].join(" "))),
     ("a quotient", |parts, label| format!("1/3 {}  # {label}", parts[1..].join(" "))),
     ("a negative part", |parts, label| format!("-1 {}  # {label}", parts[1..].join(" "))),
@@ -103,7 +106,8 @@ const DAMAGES: [(&str, Damage); 14] = [
     ("no label", |parts, _| parts.join(" ")),
     ("an unknown label", |parts, label| format!("{}  # {}", parts.join(" "), label.replace("seat ", "seat 1"))),
     ("a label of another game", |parts, label| {
-        let other = if label.contains("PASS") { "FOLD CALL: seat 0, card 0 (rank 0)" } else { "PASS BET: seat 0, card 0" };
+        let other =
+            if label.contains("PASS") { "FOLD CALL: seat 0, card 0 (rank 0)" } else { "PASS BET: seat 0, card 0" };
         format!("{}  # {other}, first action of the hand", parts.join(" "))
     }),
     ("actions in another order", |parts, label| {
@@ -200,7 +204,8 @@ fn a_damaged_row_is_refused_with_its_number() {
 
 #[test]
 fn a_missing_line_is_told_by_its_words_and_no_other_is_blamed() {
-    let text: Vec<String> = run_line("template leduc 2 1").out.replace("\n0 ", "\n1 ").lines().map(str::to_string).collect();
+    let text: Vec<String> =
+        run_line("template leduc 2 1").out.replace("\n0 ", "\n1 ").lines().map(str::to_string).collect();
     let label = text[399].split_once("# ").unwrap().1.to_string();
     let file = table("leduc-399.txt", [&text[..399], &text[400..]].concat().join("\n"));
     let run = run(["evaluate", "leduc", "2", "1", &file]);
@@ -238,7 +243,10 @@ fn headings_are_held_to_the_command_and_may_stand_for_it() {
     assert!(ladder.out.starts_with("Kuhn with 2 seats, D 4, "), "{}", ladder.out);
     let bare = table("headless.txt", "4 0\n".repeat(12));
     let mixed = run(["ladder", &two, &bare]);
-    assert_eq!((mixed.status, mixed.err), (1, format!("chukkanalli: {bare}: no line is a heading, and one is asked for\n")));
+    assert_eq!(
+        (mixed.status, mixed.err),
+        (1, format!("chukkanalli: {bare}: no line is a heading, and one is asked for\n"))
+    );
     let none = run(["evaluate", &bare]);
     let sentence = format!("evaluate: GAME SEATS D are left out, and {bare} has no heading");
     assert_eq!((none.status, none.err.lines().next()), (2, Some(&format!("chukkanalli: {sentence}")[..])));
@@ -259,7 +267,11 @@ fn headings_are_held_to_the_command_and_may_stand_for_it() {
 fn labels_can_be_asked_for() {
     let bare = table("unlabelled.txt", "1 0\n".repeat(12));
     let sentence = format!("chukkanalli: {bare}: no line has a label, and labels are asked for\n");
-    for args in [&["evaluate", "kuhn", "2", "1", &bare][..], &["reply", "kuhn", "2", "1", &bare, "0"], &["f64", "kuhn", "2", &bare]] {
+    for args in [
+        &["evaluate", "kuhn", "2", "1", &bare][..],
+        &["reply", "kuhn", "2", "1", &bare, "0"],
+        &["f64", "kuhn", "2", &bare],
+    ] {
         assert_eq!(run(args).status, 0);
         let refused = run([args, &["--labelled"]].concat());
         assert_eq!((refused.status, refused.out, &refused.err), (1, String::new(), &sentence));
@@ -287,8 +299,16 @@ fn profiles_are_read_by_labels_and_held_to_their_sums() {
     let unfilled = run_line("template kuhn 2 1").out;
     refused("unfilled-profile.txt", &unfilled, &format!("5: every set adds up to 0, {one}; is it filled in?"));
     let label = "seat 1, card 1, after PASS";
-    refused("four.txt", &sample.replacen("0.5 0.5  # PASS BET: seat 1", "0.4 0.4 # PASS BET: seat 1", 1), &format!("4: {label} has 0.4 + 0.4 = 0.8, {one}"));
-    refused("minus.txt", &sample.replacen("0.5 0.5  # PASS BET: seat 1", "-0.5 1.5 # PASS BET: seat 1", 1), &format!("4: {label} has -0.5 + 1.5, and no share of the hands is below 0"));
+    refused(
+        "four.txt",
+        &sample.replacen("0.5 0.5  # PASS BET: seat 1", "0.4 0.4 # PASS BET: seat 1", 1),
+        &format!("4: {label} has 0.4 + 0.4 = 0.8, {one}"),
+    );
+    refused(
+        "minus.txt",
+        &sample.replacen("0.5 0.5  # PASS BET: seat 1", "-0.5 1.5 # PASS BET: seat 1", 1),
+        &format!("4: {label} has -0.5 + 1.5, and no share of the hands is below 0"),
+    );
     let d_12 = "is it a table with D 12, for `chukkanalli evaluate`?";
     refused("twelve.txt", &sample.replace("0.5 0.5", "5 7"), &format!("3: every set adds up to 12, {one}; {d_12}"));
 }

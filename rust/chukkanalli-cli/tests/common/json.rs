@@ -172,7 +172,8 @@ impl Schema {
                 self.fault_by(self.0.get("$defs").get(name), value)
             }
             ("type", _) => {
-                let is = |kind: &Json| kind.text() == value.kind() || (kind.text() == "number" && value.kind() == "integer");
+                let is =
+                    |kind: &Json| kind.text() == value.kind() || (kind.text() == "number" && value.kind() == "integer");
                 wrong(match rule {
                     Json::List(kinds) => kinds.iter().any(is),
                     kind => is(kind),

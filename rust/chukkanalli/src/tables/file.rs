@@ -25,15 +25,20 @@ pub fn bytes_of<T: Number>(path: &Path) -> Result<Vec<u8>, Faults> {
     if kind.is_dir() {
         return Err(Faults::of_file(format!("this is a folder, not a {}", T::FILE)));
     }
-    if !kind.is_fifo() {
-        return bytes_from::<T>(File::open(path).map_err(unreadable)?);
-    }
-    let pipe = OpenOptions::new().read(true).custom_flags(WITHOUT_WAITING).open(path).map_err(unreadable)?;
-    let bytes = bytes_from::<T>(Patient(pipe))?;
-    if bytes.is_empty() {
+    let bytes = bytes_from::<T>(opened(path).map_err(unreadable)?)?;
+    if bytes.is_empty() && kind.is_fifo() {
         return Err(Faults::of_file("this is a pipe that nobody writes to"));
     }
     Ok(bytes)
+}
+
+/// Opens a file; a pipe without a writer is at its end.
+pub fn opened(path: &Path) -> io::Result<impl Read> {
+    let mut options = OpenOptions::new();
+    if fs::metadata(path)?.file_type().is_fifo() {
+        options.custom_flags(WITHOUT_WAITING);
+    }
+    options.read(true).open(path).map(Patient)
 }
 
 /// The bytes of an open file that is to hold such numbers.
@@ -56,7 +61,7 @@ pub fn limited(file: impl Read, most: usize) -> io::Result<Vec<u8>> {
     Ok(bytes)
 }
 
-/// A pipe that is asked again while it has a writer and no bytes.
+/// A file that is asked again while it is a pipe with a writer and no bytes.
 struct Patient(File);
 
 impl Read for Patient {

@@ -43,7 +43,7 @@ mod writer;
 
 pub use entries::{Entries, ReadBy};
 pub use fault::{Fault, Faults, MOST_TOLD};
-pub use file::{bytes_from, bytes_of, limited, unreadable, MOST_BYTES};
+pub use file::{bytes_from, bytes_of, limited, opened, unreadable, MOST_BYTES};
 pub use heading::Heading;
 pub use labels::Labels;
 pub use number::Number;
