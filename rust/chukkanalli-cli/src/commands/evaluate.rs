@@ -21,15 +21,16 @@ pub struct Evaluation {
 }
 
 impl Evaluation {
-    pub fn of(evaluator: &mut Evaluator, d: u64, parts: &[u8]) -> Result<Self, Refusal> {
-        let worths = evaluator.worths(d, parts)?;
-        let mut best = Vec::new();
-        let mut reply = vec![0; parts.len()];
-        for seat in 0..evaluator.game().seats() {
-            best.push(evaluator.best_reply_into(seat, d, parts, &mut reply)?);
-        }
-        let conv = evaluator.nash_conv_units(d, parts)?;
-        Ok(Evaluation { worths, best, conv })
+    fn of(evaluator: &mut Evaluator, d: u64, parts: &[u8]) -> Result<Self, Refusal> {
+        let (worths, best) = (evaluator.worths(d, parts)?, best_values(evaluator, d, parts)?);
+        Ok(Evaluation { worths, best, conv: evaluator.nash_conv_units(d, parts)? })
+    }
+
+    /// The same in half the time, where the units of the game with D are known: NashConv is the sum of the gains.
+    pub fn with_units(evaluator: &mut Evaluator, d: u64, parts: &[u8], units: u64) -> Result<Self, Refusal> {
+        let (worths, best) = (evaluator.worths(d, parts)?, best_values(evaluator, d, parts)?);
+        let nash_conv = worths.iter().zip(&best).map(|(worth, best)| best.abs_diff(*worth)).sum();
+        Ok(Evaluation { worths, best, conv: NashConv { nash_conv, units } })
     }
 
     /// Each seat with its worth and its best value.
@@ -41,6 +42,11 @@ impl Evaluation {
     pub fn seat_values(&self) -> Vec<output::Members> {
         self.by_seat().map(|(seat, worth, best)| output::seat_values(seat, worth, best)).collect()
     }
+}
+
+fn best_values(evaluator: &mut Evaluator, d: u64, parts: &[u8]) -> Result<Vec<i64>, Refusal> {
+    let mut reply = vec![0; parts.len()];
+    (0..evaluator.game().seats()).map(|seat| evaluator.best_reply_into(seat, d, parts, &mut reply)).collect()
 }
 
 pub fn run(setting: Option<Setting>, tables: &[PathBuf], options: &Options, console: &mut Console) -> Result<u8, Stop> {

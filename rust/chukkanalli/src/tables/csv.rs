@@ -5,9 +5,11 @@ use std::borrow::Cow;
 
 use super::encoding::lines;
 use super::fault::Faults;
+use super::heading::Heading;
 use super::labels::{self, Labels};
 use super::number::Number;
 use super::rows::{Label, Row, Rows};
+use super::text::comment_line;
 use super::words::{quoted, quoted_label};
 
 /// The name of the label's column.
@@ -58,24 +60,16 @@ fn quoted_cell(opened: &str, separator: char) -> Result<(Cow<'_, str>, &str), &'
     }
 }
 
-/// The comment of a row whose first cell is one.
-pub fn comment_row(line: &str) -> Option<Cow<'_, str>> {
-    let opened = line.trim_start().strip_prefix('"')?;
-    let comment = opened.trim_start().strip_prefix('#')?;
-    Some(match quoted_cell(comment, ',') {
-        Ok((cell, _)) => cell,
-        Err(_) => Cow::Borrowed(comment.split('"').next().unwrap_or_default()),
-    })
-}
-
-fn is_comment(line: &str) -> bool {
-    line.trim_start().starts_with('#') || comment_row(line).is_some()
+/// The comment that a line is, as it stands or in a cell with quotes.
+pub fn comment_in(line: &str) -> Option<&str> {
+    let quoted = || line.trim_start().strip_prefix('"')?.trim_start().strip_prefix('#')?.split('"').next();
+    comment_line(line).or_else(quoted)
 }
 
 /// The separator of a CSV file; none for any other text. Its first line that is no comment begins with the label column's name, or with
 /// what is meant as a label.
 pub fn separator_of(text: &str) -> Option<char> {
-    let line = lines(text).find(|line| !line.trim().is_empty() && !is_comment(line))?;
+    let line = lines(text).find(|line| !line.trim().is_empty() && comment_in(line).is_none())?;
     let line = line.split('#').next()?;
     let (first, separator) = match line.trim_start().strip_prefix('"') {
         Some(opened) => {
@@ -98,11 +92,12 @@ pub fn columns(labels: &Labels) -> Vec<&'static str> {
 
 /// The rows of a CSV file, with a fault for each cell that is no number, and for each label that is none.
 pub fn rows<T: Number>(text: &str, separator: char, labels: &Labels, faults: &mut Faults) -> Rows<T> {
-    let mut rows = Rows::new();
+    let mut rows = Rows::new(labels);
     let mut reading = Reading { separator, labels, columns: columns(labels), surplus: None };
     for (line, content) in (1..).zip(lines(text)) {
         rows.last_line = line;
-        if is_comment(content) {
+        if let Some(comment) = comment_in(content) {
+            rows.headings.extend(Heading::of_comment(comment).map(|heading| (line, heading)));
             continue;
         }
         match cells(content, separator) {

@@ -1,5 +1,7 @@
 //! Bytes as text, and its lines.
 
+use std::io::BufRead;
+
 use super::fault::Faults;
 
 /// The bytes as UTF-8 without control characters but tabs and line ends. A byte order mark at the front is skipped.
@@ -41,15 +43,47 @@ fn foreign(bytes: &[u8]) -> Option<&'static str> {
 
 /// Whether a byte may be of a control character; bytes alone, so that it takes no time on a text without.
 fn may_have_control(bytes: &[u8]) -> bool {
-    let odd = |&byte: &u8| byte < 0x20 && !matches!(byte, b'\t' | b'\n' | b'\r') || byte == 0x7F || byte == 0xC2;
-    bytes.chunks(256).any(|chunk| chunk.iter().fold(false, |seen, byte| seen | odd(byte)))
+    let low = |byte: u8| (byte < 0x20) & (byte != b'\t') & (byte != b'\n') & (byte != b'\r');
+    let odd = |byte: u8| low(byte) | (byte == 0x7F) | (byte == 0xC2);
+    bytes.chunks(1024).any(|chunk| chunk.iter().fold(false, |seen, &byte| seen | odd(byte)))
 }
 
 /// The lines of a text, without a last one that is empty. A line ends with LF, CRLF or CR.
-pub fn lines(text: &str) -> impl Iterator<Item = &str> {
-    let whole = (!text.is_empty()).then(|| text.strip_suffix('\n').unwrap_or(text));
-    let pieces = whole.into_iter().flat_map(|whole| whole.split('\n'));
-    pieces.flat_map(|piece| piece.strip_suffix('\r').unwrap_or(piece).split('\r'))
+pub fn lines(text: &str) -> Lines<'_> {
+    Lines { rest: text, has_cr: text.contains('\r') }
+}
+
+pub struct Lines<'a> {
+    rest: &'a str,
+    has_cr: bool,
+}
+
+impl<'a> Iterator for Lines<'a> {
+    type Item = &'a str;
+
+    fn next(&mut self) -> Option<&'a str> {
+        if self.rest.is_empty() {
+            return None;
+        }
+        let end = match self.has_cr {
+            true => self.rest.bytes().position(|byte| matches!(byte, b'\n' | b'\r')).unwrap_or(self.rest.len()),
+            false => line_feed(self.rest.as_bytes()),
+        };
+        let (line, behind) = self.rest.split_at(end);
+        self.rest = behind.strip_prefix("\r\n").or_else(|| behind.get(1..)).unwrap_or_default();
+        Some(line)
+    }
+}
+
+/// The place of the first line feed, by the system's search for a byte, or the end.
+fn line_feed(bytes: &[u8]) -> usize {
+    let mut rest = bytes;
+    let skipped = rest.skip_until(b'\n').unwrap_or(bytes.len());
+    if bytes[..skipped].ends_with(b"\n") {
+        skipped - 1
+    } else {
+        skipped
+    }
 }
 
 /// The line that comes behind these bytes, whose front is text.

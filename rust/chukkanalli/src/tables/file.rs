@@ -13,6 +13,9 @@ use super::number::Number;
 /// The bytes of a file at most; a table of 2,688 entries with a line of words for each takes a hundredth of it.
 pub const MOST_BYTES: usize = 16 << 20;
 
+/// What most files fit in, so that reading them takes no memory twice.
+const FEW_BYTES: usize = 128 << 10;
+
 /// Linux's flag for an open that does not wait, O_NONBLOCK.
 const WITHOUT_WAITING: i32 = 0o4000;
 
@@ -53,7 +56,7 @@ pub fn bytes_from<T: Number>(file: impl Read) -> Result<Vec<u8>, Faults> {
 
 /// The bytes of an open file, an error where there are more than so many.
 pub fn limited(file: impl Read, most: usize) -> io::Result<Vec<u8>> {
-    let mut bytes = Vec::new();
+    let mut bytes = Vec::with_capacity(FEW_BYTES);
     file.take(most as u64 + 1).read_to_end(&mut bytes)?;
     if bytes.len() > most {
         return Err(ErrorKind::FileTooLarge.into());

@@ -1,7 +1,9 @@
 //! The labels of a game's sets: the words that a template has behind the parts, and the way back from them.
 
 use std::collections::HashMap;
+use std::hash::{BuildHasherDefault, Hasher};
 
+use super::text::comment_of;
 use super::words::{action_words, set_words};
 use crate::{Evaluator, Game, InfoSet};
 
@@ -15,8 +17,34 @@ pub struct Labels {
     game: Game,
     sets: Vec<InfoSet>,
     labels: Vec<String>,
-    exact: HashMap<String, usize>,
-    folded: HashMap<String, usize>,
+    exact: SetsByLabel,
+    folded: SetsByLabel,
+}
+
+type SetsByLabel = HashMap<String, usize, BuildHasherDefault<Quick>>;
+
+/// Takes the bytes of a label eight at a time. The keys are a game's own labels, so that nobody can choose them to be slow.
+#[derive(Default)]
+struct Quick(u64);
+
+impl Hasher for Quick {
+    fn write(&mut self, bytes: &[u8]) {
+        let mut take = |word: [u8; 8]| {
+            self.0 = (self.0.rotate_left(5) ^ u64::from_le_bytes(word)).wrapping_mul(0x517C_C1B7_2722_0A95);
+        };
+        let words = bytes.chunks_exact(8);
+        let mut last = [0; 8];
+        last[..words.remainder().len()].copy_from_slice(words.remainder());
+        words.filter_map(|word| word.try_into().ok()).for_each(&mut take);
+        take(last);
+    }
+
+    /// What a text's own hash ends with says nothing here.
+    fn write_u8(&mut self, _: u8) {}
+
+    fn finish(&self) -> u64 {
+        self.0 ^ self.0 >> 32
+    }
 }
 
 impl Labels {
@@ -64,15 +92,19 @@ impl Labels {
 
     /// The set that a text is the label of, in any case of letters and with any blanks between the words.
     pub fn find(&self, text: &str) -> Option<usize> {
-        let text = text.trim();
-        self.exact.get(text).or_else(|| self.folded.get(&folded(text))).copied()
+        let text = text.trim_ascii();
+        self.exact.get(text).or_else(|| self.find_folded(text)).copied()
     }
 
-    /// The same, tried first with the set that comes next in a file with its lines in order.
-    pub(super) fn find_next(&self, text: &str, next: usize) -> Option<usize> {
+    fn find_folded(&self, text: &str) -> Option<&usize> {
+        is_meant(text).then(|| self.folded.get(&folded(text))).flatten()
+    }
+
+    /// The set of a label behind a #, up to a second; tried first with the set that comes next where the lines are in order.
+    pub(super) fn find_next(&self, behind: &str, next: usize) -> Option<usize> {
         match self.labels.get(next) {
-            Some(label) if label == text.trim() => Some(next),
-            _ => self.find(text),
+            Some(label) if behind.strip_prefix(' ') == Some(label) => Some(next),
+            _ => self.exact.get(behind.trim_ascii()).copied().or_else(|| self.find(comment_of(behind))),
         }
     }
 
@@ -125,7 +157,9 @@ mod tests {
                 assert!(is_meant(label));
                 assert_eq!(labels.find(label), Some(set));
                 assert_eq!(labels.find(&format!("  {} ", label.to_uppercase().replace(' ', "\t "))), Some(set));
-                assert_eq!((labels.find_next(label, set), labels.find_next(label, 0)), (Some(set), Some(set)));
+                let behind = format!(" {label}");
+                assert_eq!((labels.find_next(&behind, set), labels.find_next(label, 0)), (Some(set), Some(set)));
+                assert_eq!(labels.find_next(&format!(" {label} # mine"), set), Some(set));
                 assert_eq!(format!("{}: {}", labels.actions(set), labels.words(set)), label);
             }
             assert_eq!(labels.find_next(labels.label(0), labels.sets().len()), Some(0));

@@ -6,6 +6,7 @@ use super::fault::Faults;
 use super::heading::Heading;
 use super::labels::Labels;
 use super::number::Number;
+use super::rows::Rows;
 use super::words::game_words;
 use super::{csv, placing, sums, text};
 use crate::Refusal;
@@ -51,14 +52,14 @@ impl<'a> Reader<'a> {
     /// Reads a file's bytes: `u8` for a table, `f64` for a profile. The sums of a table are left to the evaluation, which refuses with 8.
     pub fn read<T: Number>(&self, bytes: &[u8]) -> Result<Entries<T>, Faults> {
         let text = text_of(bytes)?;
-        self.hold_headings(text)?;
         let mut faults = Faults::default();
-        if let Some(separator) = csv::separator_of(text) {
-            let rows = csv::rows(text, separator, self.labels, &mut faults);
-            return placing::by_labels(rows, self.labels, self.d, faults);
-        }
-        let rows = text::rows(text, self.labels, &mut faults);
-        if placing::is_labelled(&rows) {
+        let separator = csv::separator_of(text);
+        let rows = match separator {
+            Some(separator) => csv::rows(text, separator, self.labels, &mut faults),
+            None => text::rows(text, self.labels, &mut faults),
+        };
+        self.hold_headings(&rows)?;
+        if separator.is_some() || placing::is_labelled(&rows) {
             return placing::by_labels(rows, self.labels, self.d, faults);
         }
         let entries = placing::by_position(rows, faults)?;
@@ -77,17 +78,19 @@ impl<'a> Reader<'a> {
         Ok(entries)
     }
 
-    fn hold_headings(&self, text: &str) -> Result<(), Faults> {
+    /// Where a heading is of something else, that alone is told.
+    fn hold_headings<T>(&self, rows: &Rows<T>) -> Result<(), Faults> {
         let mut faults = Faults::default();
-        let mut headed = false;
-        for (line, heading) in headings_of(text) {
-            headed = true;
-            let wrong = heading.map_or_else(Some, |heading| heading.mismatch(self.labels.game(), self.d));
+        for (line, heading) in &rows.headings {
+            let wrong = match heading {
+                Ok(heading) => heading.mismatch(self.labels.game(), self.d),
+                Err(sentence) => Some(sentence.clone()),
+            };
             if let Some(sentence) = wrong {
-                faults.add(Some(line), || sentence);
+                faults.add(Some(*line), || sentence);
             }
         }
-        if self.headed && !headed {
+        if self.headed && rows.headings.is_empty() {
             faults.add(None, || "no line is a heading, and one is asked for".to_string());
         }
         faults.none()
@@ -118,29 +121,20 @@ impl<'a> Reader<'a> {
 
 /// The first heading of a file, with its line; none where it has none.
 pub fn heading_of(bytes: &[u8]) -> Result<Option<(usize, Heading)>, Faults> {
-    match headings_of(text_of(bytes)?).next() {
+    let comments =
+        (1..).zip(lines(text_of(bytes)?)).filter_map(|(line, content)| Some((line, csv::comment_in(content)?)));
+    let mut headings = comments.filter_map(|(line, comment)| Some((line, Heading::of_comment(comment)?)));
+    match headings.next() {
         None => Ok(None),
         Some((line, Ok(heading))) => Ok(Some((line, heading))),
         Some((line, Err(sentence))) => Err(Faults::in_line(line, sentence)),
     }
 }
 
-/// The headings of a text, each with its line.
-fn headings_of(text: &str) -> impl Iterator<Item = (usize, Result<Heading, String>)> + '_ {
-    let comments = (1..).zip(lines(text)).filter(|(_, line)| line.trim_start().starts_with(['#', '"']));
-    comments.filter_map(|(line, content)| {
-        let heading = match text::comment_line(content) {
-            Some(comment) => Heading::of_comment(comment),
-            None => csv::comment_row(content).and_then(|comment| Heading::of_comment(&comment)),
-        };
-        heading.map(|heading| (line, heading))
-    })
-}
-
 #[cfg(test)]
 mod tests {
     use super::*;
-    use crate::tables::ReadBy;
+    use crate::tables::{template, Form, ReadBy};
     use crate::{Evaluator, Game};
 
     const KUHN: Game = Game::Kuhn { seats: 2 };
@@ -272,7 +266,8 @@ mod tests {
         let faults = |reader, heading| read(reader, heading).unwrap_err().to_string();
         let says = "line 1: the heading says Kuhn with 2 seats, D 3, and Kuhn with 2 seats, D 1 is asked for";
         assert_eq!(faults(with_1, "# Kuhn with 2 seats, D 3: 12 sets"), says);
-        assert_eq!(faults(with_1, "\"# Kuhn with 2 seats, D 3: 12 sets\",,"), says);
+        let csv = template(&labels, 3, Form::Csv);
+        assert_eq!(with_1.read::<u8>(csv.as_bytes()).unwrap_err().to_string(), says);
         assert!(read(without, "# Kuhn with 2 seats, D 3").is_ok());
         let leduc = "line 1: the heading says Leduc with 2 seats, and Kuhn with 2 seats is asked for";
         assert_eq!(faults(without, "# Leduc with 2 seats, D 3"), leduc);

@@ -1,6 +1,8 @@
 //! The rows of a file, text or CSV: numbers with the set that they are labelled as.
 
 use super::fault::Faults;
+use super::heading::Heading;
+use super::labels::Labels;
 use super::number::Number;
 
 /// What a row says of its set.
@@ -25,17 +27,24 @@ pub struct Row {
     pub spoiled: bool,
 }
 
-/// The rows of a file, and their numbers.
+/// The rows of a file with their numbers, and its headings, or what is wrong with them.
 #[derive(Clone, Debug)]
 pub struct Rows<T> {
     pub numbers: Vec<T>,
     pub rows: Vec<Row>,
+    pub headings: Vec<(usize, Result<Heading, String>)>,
     pub last_line: usize,
 }
 
 impl<T: Number> Rows<T> {
-    pub fn new() -> Self {
-        Rows { numbers: Vec::new(), rows: Vec::new(), last_line: 0 }
+    /// None yet, with room for those of a game.
+    pub fn new(labels: &Labels) -> Self {
+        Rows {
+            numbers: Vec::with_capacity(labels.entries()),
+            rows: Vec::with_capacity(labels.sets().len()),
+            headings: Vec::new(),
+            last_line: 0,
+        }
     }
 
     /// Takes a word as a number, and says whether it is one; where not, that is a fault.

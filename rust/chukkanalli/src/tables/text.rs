@@ -2,27 +2,32 @@
 
 use super::encoding::lines;
 use super::fault::Faults;
+use super::heading::Heading;
 use super::labels::{self, Labels};
 use super::number::Number;
 use super::rows::{Label, Row, Rows};
 
 /// The rows of a text, with a fault for each word before a # that is no number, and for each label that is none.
 pub fn rows<T: Number>(text: &str, labels: &Labels, faults: &mut Faults) -> Rows<T> {
-    let mut rows = Rows::new();
+    let mut rows = Rows::new(labels);
     let mut next = 0;
     for (line, content) in (1..).zip(lines(text)) {
         rows.last_line = line;
-        let (words, comment) = parted(content);
+        let (words, behind) = parted(content);
         let first = rows.numbers.len();
         let spoiled = !take_words(&mut rows, words, line, faults);
         let has_numbers = rows.numbers.len() > first;
-        let label = match comment.and_then(|comment| labels.find_next(comment, next)) {
+        let label = match behind.and_then(|behind| labels.find_next(behind, next)) {
             Some(set) => {
                 next = set + 1;
                 Label::Of(set)
             }
-            None if has_numbers => unless_meant(comment, line, labels, faults),
-            None => continue,
+            None if has_numbers => unless_meant(behind.map(comment_of), line, labels, faults),
+            None => {
+                let heading = behind.and_then(|behind| Heading::of_comment(comment_of(behind)));
+                rows.headings.extend(heading.map(|heading| (line, heading)));
+                continue;
+            }
         };
         rows.rows.push(Row { line, label, first, spoiled });
     }
@@ -57,17 +62,22 @@ fn unless_meant(comment: Option<&str>, line: usize, labels: &Labels, faults: &mu
     }
 }
 
-/// The comment of a line that has nothing else.
-pub fn comment_line(line: &str) -> Option<&str> {
-    parted(line).1.filter(|_| line.trim_start().starts_with('#'))
+/// What stands before the first # of a line, which comes soon, and behind it.
+fn parted(line: &str) -> (&str, Option<&str>) {
+    match line.bytes().position(|byte| byte == b'#') {
+        Some(at) => (&line[..at], Some(&line[at + 1..])),
+        None => (line, None),
+    }
 }
 
-/// What stands before the first # of a line, and the comment up to a second.
-pub fn parted(line: &str) -> (&str, Option<&str>) {
-    match line.split_once('#') {
-        None => (line, None),
-        Some((words, behind)) => (words, Some(behind.split_once('#').map_or(behind, |(comment, _)| comment))),
-    }
+/// The comment behind a #, up to a second.
+pub fn comment_of(behind: &str) -> &str {
+    behind.split_once('#').map_or(behind, |(comment, _)| comment)
+}
+
+/// The comment of a line that has nothing else.
+pub fn comment_line(line: &str) -> Option<&str> {
+    line.trim_start().strip_prefix('#').map(comment_of)
 }
 
 #[cfg(test)]
@@ -106,11 +116,8 @@ mod tests {
     }
 
     #[test]
-    fn a_line_is_parted_at_its_first_two_signs() {
-        assert_eq!(parted("1 0"), ("1 0", None));
-        assert_eq!(parted("1 0 # a"), ("1 0 ", Some(" a")));
-        assert_eq!(parted("#a#b#c"), ("", Some("a")));
-        assert_eq!(parted("1##"), ("1", Some("")));
+    fn a_comment_ends_at_a_second_sign() {
+        assert_eq!([" a", "a#b#c", "#", ""].map(comment_of), [" a", "a", "", ""]);
         assert_eq!((comment_line(" # a"), comment_line("1 # a"), comment_line("")), (Some(" a"), None, None));
     }
 }
