@@ -24,9 +24,11 @@ needed() { # NAME
         END { take(name); for (i = 1; i <= n; i++) if (order[i] in taken) print order[i] }' crates.txt
 }
 
-# Whether a crate has a file that is newer than its proof, or no proof.
+# Whether a crate has a file that is newer than its proof, or no proof; that of the library itself is its archive.
 is_changed() { # NAME
-    test ! -f "target/stamp/$1" || test -n "$(find "crates/$1" -type f -newer "target/stamp/$1" | head -n 1)"
+    proof=target/stamp/$1
+    test "$1" != "$name" || proof=target/staticlib/lib$name.a
+    test ! -f "$proof" || test -n "$(find "crates/$1" -type f -newer "$proof" | head -n 1)"
 }
 
 # Of some crates in order, those that are to be proved: changed ones, and those that depend on such a one.
@@ -40,6 +42,11 @@ to_prove() { # NAME...
         if test "$again" = yes || is_changed "$crate"; then todo="$todo$crate "; fi
     done
     echo "$todo"
+}
+
+# How many there are of something, as `1 crate` and `2 crates`.
+counted() { # COUNT NAME
+    if test "$1" -eq 1; then echo "1 $2"; else echo "$1 $2s"; fi
 }
 
 # About how many minutes it takes to prove some crates.
@@ -86,7 +93,8 @@ printf '%s\n' $todo >build/prove.todo
 total=$(echo "$todo" | wc -w)
 if test "$total" -gt 0; then
     # shellcheck disable=SC2086
-    echo "proving $total crates, which takes about $(minutes $todo) minutes and is needed once; $log has what rt says"
+    about=$(counted "$(minutes $todo)" minute)
+    echo "proving $(counted "$total" crate), which takes about $about and is needed once; $log has what rt says"
 fi
 # shellcheck disable=SC2046
 test "$total" -eq 0 || counting rt check $(echo "$crates" | grep -vxF "$name")
