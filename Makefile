@@ -42,13 +42,14 @@ sample:
 check:
 	rt check
 
-# The gate. `rt ci` removes target/ and proves all from nothing; the product's tests link what it proved. The last line is that of `rt ci`.
+# The gate. `rt ci` removes target/ and proves all from nothing, which is counted; the product's tests link what it proved. The last line is that of
+# `rt ci`; build/ci.log has all that it says.
 test: audit host-tests
 	rt fmt --check
 	mkdir -p build
 	rm -f build/ci.refused
-	{ rt ci || touch build/ci.refused; } 2>&1 | tee build/ci.log
-	test ! -e build/ci.refused
+	{ rt ci || touch build/ci.refused; } 2>&1 | tee build/ci.log | scripts/count.sh
+	test ! -e build/ci.refused || { cat build/ci.log; exit 1; }
 	$(MAKE) --no-print-directory product-test
 	tail -n 1 build/ci.log
 
@@ -100,11 +101,9 @@ fuzz: $(ARCHIVE)
 lists:
 	cd compare && RUST='$(RUST)' cargo run -q $(CARGO_FLAGS) --release --bin lists -- 2026 ../crates
 
-# The calls for C: proves them and writes $(ARCHIVE).
+# The calls for C: proves them, what they depend on side by side first, and writes $(ARCHIVE).
 archive:
-	mkdir -p build
-	test -f $(ARCHIVE) || echo 'proving the calls first, which takes some minutes; build/archive.log has what rt says' >&2
-	rt staticlib chukkanalli >build/archive.log 2>&1 || { cat build/archive.log; exit 1; }
+	scripts/prove.sh chukkanalli build/archive.log
 
 # The archive, where it is missing or older than a file of crates/.
 $(ARCHIVE): $(shell find crates crates.txt -type f)

@@ -190,6 +190,42 @@ chukkanalli_listing chukkanalli_enumerate_infosets(
 /* The seats of a tree at most. */
 enum { CHUKKANALLI_TREE_SEATS = 6 };
 
+/* The words of work memory for each node of a tree. */
+enum { CHUKKANALLI_WORDS = 12 };
+
+/* What each tree has: nodes, sets, the entries of a table, and the words of work memory that a call on it needs. */
+enum {
+    CHUKKANALLI_KUHN_2_NODES = 58,
+    CHUKKANALLI_KUHN_2_SETS = 12,
+    CHUKKANALLI_KUHN_2_ENTRIES = 24,
+    CHUKKANALLI_KUHN_2_WORK = CHUKKANALLI_WORDS * CHUKKANALLI_KUHN_2_NODES,
+    CHUKKANALLI_KUHN_3_NODES = 617,
+    CHUKKANALLI_KUHN_3_SETS = 48,
+    CHUKKANALLI_KUHN_3_ENTRIES = 96,
+    CHUKKANALLI_KUHN_3_WORK = CHUKKANALLI_WORDS * CHUKKANALLI_KUHN_3_NODES,
+    CHUKKANALLI_KUHN_4_NODES = 7886,
+    CHUKKANALLI_KUHN_4_SETS = 160,
+    CHUKKANALLI_KUHN_4_ENTRIES = 320,
+    CHUKKANALLI_KUHN_4_WORK = CHUKKANALLI_WORDS * CHUKKANALLI_KUHN_4_NODES,
+    CHUKKANALLI_KUHN_5_NODES = 116437,
+    CHUKKANALLI_KUHN_5_SETS = 480,
+    CHUKKANALLI_KUHN_5_ENTRIES = 960,
+    CHUKKANALLI_KUHN_5_WORK = CHUKKANALLI_WORDS * CHUKKANALLI_KUHN_5_NODES,
+    CHUKKANALLI_KUHN_6_NODES = 1944020,
+    CHUKKANALLI_KUHN_6_SETS = 1344,
+    CHUKKANALLI_KUHN_6_ENTRIES = 2688,
+    CHUKKANALLI_KUHN_6_WORK = CHUKKANALLI_WORDS * CHUKKANALLI_KUHN_6_NODES,
+    CHUKKANALLI_LEDUC_NODES = 9457,
+    CHUKKANALLI_LEDUC_SETS = 936,
+    CHUKKANALLI_LEDUC_ENTRIES = 2184,
+    CHUKKANALLI_LEDUC_WORK = CHUKKANALLI_WORDS * CHUKKANALLI_LEDUC_NODES
+};
+
+/* The listing asks how long its work memory is and does not look into it, so that it need not be initialised. */
+#if defined(__GNUC__) && !defined(__clang__) && __GNUC__ >= 11
+extern __typeof__(chukkanalli_enumerate_infosets) chukkanalli_enumerate_infosets __attribute__((access(none, 3)));
+#endif
+
 /* Whole units. A table lists the parts of each action, one byte each, set after set in set order; in each set they add up to d. The work memory
  * holds 12 words for each node of the tree; what it holds within these after an accepted call is not said, and what is beyond stays.
  * What the worths answer: the seats, and what the table is worth to each of them, 0 past them. */

@@ -3,8 +3,10 @@
 use std::ffi::{OsStr, OsString};
 use std::path::PathBuf;
 
+use chukkanalli::tables::quoted;
+
 use crate::help;
-use crate::words::quoted;
+use crate::options::{self, Options};
 
 /// The commands.
 #[derive(Clone, Copy, Debug, PartialEq, Eq)]
@@ -39,13 +41,18 @@ impl Verb {
         }
     }
 
-    /// Whether it takes any number of tables, and --jobs.
+    /// Whether it takes any number of tables.
     pub fn takes_many(self) -> bool {
         matches!(self, Verb::Evaluate | Verb::Ladder)
     }
 
     pub fn takes_a_file(self) -> bool {
         self != Verb::Template
+    }
+
+    /// Whether the files' headings may stand for GAME SEATS D.
+    pub fn takes_headings(self) -> bool {
+        matches!(self, Verb::Evaluate | Verb::Ladder | Verb::F64)
     }
 
     fn by_name(name: &OsStr) -> Option<Verb> {
@@ -74,32 +81,36 @@ pub struct Setting {
     pub d: Number,
 }
 
-/// What a command line asks for.
+/// What a command line asks for. Where no setting is given, it is that of the files' headings.
 #[derive(Clone, Debug, PartialEq, Eq)]
 pub enum Request {
     /// The help of a command, or of all.
     Help(Option<Verb>),
+    Version,
     Evaluate {
-        setting: Setting,
+        setting: Option<Setting>,
         tables: Vec<PathBuf>,
-        jobs: Option<u64>,
+        options: Options,
     },
     Ladder {
-        setting: Setting,
+        setting: Option<Setting>,
         tables: Vec<PathBuf>,
-        jobs: Option<u64>,
+        options: Options,
     },
     Reply {
         setting: Setting,
         table: PathBuf,
         seat: Number,
+        options: Options,
     },
     Template {
         setting: Setting,
+        options: Options,
     },
     F64 {
-        asked: Asked,
+        asked: Option<Asked>,
         profile: PathBuf,
+        options: Options,
     },
 }
 
@@ -124,13 +135,16 @@ pub fn parse(args: &[OsString]) -> Result<Request, Misuse> {
     if help::is_asked_by(first) {
         return Ok(Request::Help(None));
     }
+    if first == "--version" {
+        return Ok(Request::Version);
+    }
     let Some(verb) = Verb::by_name(first) else {
         let sentence = format!("{} is no command; there are {}", quoted(&first.to_string_lossy()), verb_names());
         return Err(Misuse { verb: None, sentence });
     };
-    match sort(verb, rest)? {
+    match options::sort(verb, rest)? {
         None => Ok(Request::Help(Some(verb))),
-        Some(sorted) => request(verb, sorted),
+        Some((places, options)) => request(verb, &places, options),
     }
 }
 
@@ -139,74 +153,47 @@ fn verb_names() -> String {
     names.join(", ")
 }
 
-/// What stands in places, and the number given with --jobs.
-struct Sorted {
-    places: Vec<OsString>,
-    jobs: Option<u64>,
+/// Whether GAME SEATS D are left out: the second word is no whole number.
+fn leaves_out_setting(verb: Verb, places: &[OsString], options: &Options) -> bool {
+    let given = !places.is_empty() || options.files_from.is_some();
+    verb.takes_headings() && given && !places.get(1).is_some_and(|word| is_whole(word))
 }
 
-/// Parts options from places; nothing if help is asked for.
-fn sort(verb: Verb, args: &[OsString]) -> Result<Option<Sorted>, Misuse> {
-    let mut sorted = Sorted { places: Vec::new(), jobs: None };
-    let mut args = args.iter();
-    while let Some(arg) = args.next() {
-        let text = arg.to_string_lossy();
-        if help::is_asked_by(arg) {
-            return Ok(None);
-        } else if text == "--" {
-            sorted.places.extend(args.by_ref().cloned());
-        } else if text == "--jobs" && verb.takes_many() {
-            let Some(count) = args.next() else {
-                return Err(Misuse::of(verb, "--jobs takes a number, and it is missing"));
-            };
-            sorted.jobs = Some(jobs_of(verb, &count.to_string_lossy())?);
-        } else if let (Some(count), true) = (text.strip_prefix("--jobs="), verb.takes_many()) {
-            sorted.jobs = Some(jobs_of(verb, count)?);
-        } else if is_option(&text) {
-            let hint = if verb.takes_a_file() { "; write -- before a file of that name" } else { "" };
-            return Err(Misuse::of(verb, format!("there is no option {}{hint}", quoted(&text))));
-        } else {
-            sorted.places.push(arg.clone());
-        }
-    }
-    Ok(Some(sorted))
+/// Digits, with a sign or without.
+fn is_whole(word: &OsStr) -> bool {
+    let word = word.to_string_lossy();
+    value_of(word.strip_prefix(['+', '-']).unwrap_or(&word)).is_some()
 }
 
-/// A dash with something behind it that is no number.
-fn is_option(text: &str) -> bool {
-    match text.strip_prefix('-') {
-        None | Some("") => false,
-        Some(rest) => !rest.bytes().all(|byte| byte.is_ascii_digit()),
-    }
-}
-
-fn jobs_of(verb: Verb, text: &str) -> Result<u64, Misuse> {
-    match value_of(text) {
-        Some(0) | None => Err(Misuse::of(verb, format!("--jobs is {}, and a number from 1 is needed", quoted(text)))),
-        Some(jobs) => Ok(jobs),
-    }
-}
-
-fn request(verb: Verb, sorted: Sorted) -> Result<Request, Misuse> {
-    let names = verb.places();
-    if let Some(missing) = names.get(sorted.places.len()) {
+fn request(verb: Verb, places: &[OsString], options: Options) -> Result<Request, Misuse> {
+    let left_out = leaves_out_setting(verb, places, &options);
+    let names = if left_out { &verb.places()[verb.places().len() - 1..] } else { verb.places() };
+    let listed = options.files_from.is_some();
+    if let Some(missing) = names.get(places.len()).filter(|&&name| !(listed && name == "TABLE")) {
         return Err(Misuse::of(verb, format!("{missing} is missing")));
     }
-    if sorted.places.len() > names.len() && !verb.takes_many() {
-        let surplus = sorted.places[names.len()].to_string_lossy();
+    if places.len() > names.len() && !verb.takes_many() {
+        let surplus = places[names.len()].to_string_lossy();
         return Err(Misuse::of(verb, format!("{} is one argument too many", quoted(&surplus))));
     }
-    let number = |place: usize| number_of(verb, names[place], &sorted.places[place]);
-    let asked = Asked { game: sorted.places[0].to_string_lossy().into_owned(), seats: number(1)? };
-    let setting = |asked| number(2).map(|d| Setting { asked, d });
-    let file = |place: usize| PathBuf::from(&sorted.places[place]);
-    let tables = || sorted.places[3..].iter().map(PathBuf::from).collect();
+    let number = |place: usize| number_of(verb, names[place], &places[place]);
+    let asked = || Ok(Asked { game: places[0].to_string_lossy().into_owned(), seats: number(1)? });
+    let setting = || Ok(Setting { asked: asked()?, d: number(2)? });
+    let files = |from: usize| places[from..].iter().map(PathBuf::from).collect();
+    let (setting_or_none, tables) = match verb {
+        Verb::Evaluate | Verb::Ladder if left_out => (None, files(0)),
+        Verb::Evaluate | Verb::Ladder => (Some(setting()?), files(3)),
+        _ => (None, Vec::new()),
+    };
     Ok(match verb {
-        Verb::Evaluate => Request::Evaluate { setting: setting(asked)?, tables: tables(), jobs: sorted.jobs },
-        Verb::Ladder => Request::Ladder { setting: setting(asked)?, tables: tables(), jobs: sorted.jobs },
-        Verb::Reply => Request::Reply { setting: setting(asked)?, table: file(3), seat: number(4)? },
-        Verb::Template => Request::Template { setting: setting(asked)? },
-        Verb::F64 => Request::F64 { asked, profile: file(2) },
+        Verb::Evaluate => Request::Evaluate { setting: setting_or_none, tables, options },
+        Verb::Ladder => Request::Ladder { setting: setting_or_none, tables, options },
+        Verb::Reply => {
+            Request::Reply { setting: setting()?, table: PathBuf::from(&places[3]), seat: number(4)?, options }
+        }
+        Verb::Template => Request::Template { setting: setting()?, options },
+        Verb::F64 if left_out => Request::F64 { asked: None, profile: PathBuf::from(&places[0]), options },
+        Verb::F64 => Request::F64 { asked: Some(asked()?), profile: PathBuf::from(&places[2]), options },
     })
 }
 
@@ -221,7 +208,7 @@ fn number_of(verb: Verb, name: &str, arg: &OsStr) -> Result<Number, Misuse> {
 }
 
 /// The value of some digits, the greatest of 64 bits where it is above that.
-fn value_of(text: &str) -> Option<u64> {
+pub fn value_of(text: &str) -> Option<u64> {
     if text.is_empty() || !text.bytes().all(|byte| byte.is_ascii_digit()) {
         return None;
     }
@@ -231,6 +218,7 @@ fn value_of(text: &str) -> Option<u64> {
 #[cfg(test)]
 mod tests {
     use super::*;
+    use crate::options::Format;
 
     fn parsed(line: &str) -> Result<Request, Misuse> {
         let args: Vec<OsString> = line.split(' ').filter(|word| !word.is_empty()).map(OsString::from).collect();
@@ -253,19 +241,62 @@ mod tests {
         Setting { asked: asked(seats), d: number(d, d.parse().unwrap()) }
     }
 
+    fn paths(names: &[&str]) -> Vec<PathBuf> {
+        names.iter().map(PathBuf::from).collect()
+    }
+
     #[test]
     fn commands_take_their_places() {
-        assert_eq!(parsed("template kuhn 2 1"), Ok(Request::Template { setting: setting("2", "1") }));
-        let reply = Request::Reply { setting: setting("2", "1"), table: PathBuf::from("t"), seat: number("1", 1) };
+        let none = Options::default;
+        let template = Request::Template { setting: setting("2", "1"), options: none() };
+        assert_eq!(parsed("template kuhn 2 1"), Ok(template));
+        let (table, seat) = (PathBuf::from("t"), number("1", 1));
+        let reply = Request::Reply { setting: setting("2", "1"), table, seat, options: none() };
         assert_eq!(parsed("reply kuhn 2 1 t 1"), Ok(reply));
-        let tables = vec![PathBuf::from("a"), PathBuf::from("-5"), PathBuf::from("-")];
-        let evaluate = Request::Evaluate { setting: setting("2", "1"), tables: tables.clone(), jobs: None };
+        let tables = paths(&["a", "-5", "-"]);
+        let evaluate = Request::Evaluate { setting: Some(setting("2", "1")), tables: tables.clone(), options: none() };
         assert_eq!(parsed("evaluate kuhn 2 1 a -5 -"), Ok(evaluate));
-        let ladder = Request::Ladder { setting: setting("2", "1"), tables, jobs: Some(3) };
+        let options = Options { jobs: Some(3), ..none() };
+        let ladder = Request::Ladder { setting: Some(setting("2", "1")), tables, options };
         assert_eq!(parsed("ladder --jobs=3 kuhn 2 1 a -5 -"), Ok(ladder.clone()));
         assert_eq!(parsed("ladder kuhn 2 1 --jobs 3 a -- -5 -"), Ok(ladder));
-        let f64 = Request::F64 { asked: asked("2"), profile: PathBuf::from("p") };
+        let f64 = Request::F64 { asked: Some(asked("2")), profile: PathBuf::from("p"), options: none() };
         assert_eq!(parsed("f64 kuhn 2 p"), Ok(f64));
+    }
+
+    #[test]
+    fn the_setting_is_left_out_exactly_if_the_second_word_is_no_whole_number() {
+        let evaluate =
+            |names: &[&str]| Ok(Request::Evaluate { setting: None, tables: paths(names), options: Options::default() });
+        assert_eq!(parsed("evaluate t"), evaluate(&["t"]));
+        assert_eq!(parsed("evaluate kuhn"), evaluate(&["kuhn"]));
+        assert_eq!(parsed("evaluate a b 1"), evaluate(&["a", "b", "1"]));
+        assert_eq!(parsed("evaluate kuhn two 1 t"), evaluate(&["kuhn", "two", "1", "t"]));
+        let f64 = Request::F64 { asked: None, profile: PathBuf::from("p"), options: Options::default() };
+        assert_eq!(parsed("f64 p"), Ok(f64));
+        assert_eq!(sentence("evaluate khun 2"), "D is missing");
+        assert_eq!(sentence("evaluate t -1 1 t"), "SEATS is '-1', and a whole number without a sign is needed");
+        let options = Options { files_from: Some(PathBuf::from("-")), ..Options::default() };
+        let ladder = Request::Ladder { setting: None, tables: Vec::new(), options: options.clone() };
+        assert_eq!(parsed("ladder --files-from -"), Ok(ladder));
+        let ladder = Request::Ladder { setting: Some(setting("2", "3")), tables: Vec::new(), options };
+        assert_eq!(parsed("ladder kuhn 2 3 --files-from=-"), Ok(ladder));
+    }
+
+    #[test]
+    fn options_stand_anywhere() {
+        let options = Options { labelled: true, format: Format::Json, any: true, ..Options::default() };
+        let f64 = Request::F64 { asked: None, profile: PathBuf::from("p"), options };
+        assert_eq!(parsed("f64 --any --format json p --labelled"), Ok(f64));
+        assert_eq!(parsed("--version"), Ok(Request::Version));
+        assert_eq!(sentence("evaluate t --format xml"), "--format is 'xml', and there are text, csv, json");
+        assert_eq!(sentence("template kuhn 2 1 --format=json"), "--format is 'json', and there are text, csv");
+        assert_eq!(sentence("evaluate t --format"), "--format takes a form, and it is missing");
+        assert_eq!(sentence("ladder --files-from"), "--files-from takes a file, and it is missing");
+        let unknown = |option: &str| format!("there is no option '{option}'; write -- before a file of that name");
+        assert_eq!(sentence("evaluate t --any"), unknown("--any"));
+        assert_eq!(sentence("evaluate t --labelled=1"), unknown("--labelled=1"));
+        assert_eq!(sentence("reply kuhn 2 1 t 0 --files-from x"), unknown("--files-from"));
     }
 
     #[test]
@@ -297,8 +328,10 @@ mod tests {
         assert_eq!(sentence("f64 kuhn 2"), "PROFILE is missing");
         assert_eq!(sentence("template kuhn 2 1 t"), "'t' is one argument too many");
         assert_eq!(sentence("f64 kuhn 2 p p"), "'p' is one argument too many");
-        assert_eq!(sentence("evaluate kuhn two 1 t"), "SEATS is 'two', and a whole number without a sign is needed");
+        assert_eq!(sentence("f64 p q"), "'q' is one argument too many");
+        assert_eq!(sentence("evaluate kuhn +2 1 t"), "SEATS is '+2', and a whole number without a sign is needed");
         assert_eq!(sentence("evaluate kuhn 2 -1 t"), "D is '-1', and a whole number without a sign is needed");
+        assert_eq!(sentence("reply kuhn two 1 t 0"), "SEATS is 'two', and a whole number without a sign is needed");
         assert_eq!(sentence("reply kuhn 2 1 t x"), "SEAT is 'x', and a whole number without a sign is needed");
         assert_eq!(sentence("ladder kuhn 2 1 t --jobs"), "--jobs takes a number, and it is missing");
         assert_eq!(sentence("ladder kuhn 2 1 t --jobs 0"), "--jobs is '0', and a number from 1 is needed");

@@ -1,13 +1,23 @@
-//! What is printed: results on one stream; complaints, and on a terminal how many files are done, on another.
+//! What is read and printed: results on one stream; complaints, and on a terminal how many files are done, on another.
 
 use std::fmt::Display;
-use std::io::{self, Write};
+use std::io::{self, Read, Write};
 
-/// The two streams, and whether the second is a terminal.
+use crate::interrupt;
+
+/// Which streams are terminals.
+#[derive(Clone, Copy, Debug, Default, PartialEq, Eq)]
+pub struct Terminals {
+    pub out: bool,
+    pub err: bool,
+}
+
+/// Standard input, and the two streams that are printed to.
 pub struct Console<'a> {
+    input: &'a mut dyn Read,
     out: &'a mut dyn Write,
     err: &'a mut dyn Write,
-    terminal: bool,
+    terminals: Terminals,
     progress: Option<Progress>,
     complained: bool,
 }
@@ -19,8 +29,12 @@ struct Progress {
 }
 
 impl<'a> Console<'a> {
-    pub fn new(out: &'a mut dyn Write, err: &'a mut dyn Write, terminal: bool) -> Self {
-        Console { out, err, terminal, progress: None, complained: false }
+    pub fn new(input: &'a mut dyn Read, out: &'a mut dyn Write, err: &'a mut dyn Write, terminals: Terminals) -> Self {
+        Console { input, out, err, terminals, progress: None, complained: false }
+    }
+
+    pub fn input(&mut self) -> &mut dyn Read {
+        self.input
     }
 
     /// Prints a result, at once.
@@ -33,6 +47,19 @@ impl<'a> Console<'a> {
     /// Prints a complaint. Where even that fails, the status is all that is left to tell.
     pub fn complain(&mut self, sentence: impl Display) {
         self.complained = true;
+        self.note(sentence);
+    }
+
+    /// Complains of what stands among the results too, unless both are seen on one terminal.
+    pub fn complain_beside_results(&mut self, sentence: impl Display) {
+        self.complained = true;
+        if !(self.terminals.out && self.terminals.err) {
+            self.note(sentence);
+        }
+    }
+
+    /// Tells what is no fault.
+    pub fn note(&mut self, sentence: impl Display) {
         self.wipe();
         let _ = writeln!(self.err, "chukkanalli: {sentence}");
         let _ = self.err.flush();
@@ -44,7 +71,7 @@ impl<'a> Console<'a> {
 
     /// From here on so many files are to be done.
     pub fn expect(&mut self, total: usize) {
-        if self.terminal {
+        if self.terminals.err {
             self.progress = Some(Progress { done: 0, total, drawn: false });
             self.draw();
         }
@@ -68,6 +95,7 @@ impl<'a> Console<'a> {
     fn draw(&mut self) {
         if let Some(progress) = &mut self.progress {
             progress.drawn = true;
+            interrupt::line_is_open(true);
             let _ = write!(self.err, "\r{} of {} done", progress.done, progress.total);
             let _ = self.err.flush();
         }
@@ -79,6 +107,7 @@ impl<'a> Console<'a> {
             progress.drawn = false;
             let _ = write!(self.err, "\r\x1b[K");
             let _ = self.err.flush();
+            interrupt::line_is_open(false);
         }
     }
 }
@@ -88,9 +117,10 @@ mod tests {
     use super::*;
 
     /// What comes on both streams of a run.
-    fn run(terminal: bool) -> (String, String) {
+    fn run(terminals: Terminals) -> (String, String) {
         let (mut out, mut err) = (Vec::new(), Vec::new());
-        let mut console = Console::new(&mut out, &mut err, terminal);
+        let mut input = io::empty();
+        let mut console = Console::new(&mut input, &mut out, &mut err, terminals);
         console.expect(3);
         console.print("first\n").unwrap();
         console.count();
@@ -103,7 +133,7 @@ mod tests {
 
     #[test]
     fn progress_is_shown_on_a_terminal_and_taken_away() {
-        let (out, err) = run(true);
+        let (out, err) = run(Terminals { out: false, err: true });
         assert_eq!(out, "first\n");
         assert_eq!(
             err,
@@ -113,6 +143,17 @@ mod tests {
 
     #[test]
     fn a_pipe_gets_no_progress() {
-        assert_eq!(run(false), ("first\n".to_string(), "chukkanalli: second\n".to_string()));
+        assert_eq!(run(Terminals::default()), ("first\n".to_string(), "chukkanalli: second\n".to_string()));
+    }
+
+    #[test]
+    fn what_stands_among_the_results_is_seen_once_on_a_terminal() {
+        for (out, err, seen) in [(false, false, true), (true, false, true), (false, true, true), (true, true, false)] {
+            let (mut results, mut complaints, mut input) = (Vec::new(), Vec::new(), io::empty());
+            let mut console = Console::new(&mut input, &mut results, &mut complaints, Terminals { out, err });
+            console.complain_beside_results("refused");
+            assert!(console.has_complained());
+            assert_eq!(!complaints.is_empty(), seen);
+        }
     }
 }

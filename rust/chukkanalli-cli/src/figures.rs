@@ -2,11 +2,11 @@
 
 use std::fmt;
 
+use chukkanalli::tables::{game_words, ReadBy};
 use chukkanalli::Game;
 
 use crate::columns::{self, Side};
 use crate::fraction::Fraction;
-use crate::words::game_words;
 
 /// The figures of one table.
 pub struct Figures {
@@ -16,9 +16,20 @@ pub struct Figures {
 }
 
 impl Figures {
-    pub fn new(name: &str, game: Game, d: u64, units: u64) -> Self {
-        let heading = format!("{name}: {}, D {d}, {units} units", game_words(game));
+    pub fn new(name: &str, game: Game, d: u64, units: u64, read_by: ReadBy) -> Self {
+        let heading = format!("{name}: {}, D {d}, {units} units, read by {}", game_words(game), read_by.name());
         Figures { heading, units, rows: vec![["", "units", "chips per hand", "in decimals"].map(str::to_string)] }
+    }
+
+    /// Says that a table before this one has the same parts.
+    pub fn mark_same(&mut self, file: &str) {
+        self.heading += &format!(", same table as {file}");
+    }
+
+    /// What a seat gains by its best value over what the table is worth to it.
+    pub fn add_gain(&mut self, seat: u64, worth: i64, best: i64) {
+        let gain = best.abs_diff(worth);
+        self.add(format!("seat {seat} gain"), gain.to_string(), Fraction::of_sum(gain, self.units));
     }
 
     /// What the table is worth to a seat, and the seat's best value.
@@ -49,13 +60,16 @@ mod tests {
 
     #[test]
     fn figures_stand_in_columns() {
-        let mut figures = Figures::new("l.txt", Game::Kuhn { seats: 2 }, 3, 162);
+        let mut figures = Figures::new("l.txt", Game::Kuhn { seats: 2 }, 3, 162, ReadBy::Labels);
+        figures.mark_same("k.txt");
+        figures.add_gain(0, -9, 108);
         figures.add_seat(0, -9, 108);
         figures.add_nash_conv(117);
         let text = "\
-l.txt: Kuhn with 2 seats, D 3, 162 units
+l.txt: Kuhn with 2 seats, D 3, 162 units, read by labels, same table as k.txt
 
                    units  chips per hand   in decimals
+seat 0 gain          117           13/18   0.722222222
 seat 0 worth          -9           -1/18  -0.055555556
 seat 0 best value    108             2/3   0.666666667
 NashConv             117           13/18   0.722222222

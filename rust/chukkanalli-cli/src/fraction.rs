@@ -24,6 +24,11 @@ impl Fraction {
         Self::new(false, count, units)
     }
 
+    /// The same, divided by the seats, which are at most 6 where a game has units: U is below 2^57.
+    pub fn shared(count: u64, units: u64, seats: u64) -> Self {
+        Self::new(false, count, units * seats)
+    }
+
     fn new(negative: bool, over: u64, under: u64) -> Self {
         assert!(under > 0, "a game has units");
         let common = common_divisor(over, under);
@@ -71,6 +76,9 @@ mod tests {
         assert_eq!(shown(7, 7), "1");
         assert_eq!(Fraction::of_sum(u64::MAX, u64::MAX - 1).to_string(), format!("{}/{}", u64::MAX, u64::MAX - 1));
         assert_eq!(format!("{:>6}|", Fraction::of_units(-1, 2)), "  -1/2|");
+        assert_eq!(Fraction::shared(12, 6, 2).to_string(), "1");
+        assert_eq!(Fraction::shared(198, 162, 2).to_string(), "11/18");
+        assert_eq!(Fraction::shared(u64::MAX, 1 << 57, 6).to_string(), "6148914691236517205/288230376151711744");
     }
 
     #[test]

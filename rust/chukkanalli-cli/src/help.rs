@@ -8,21 +8,82 @@ pub fn is_asked_by(arg: &OsStr) -> bool {
     arg == "--help" || arg == "-h"
 }
 
-/// The help of a command, or of all: what it does, what each argument is, how it ends.
-pub fn text(verb: Option<Verb>) -> String {
-    let (own, arguments) = match verb {
-        None => (ALL, ARGUMENTS.map(|(name, _)| name).to_vec()),
-        Some(verb) => (about(verb), arguments_of(verb)),
-    };
-    let taken = ARGUMENTS.iter().filter(|(name, _)| arguments.contains(name));
-    let lines: String = taken.map(|(name, what)| format!("{name:9}{}\n", what.replace('\n', "\n         "))).collect();
-    format!("{own}\n{lines}\n{OUTCOME}")
+/// An option: its name, what it takes, which commands take it, and what it is.
+pub struct Described {
+    pub name: &'static str,
+    pub value: Option<&'static str>,
+    pub taken_by: fn(Verb) -> bool,
+    shown: &'static str,
+    what: &'static str,
 }
 
-fn arguments_of(verb: Verb) -> Vec<&'static str> {
-    let jobs = verb.takes_many().then_some("--jobs N");
-    let dashes = verb.takes_a_file().then_some("--");
-    verb.places().iter().copied().chain(jobs).chain(dashes).collect()
+/// The options.
+pub const OPTIONS: [Described; 5] = [
+    Described {
+        name: "--format",
+        value: Some("a form"),
+        taken_by: |_| true,
+        shown: "--format F",
+        what: "\
+text, csv or json, by default text; for template text or csv. docs/API.md has the
+columns, docs/output.schema.json the JSON: one object a table, on one line",
+    },
+    Described {
+        name: "--labelled",
+        value: None,
+        taken_by: Verb::takes_a_file,
+        shown: "--labelled",
+        what: "refuses a file without labels, which is read by position otherwise",
+    },
+    Described {
+        name: "--any",
+        value: None,
+        taken_by: |verb| verb == Verb::F64,
+        shown: "--any",
+        what: "takes any numbers, whatever they add up to; what is printed then says so",
+    },
+    Described {
+        name: "--files-from",
+        value: Some("a file"),
+        taken_by: Verb::takes_many,
+        shown: "--files-from FILE",
+        what: "takes the names in FILE too, one a line or a NUL behind each; - is standard input",
+    },
+    Described {
+        name: "--jobs",
+        value: Some("a number"),
+        taken_by: Verb::takes_many,
+        shown: "--jobs N",
+        what: "\
+N tables at a time, by default one a core, at most 256; what is printed is the
+same",
+    },
+];
+
+/// The help of a command, or of all: what it does, what each argument is, how it ends.
+pub fn text(verb: Option<Verb>) -> String {
+    let places: Vec<&str> = match verb {
+        None => ARGUMENTS.map(|(name, _)| name).to_vec(),
+        Some(verb) => verb.places().to_vec(),
+    };
+    let taken = ARGUMENTS.iter().filter(|(name, _)| places.contains(name));
+    let places: String = taken.map(|(name, what)| described(name, what, 9)).collect();
+    let own = verb.map_or(ALL, about);
+    format!("{own}\n{places}\n{}\n{OUTCOME}", options_of(verb))
+}
+
+fn options_of(verb: Option<Verb>) -> String {
+    let taken = OPTIONS.iter().filter(|option| verb.is_none_or(option.taken_by));
+    let mut text: String = taken.map(|option| described(option.shown, option.what, 19)).collect();
+    if verb.is_none_or(Verb::takes_a_file) {
+        text += &described("--", DASHES, 19);
+    }
+    text
+}
+
+/// A name, and what it is in a column behind it.
+fn described(name: &str, what: &str, width: usize) -> String {
+    format!("{name:width$}{}\n", what.replace('\n', &format!("\n{:width$}", "")))
 }
 
 fn about(verb: Verb) -> &'static str {
@@ -35,42 +96,35 @@ fn about(verb: Verb) -> &'static str {
     }
 }
 
-/// What each argument and option is.
-const ARGUMENTS: [(&str, &str); 8] = [
+const DASHES: &str = "behind it no word is an option, so that a file's name may begin with a dash";
+
+/// What each argument is.
+const ARGUMENTS: [(&str, &str); 6] = [
     ("GAME", "kuhn or leduc, in any case of letters"),
     ("SEATS", "2 to 6 for kuhn, 2 for leduc"),
     ("D", "the parts per set: 1 to 64, for kuhn with 5 or 6 seats 1 to 16"),
     (
         "TABLE",
         "\
-a text file: set after set, in the order of `chukkanalli template`, the part of each
-action as a whole number; in each set they add up to D. A # begins a comment, which goes
-on to the end of the line",
+a file as `chukkanalli template` prints it, text or CSV: for each set the part of each
+action as a whole number, which add up to D, and the set's label. With labels the lines may
+come in any order. Numbers without labels are read by position, in the template's order.
+- is standard input. For evaluate and ladder a folder stands for the files right in it, not
+for its subfolders and hidden files (whose names begin with a dot)",
     ),
     ("SEAT", "a seat, from 0"),
     (
         "PROFILE",
         "\
-a text file: set after set, in the order of `chukkanalli template`, a decimal number, inf,
--inf or NaN for each action. A # begins a comment, as in a table",
-    ),
-    (
-        "--jobs N",
-        "\
-for evaluate and ladder: N tables at a time, by default one a core, at most 256; what is
-printed is the same",
-    ),
-    (
-        "--",
-        "\
-behind it no word is an option, so that a file's name may begin with a dash; the name - is
-that of a file, not of stdin",
+the same with a decimal number for each action: none below 0, and in each set they add up
+to 1 within 1e-9",
     ),
 ];
 
 const OUTCOME: &str = "\
 What cannot be evaluated is refused on stderr, with the file and the line, and with the number
-of the refusal where document 01, the paper behind the calls, has one.
+of the refusal where document 01, the paper behind the calls, has one. All faults of a file are
+told, up to 20 and how many more.
 Status: 0; 1 where a table or profile was refused or cannot be read, the output cannot be written
 (a reader who leaves early is no such case) or there is too little memory; 2 for bad use.
 ";
@@ -84,58 +138,66 @@ Evaluates strategy tables for Kuhn and Leduc poker, exactly or in f64, by proved
   chukkanalli template GAME SEATS D            an empty table, with each set in words
   chukkanalli f64 GAME SEATS PROFILE           the same values of a profile, in floating point
   chukkanalli COMMAND --help                   more about a command
+  chukkanalli --version                        the version, and the commit that it was built from
+
+Where every file has a heading, the first line that template prints, GAME SEATS D may be left out
+of evaluate, ladder and f64: chukkanalli ladder TABLE...
 ";
 
 const EVALUATE: &str = "\
-chukkanalli evaluate GAME SEATS D TABLE... [--jobs N]
+chukkanalli evaluate GAME SEATS D TABLE... [OPTIONS]
 
 Prints for each table what it is worth to each seat, each seat's best value (the most that any
 table gets it which differs in that seat's sets only) and NashConv, the sum of best value - worth:
-in units, in chips per hand as a fraction in lowest terms, and that rounded to nine decimals.
+in units, in chips per hand as a fraction in lowest terms, and that rounded to nine decimals; and
+whether it was read by labels or by position, and which table before it has the same parts.
+GAME SEATS D may be left out where every file has a heading.
 
   chukkanalli evaluate kuhn 2 1 samples/always-pass.txt
 ";
 
 const LADDER: &str = "\
-chukkanalli ladder GAME SEATS D TABLE... [--jobs N]
+chukkanalli ladder GAME SEATS D TABLE... [OPTIONS]
 
 Prints the tables in order of NashConv, the lowest and so the hardest to beat first. Tables with
 equal NashConv have the same rank; the comparison is exact. A table that was refused or cannot be
-read stands below, with the reason.
+read stands below, with the reason. GAME SEATS D may be left out where every file has a heading.
 
   chukkanalli ladder kuhn 2 3 samples/equilibrium.txt samples/always-pass.txt
 ";
 
 const REPLY: &str = "\
-chukkanalli reply GAME SEATS D TABLE SEAT
+chukkanalli reply GAME SEATS D TABLE SEAT [OPTIONS]
 
-Prints the perfect reply of a seat to a table, a line for each of its sets: its card, the public
-card (leduc), what was played, and the action that the reply takes. No table of the seat gets
-more. Of equally good actions it takes the first.
+Prints what a seat gains by its perfect reply to a table, and the reply, a line for each of its
+sets: its card, the public card (leduc), what was played, and the action that the reply takes. No
+table of the seat gets more. Of equally good actions it takes the first. Sets that no hand reaches
+while the others play the table come last. The reply beats this table; it is no correction of it.
 
   chukkanalli reply kuhn 2 1 samples/always-pass.txt 0
 ";
 
 const TEMPLATE: &str = "\
-chukkanalli template GAME SEATS D
+chukkanalli template GAME SEATS D [OPTIONS]
 
-Prints an empty table to fill in, a line for each set: the parts of its actions, and as a comment
-the names of the actions, the seat, its card, the public card (leduc) and what was played. A table
-has its sets in this order, and D parts in each: a set that is left empty is refused with 8.
+Prints an empty table to fill in, a line for each set: the parts of its actions, and behind the #
+its label: the names of the actions, the seat, its card, the public card (leduc) and what was
+played. A table has D parts in each set: one that is left empty is refused with 8. The lines may
+be put in another order; what follows a second # is a note of your own.
 
   chukkanalli template kuhn 2 4 >mine.txt
 ";
 
 const F64: &str = "\
-chukkanalli f64 GAME SEATS PROFILE
+chukkanalli f64 GAME SEATS PROFILE [OPTIONS]
 
 Prints the best response value of each seat, what the profile is worth to each seat, NashConv (the
 sum of best response value - worth) and exploitability (NashConv divided by the seats): in chips
 per hand, in f64, each with the fewest digits that read back as the same number.
 
-A profile has a number for each action of each set: 0.25, 1, 1e-3, inf, -inf or NaN. No number is
-refused, nor need a set add up to 1. A table with D 1 is a profile too, so that `template` with D 1
-prints one to fill in; a set that is left empty counts as 0 on each action.
+A profile has a number for each action of each set: 0.25, 1, 1e-3; with --any also inf, -inf or
+NaN. A table with D 1 is a profile too, so that `template` with D 1 prints one to fill in. The D of
+a heading is not read, and GAME SEATS may be left out where the file has one.
 
   chukkanalli f64 kuhn 2 samples/uniform-profile.txt
 ";
@@ -149,20 +211,28 @@ mod tests {
         for verb in Verb::ALL {
             let mut usage = format!("chukkanalli {} {}", verb.name(), verb.places().join(" "));
             if verb.takes_many() {
-                usage += "... [--jobs N]";
+                usage += "...";
             }
-            assert_eq!(text(Some(verb)).lines().next(), Some(usage.as_str()));
-            let listed = usage.trim_end_matches(" [--jobs N]");
-            assert!(text(None).contains(&format!("  {listed}  ")), "{listed}");
+            assert_eq!(text(Some(verb)).lines().next(), Some(format!("{usage} [OPTIONS]").as_str()));
+            assert!(text(None).contains(&format!("  {usage}  ")), "{usage}");
         }
     }
 
     #[test]
-    fn every_help_says_what_its_arguments_are() {
+    fn every_help_says_what_its_arguments_and_options_are() {
         for verb in Verb::ALL {
-            for name in arguments_of(verb) {
-                assert!(text(Some(verb)).contains(&format!("\n{name:9}")), "{name}");
-                assert!(text(None).contains(&format!("\n{name:9}")), "{name}");
+            let own = text(Some(verb));
+            for name in verb.places() {
+                assert!(own.contains(&format!("\n{name:9}")) && text(None).contains(&format!("\n{name:9}")), "{name}");
+            }
+            for option in &OPTIONS {
+                assert_eq!(
+                    own.contains(&format!("\n{:19}", option.shown)),
+                    (option.taken_by)(verb),
+                    "{}",
+                    option.shown
+                );
+                assert!(text(None).contains(&format!("\n{:19}", option.shown)));
             }
         }
     }

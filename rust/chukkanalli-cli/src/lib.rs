@@ -1,4 +1,4 @@
-//! The command line of chukkanalli. The fuzzer calls the reader, the console and `run`.
+//! The command line of chukkanalli. The fuzzer calls the console and `run`.
 
 mod args;
 mod columns;
@@ -7,9 +7,15 @@ pub mod console;
 mod figures;
 mod fraction;
 mod help;
+pub mod interrupt;
 mod jobs;
+mod names;
+mod options;
+mod output;
 mod ranks;
-pub mod reader;
-mod words;
+mod reach;
+mod same;
+mod sources;
+mod version;
 
 pub use commands::run;

@@ -116,8 +116,19 @@ fn seats_are_refused_with_5() {
 #[test]
 fn what_is_no_number_is_bad_use() {
     for word in ["two", "-1", "+2", "2.0", "2^64", "0x2"] {
-        all_misused("kuhn", word, "1", &format!("SEATS is '{word}', and a whole number without a sign is needed"));
         parts_misused("kuhn", "2", word, &format!("D is '{word}', and a whole number without a sign is needed"));
+        let sentence = format!("SEATS is '{word}', and a whole number without a sign is needed");
+        assert_eq!(run(["template", "kuhn", word, "1"]), misused("template", &sentence));
+        assert_eq!(run(["reply", "kuhn", word, "1", "t", "0"]), misused("reply", &sentence));
+    }
+    for word in ["-1", "+2"] {
+        all_misused("kuhn", word, "1", &format!("SEATS is '{word}', and a whole number without a sign is needed"));
+    }
+    // Where the second word is no whole number, GAME SEATS D are left out and all words are files.
+    for word in ["two", "2.0", "2^64", "0x2"] {
+        let sentence = "there is no file kuhn; where that is the game, SEATS follows it";
+        assert_eq!(run(["evaluate", "kuhn", word, "1", "t"]), misused("evaluate", sentence));
+        assert_eq!(run(["ladder", "Kuhn", word]), misused("ladder", &sentence.replace("kuhn", "Kuhn")));
     }
     let seat = run_line("reply kuhn 2 1 samples/always-pass.txt -1");
     assert_eq!(seat, misused("reply", "SEAT is '-1', and a whole number without a sign is needed"));
@@ -185,7 +196,8 @@ fn files_that_hold_something_else_are_told_with_the_line() {
     all_refused(&table("far.txt", ABOVE_64_BITS), &far);
     all_refused(&table("negative.txt", "1 0\r\n\r\n-1 2\r\n"), &format!(":3: '-1' is negative, {range}"));
     all_refused(&table("words.txt", "# a\none"), &format!(":2: 'one' is not a whole number, {range}"));
-    all_refused(&table("half.txt", "0.5 0.5"), &format!(":1: '0.5' is not a whole number, {range}"));
+    let decimals = ": how many of the D parts of its set go to the action; `chukkanalli f64` takes decimals";
+    all_refused(&table("half.txt", "0.5 0.5"), &format!(":1: '0.5' is not a whole number, {range}{decimals}"));
     all_refused(&table("bytes.txt", b"1 0\n\xff\xfe"), ":2: this is not text: the byte 255 is not UTF-8");
     all_refused(&table("nul.txt", b"1 0\0"), ":1: this is not text: it has the control character 0");
     all_refused(&table("escape.txt", b"# \x1b[31m\n"), ":1: this is not text: it has the control character 27");
@@ -203,8 +215,8 @@ fn profiles_are_refused_with_7_or_told_with_the_line() {
     given("long-profile.txt", "0.5 inf\n".repeat(13).as_bytes(), &format!(":13: {}", has(26)));
     let needed = "is not a number, and a decimal number, inf, -inf or NaN is needed";
     given("word-profile.txt", b"0.5 0.5\n0.5 half", &format!(":2: 'half' {needed}"));
-    given("comma-profile.txt", b"# a\r\n0,5 0,5", &format!(":2: '0,5' {needed}"));
-    given("fraction-profile.txt", b"1/3 2/3", &format!(":1: '1/3' {needed}"));
+    given("comma-profile.txt", b"# a\r\n0,5 0,5", &format!(":2: '0,5' {needed}; a decimal number has a point, as 0.5"));
+    given("fraction-profile.txt", b"1/3 1/3", &format!(":1: '1/3' {needed}; write it as a decimal number, as 0.5"));
     given("bytes-profile.txt", b"0.5\n\xff\xfe", ":2: this is not text: the byte 255 is not UTF-8");
     given("nul-profile.txt", b"0.5\0", ":1: this is not text: it has the control character 0");
 }
@@ -221,13 +233,13 @@ fn profiles_that_are_no_file_are_told() {
 #[test]
 fn files_that_are_none_are_told() {
     all_refused("nowhere.txt", ": there is no such file");
-    all_refused("samples", ": this is a folder, not a table");
+    assert_eq!(run_line("reply kuhn 2 1 samples 0"), refused("samples: this is a folder, not a table"));
     all_refused("samples/always-pass.txt/x", ": this file cannot be read: Not a directory (os error 20)");
     all_refused("/dev/zero", ": this is no table: it has more than 16777216 bytes");
     assert_eq!(run(["evaluate", "kuhn", "2", "1", ""]), refused("'': there is no such file"));
     let odd: [OsString; 5] =
         [b"evaluate".as_slice(), b"kuhn", b"2", b"1", b"a\xffb\n"].map(|arg| OsStr::from_bytes(arg).to_os_string());
-    assert_eq!(run(odd), refused("a\u{fffd}b\\n: there is no such file"));
+    assert_eq!(run(odd), refused("a\\xffb\\n: there is no such file"));
     all_refused_as("it's \u{202e}a\u{2028}b", r"it's \u{202e}a\u{2028}b: there is no such file");
 }
 

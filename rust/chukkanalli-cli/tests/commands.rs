@@ -14,7 +14,7 @@ fn prints(text: &str) -> Run {
 #[test]
 fn evaluate_prints_worths_best_values_and_nash_conv() {
     let text = "\
-samples/always-pass.txt: Kuhn with 2 seats, D 1, 6 units
+samples/always-pass.txt: Kuhn with 2 seats, D 1, 6 units, read by labels
 
                    units  chips per hand  in decimals
 seat 0 worth           0               0  0.000000000
@@ -38,7 +38,7 @@ fn games_have_their_names_in_any_case_of_letters() {
 #[test]
 fn evaluate_prints_exact_fractions_table_after_table() {
     let text = "\
-samples/equilibrium.txt: Kuhn with 2 seats, D 3, 162 units
+samples/equilibrium.txt: Kuhn with 2 seats, D 3, 162 units, read by labels
 
                    units  chips per hand   in decimals
 seat 0 worth          -9           -1/18  -0.055555556
@@ -47,7 +47,7 @@ seat 1 worth           9            1/18   0.055555556
 seat 1 best value      9            1/18   0.055555556
 NashConv               0               0   0.000000000
 
-samples/one-in-three.txt: Kuhn with 2 seats, D 3, 162 units
+samples/one-in-three.txt: Kuhn with 2 seats, D 3, 162 units, read by labels
 
                    units  chips per hand   in decimals
 seat 0 worth          12            2/27   0.074074074
@@ -63,18 +63,23 @@ NashConv             198            11/9   1.222222222
 #[test]
 fn reply_tells_the_action_of_each_set() {
     let text = "\
-samples/always-pass.txt: Kuhn with 2 seats, D 1, 6 units
+samples/always-pass.txt: Kuhn with 2 seats, D 1, 6 units, read by labels
 
                    units  chips per hand  in decimals
+seat 0 gain            6               1  1.000000000
 seat 0 worth           0               0  0.000000000
 seat 0 best value      6               1  1.000000000
 
+the reply of seat 0 beats this table; it is no correction of it
+
 the perfect reply of seat 0:
 card 0, first action of the hand: BET
-card 0, after PASS BET: PASS
 card 1, first action of the hand: BET
-card 1, after PASS BET: PASS
 card 2, first action of the hand: PASS
+
+in sets that no hand reaches while the others play this table:
+card 0, after PASS BET: PASS
+card 1, after PASS BET: PASS
 card 2, after PASS BET: PASS
 ";
     assert_eq!(run_line("reply kuhn 2 1 samples/always-pass.txt 0"), prints(text));
@@ -86,10 +91,12 @@ fn reply_goes_by_the_cards_whatever_the_order_of_the_sets() {
     let lines: Vec<&str> = reply.out.lines().skip_while(|line| !line.starts_with("card")).collect();
     let text = [
         "card 0, after PASS: BET",
-        "card 0, after BET: PASS",
         "card 1, after PASS: BET",
-        "card 1, after BET: PASS",
         "card 2, after PASS: PASS",
+        "",
+        "in sets that no hand reaches while the others play this table:",
+        "card 0, after BET: PASS",
+        "card 1, after BET: PASS",
         "card 2, after BET: PASS",
     ];
     assert_eq!(lines, text);
@@ -100,7 +107,7 @@ fn reply_in_leduc_tells_the_public_card_and_both_rounds() {
     let always_first = table("leduc-first.txt", always_first("leduc", 2, 4));
     let reply = run(["reply", "leduc", "2", "4", &always_first, "1"]);
     assert_eq!((reply.status, reply.err.as_str()), (0, ""));
-    let lines: Vec<&str> = reply.out.lines().skip_while(|line| !line.starts_with("card")).collect();
+    let lines: Vec<&str> = reply.out.lines().filter(|line| line.starts_with("card")).collect();
     assert_eq!(lines.len(), 468);
     let raise = "card 5 (rank 2), public card 0 (rank 0), after CALL CALL, in round 2 after CALL: RAISE";
     assert!(lines.contains(&raise), "{}", reply.out);
@@ -113,16 +120,23 @@ fn ladder_ranks_by_nash_conv_with_equals_together() {
     let same = table("same.txt", std::fs::read(common::root().join("samples/one-in-three.txt")).unwrap());
     let passes = table("passes.txt", "3 0\n".repeat(12));
     let run = run(["ladder", "kuhn", "2", "3", &passes, &same, "samples/equilibrium.txt", "samples/one-in-three.txt"]);
+    let width = same.len().max(passes.len());
+    let padded = |name: &str| format!("{name:width$}");
+    let same = padded(&same);
     let text = format!(
         "\
 Kuhn with 2 seats, D 3, 162 units
 
 rank  NashConv  chips per hand  in decimals  table
-   1         0               0  0.000000000  samples/equilibrium.txt
-   2       198            11/9  1.222222222  {same}
-   2       198            11/9  1.222222222  samples/one-in-three.txt
-   4       324               2  2.000000000  {passes}
-"
+   1         0               0  0.000000000  {equilibrium}  read by labels
+   2       198            11/9  1.222222222  {same}  read by labels
+   2       198            11/9  1.222222222  {one_in_three}  read by labels, same table as {first}
+   4       324               2  2.000000000  {passes}  read by position
+",
+        equilibrium = padded("samples/equilibrium.txt"),
+        one_in_three = padded("samples/one-in-three.txt"),
+        first = same.trim_end(),
+        passes = padded(&passes),
     );
     assert_eq!(run, prints(&text));
 }
@@ -131,14 +145,14 @@ rank  NashConv  chips per hand  in decimals  table
 fn ladder_lists_what_it_cannot_rank() {
     let run = run_line("ladder kuhn 2 3 nowhere.txt samples/equilibrium.txt samples/always-pass.txt");
     let sum = "samples/always-pass.txt:5: refused with 8: in some set the parts do not add up to D: \
-               set 0 (seat 0, card 0, first action of the hand) has 1 + 0 = 1, and D is 3";
+               every set adds up to 1, and D is 3; is its D 1?";
     let missing = "nowhere.txt: there is no such file";
     let text = format!(
         "\
 Kuhn with 2 seats, D 3, 162 units
 
 rank  NashConv  chips per hand  in decimals  table
-   1         0               0  0.000000000  samples/equilibrium.txt
+   1         0               0  0.000000000  samples/equilibrium.txt  read by labels
 
 not ranked:
 {missing}
@@ -151,10 +165,12 @@ not ranked:
 
 #[test]
 fn ladder_without_a_ranked_table_still_lists_all() {
-    let run = run_line("ladder leduc 2 3 nowhere.txt samples/equilibrium.txt");
-    let length =
-        "samples/equilibrium.txt:15: refused with 7: the table's or profile's length is not exactly the entry count: \
-                  24 numbers, and Leduc with 2 seats has 2184 entries";
+    let bare = table("bare.txt", "3 0\n".repeat(12));
+    let run = run(["ladder", "leduc", "2", "3", "nowhere.txt", &bare]);
+    let length = format!(
+        "{bare}:12: refused with 7: the table's or profile's length is not exactly the entry count: \
+         24 numbers, and Leduc with 2 seats has 2184 entries"
+    );
     let missing = "nowhere.txt: there is no such file";
     let text = format!("Leduc with 2 seats, D 3\n\nnot ranked:\n{missing}\n{length}\n");
     let err = format!("chukkanalli: {missing}\nchukkanalli: {length}\n");
@@ -191,7 +207,7 @@ fn a_template_is_an_empty_table_of_its_game() {
 #[test]
 fn f64_prints_the_five_values_with_all_their_digits() {
     let text = "\
-samples/uniform-profile.txt: Kuhn with 2 seats, chips per hand in f64
+samples/uniform-profile.txt: Kuhn with 2 seats, chips per hand in f64, read by labels
 
 seat 0 best response value  0.5
 seat 1 best response value  0.4166666666666666
@@ -205,10 +221,10 @@ exploitability              0.4583333333333333
 
 #[test]
 fn f64_takes_numbers_of_any_kind() {
-    let infinite = table("infinite.txt", "inf 0\n".to_string() + &"1e0 -0.0 # PASS\n".repeat(11));
+    let infinite = table("infinite.txt", "inf 0\n".to_string() + &"1e0 -0.0 # a set\n".repeat(11));
     let text = format!(
         "\
-{infinite}: Kuhn with 2 seats, chips per hand in f64
+{infinite}: Kuhn with 2 seats, chips per hand in f64, read by position, whatever its numbers add up to
 
 seat 0 best response value  1.0
 seat 1 best response value  inf
@@ -218,12 +234,12 @@ NashConv                    NaN
 exploitability              NaN
 "
     );
-    assert_eq!(run(["f64", "kuhn", "2", &infinite]), prints(&text));
+    assert_eq!(run(["f64", "kuhn", "2", &infinite, "--any"]), prints(&text));
     let tiny = table("tiny.txt", "1e-300 nan\n".repeat(12));
-    let out = run(["f64", "kuhn", "2", &tiny]).out;
+    let out = run(["f64", "kuhn", "2", &tiny, "--any"]).out;
     assert!(out.lines().skip(2).all(|line| line.ends_with(" NaN")), "{out}");
     let small = table("small.txt", "1e-30 0\n".repeat(12));
-    let out = run(["f64", "kuhn", "2", &small]).out;
+    let out = run(["f64", "kuhn", "2", &small, "--any"]).out;
     assert!(out.contains("\nseat 0 best response value  1e-30\n"), "{out}");
 }
 
@@ -247,7 +263,7 @@ fn number_at_the_end(line: &str) -> f64 {
 #[test]
 fn byte_order_marks_and_line_ends_change_nothing_in_a_profile() {
     let plain = "# half\n".to_string() + &"0.5 0.5 # a set\n".repeat(12);
-    let values = |file: &str| run(["f64", "kuhn", "2", file]).out.lines().skip(1).collect::<Vec<_>>().join("\n");
+    let values = |file: &str| run(["f64", "kuhn", "2", file]).out.lines().skip(2).collect::<Vec<_>>().join("\n");
     let expected = values("samples/uniform-profile.txt");
     assert!(expected.contains("NashConv"));
     assert_eq!(values(&table("half.txt", &plain)), expected);
@@ -278,7 +294,7 @@ fn what_is_printed_does_not_depend_on_the_threads() {
         })
         .collect();
     files.insert(7, "nowhere.txt".to_string());
-    files.insert(3, "samples/always-pass.txt".to_string());
+    files.insert(3, table("threads-odd.txt", "1 0\n"));
     for command in ["evaluate", "ladder"] {
         let with = |jobs: &str| {
             run([command, "kuhn", "4", "7", "--jobs", jobs].into_iter().chain(files.iter().map(String::as_str)))
@@ -296,7 +312,8 @@ fn what_is_printed_does_not_depend_on_the_threads() {
 #[test]
 fn kuhn_with_6_seats_shows_no_progress_in_a_pipe() {
     let file = table("kuhn6.txt", always_first("kuhn", 6, 16));
-    let evaluated = run(["evaluate", "kuhn", "6", "16", &file, &file, "--jobs=2"]);
+    let other = table("kuhn6-too.txt", always_first("kuhn", 6, 16));
+    let evaluated = run(["evaluate", "kuhn", "6", "16", &file, &other, "--jobs=2"]);
     assert_eq!((evaluated.status, evaluated.err.as_str()), (0, ""));
     assert!(evaluated.out.contains("NashConv           2659938529915699200              30  30.000000000\n"));
 }
@@ -315,7 +332,7 @@ fn help_is_there_for_each_and_for_all() {
     }
     let help = run_line("f64 --help");
     assert_eq!((help.status, help.err.as_str()), (0, ""));
-    assert!(help.out.starts_with("chukkanalli f64 GAME SEATS PROFILE\n"));
+    assert!(help.out.starts_with("chukkanalli f64 GAME SEATS PROFILE [OPTIONS]\n"));
 }
 
 /// Runs the words of a line with an output that nobody reads any more.

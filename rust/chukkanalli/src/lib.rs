@@ -36,6 +36,7 @@ mod kuhn;
 mod leduc;
 mod per_seat;
 mod refusal;
+pub mod tables;
 
 pub use evaluator::{BestReply, Evaluator, NashConv};
 pub use game::{Counts, Game};

@@ -2,13 +2,15 @@
 
 use std::ffi::OsString;
 use std::fs;
-use std::os::unix::ffi::OsStringExt;
+use std::io::Cursor;
+use std::os::unix::ffi::{OsStrExt, OsStringExt};
 use std::panic::{self, AssertUnwindSafe};
 use std::path::Path;
 
-use chukkanalli_cli::console::Console;
+use chukkanalli_cli::console::{Console, Terminals};
 use random::Random;
 
+use crate::labelled::{self, Table};
 use crate::model::{self, Listed};
 use crate::{path_of, texts, Seen};
 
@@ -50,7 +52,7 @@ const PARTS: [&str; 16] = [
     "18446744073709551617",
 ];
 const SEAT: [&str; 8] = ["0", "0", "1", "1", "2", "6", "256", "18446744073709551616"];
-const ODD: [&[u8]; 21] = [
+const ODD: [&[u8]; 30] = [
     b"",
     b"-",
     b"--",
@@ -60,6 +62,15 @@ const ODD: [&[u8]; 21] = [
     b"--jobs=2",
     b"--jobs=0",
     b"--jobs=99999999999999999999",
+    b"--format",
+    b"--format=json",
+    b"--format=csv",
+    b"--format=xml",
+    b"--labelled",
+    b"--any",
+    b"--files-from",
+    b"--files-from=-",
+    b"--version",
     b"-1",
     b"2^64",
     b"two",
@@ -90,9 +101,14 @@ struct Ran {
 }
 
 fn run(args: &[OsString]) -> Ran {
-    let (mut out, mut err) = (Vec::new(), Vec::new());
+    run_with(args, b"")
+}
+
+/// Runs a command line with something on standard input.
+fn run_with(args: &[OsString], input: &[u8]) -> Ran {
+    let (mut out, mut err, mut input) = (Vec::new(), Vec::new(), Cursor::new(input));
     let tried = panic::catch_unwind(AssertUnwindSafe(|| {
-        chukkanalli_cli::run(args, &mut Console::new(&mut out, &mut err, false))
+        chukkanalli_cli::run(args, &mut Console::new(&mut input, &mut out, &mut err, Terminals::default()))
     }));
     let status = tried.unwrap_or_else(|_| panic!("a panic on {args:?}"));
     let text = |bytes| String::from_utf8(bytes).unwrap_or_else(|_| panic!("no text from {args:?}"));
@@ -115,7 +131,8 @@ pub fn try_one(random: &mut Random, games: &[Listed], folder: &Path, seen: &mut 
 fn sound(args: &[OsString], ran: &Ran) {
     let Ran { status, out, err } = ran;
     assert!(*status <= 2, "status {status} of {args:?}");
-    assert_eq!(*status == 0, err.is_empty(), "status {status} of {args:?} with {err:?}");
+    let only_notes = err.lines().all(|line| line.contains("named twice"));
+    assert_eq!(*status == 0, only_notes, "status {status} of {args:?} with {err:?}");
     assert!(*status != 2 || out.is_empty(), "status 2 of {args:?} with {out:?}");
     assert!(err.lines().all(|line| line.starts_with("chukkanalli: ")), "{err:?} of {args:?}");
     assert!(!err.contains(|c: char| c.is_control() && c != '\n' || c == '\u{202e}'), "{err:?} of {args:?}");
@@ -129,7 +146,22 @@ struct Line {
     seats: &'static str,
     d: &'static str,
     seat: &'static str,
-    tables: Vec<Vec<u8>>,
+    any: bool,
+    format: Option<&'static str>,
+    tables: Vec<Given>,
+}
+
+/// A file, and whether a label or a heading refuses it; what else is known of it the model reads.
+struct Given {
+    bytes: Vec<u8>,
+    labelled: Option<Labelled>,
+}
+
+/// What is known of a file with labels.
+struct Labelled {
+    good: bool,
+    headed: bool,
+    parts: Vec<u8>,
 }
 
 impl Line {
@@ -141,28 +173,38 @@ impl Line {
             seats: mostly_fit(random, &SEATS),
             d: mostly_fit(random, &PARTS),
             seat: mostly_fit(random, &SEAT),
+            any: random.one_in(2),
+            format: random.pick(&[None, None, Some("json"), Some("csv")]),
             tables: Vec::new(),
         };
         if random.one_in(2000) {
             (line.game, line.seats, line.d) = ("kuhn", "6", "16");
         }
         let many = if matches!(line.verb, "evaluate" | "ladder") { 1 + random.below(5) } else { 1 };
+        fs::remove_dir_all(folder).and_then(|()| fs::create_dir(folder)).expect("the folder can be made anew");
         for k in 0..many {
-            let bytes = line.table(random, games);
-            fs::write(path_of(folder, k), &bytes).expect("the folder can be written");
-            line.tables.push(bytes);
+            let given = line.table(random, games);
+            fs::write(path_of(folder, k), &given.bytes).expect("the folder can be written");
+            line.tables.push(given);
         }
         line
     }
 
     /// A table or profile of the line's game, most of the time, valid or spoiled.
-    fn table(&self, random: &mut Random, games: &[Listed]) -> Vec<u8> {
+    fn table(&self, random: &mut Random, games: &[Listed]) -> Given {
         let own = model::game_of(games, self.game, value(self.seats)).ok();
         let listed = match own {
             Some(listed) if !random.one_in(8) => listed,
             _ => &games[random.below(3)],
         };
         let d = u64::try_from(value(self.d)).unwrap_or(1).min(200);
+        if self.verb != "f64" && random.one_in(3) {
+            let table = Table::draw(random, listed, d);
+            let file = labelled::file(random, listed, &table);
+            let good = file.faulty.is_none() && own.is_some_and(|own| own.game == listed.game);
+            let labelled = Labelled { good, headed: file.headed, parts: table.numbers() };
+            return Given { bytes: file.bytes, labelled: Some(labelled) };
+        }
         let mut bytes = match self.verb {
             "f64" if !random.one_in(8) => texts::valid_profile(random, listed),
             _ => texts::valid(random, listed, d),
@@ -170,7 +212,7 @@ impl Line {
         if random.one_in(3) {
             texts::spoil(random, &mut bytes);
         }
-        bytes
+        Given { bytes, labelled: None }
     }
 
     fn args(&self, random: &mut Random, folder: &Path, spoiled: bool) -> Vec<OsString> {
@@ -183,6 +225,9 @@ impl Line {
         }
         if self.verb == "reply" {
             args.push(OsString::from(self.seat));
+        }
+        if self.verb == "f64" && self.any {
+            args.push(OsString::from("--any"));
         }
         for _ in 0..if spoiled { 1 + random.below(3) } else { 0 } {
             let at = random.below(args.len() + 1);
@@ -222,35 +267,93 @@ impl Line {
     }
 
     fn hold_profile(&self, listed: &Listed, args: &[OsString], ran: &Ran) {
-        let read = model::read(&self.tables[0], model::bits);
+        let read = model::read(&self.tables[0].bytes, model::bits);
         let fits = read.as_ref().is_ok_and(|(numbers, _)| numbers.len() == listed.entries());
-        assert_eq!(ran.status, u8::from(!fits), "{args:?}: {ran:?}");
+        let adds_up = fits && read.as_ref().is_ok_and(|(numbers, _)| listed.adds_up_to_1(numbers));
+        assert_eq!(ran.status, u8::from(!(fits && (self.any || adds_up))), "{args:?}: {ran:?}");
         assert_eq!(ran.err.contains("refused with 7: "), !fits && read.is_ok(), "{args:?}: {ran:?}");
-        if fits {
+        if ran.status == 0 {
             hold_values(listed.game.seats() as usize, args, &ran.out);
         }
+        self.hold_format(args, ran);
     }
 
     fn hold_tables(&self, listed: &Listed, args: &[OsString], ran: &Ran) {
-        let outcome = |bytes: &Vec<u8>| match model::read(bytes, model::part) {
-            Ok((parts, _)) => Some(listed.table_refusal(value(self.d) as u64, &parts)),
-            Err(_) => None,
+        let d = value(self.d) as u64;
+        let outcome = |given: &Given| match (&given.labelled, model::read(&given.bytes, model::part)) {
+            (Some(labelled), _) => labelled.good.then(|| listed.table_refusal(d, &labelled.parts)),
+            (None, Ok((parts, _))) => Some(listed.table_refusal(d, &parts)),
+            (None, Err(_)) => None,
         };
         let outcomes: Vec<Option<u64>> = self.tables.iter().map(outcome).collect();
-        let bad: Vec<&Option<u64>> = outcomes.iter().filter(|outcome| **outcome != Some(0)).collect();
-        assert_eq!(ran.status, u8::from(!bad.is_empty()), "{args:?}: {ran:?}");
-        assert_eq!(ran.err.lines().count(), bad.len(), "{args:?}: {ran:?}");
-        for (complaint, outcome) in ran.err.lines().zip(bad) {
+        let bad = outcomes.iter().filter(|outcome| **outcome != Some(0)).count();
+        assert_eq!(ran.status, u8::from(bad > 0), "{args:?}: {ran:?}");
+        for (k, outcome) in outcomes.iter().enumerate() {
+            let own = |line: &&str| line.contains(&format!("/{k}.txt:"));
+            let complaints: Vec<&str> = ran.err.lines().filter(own).collect();
+            assert_eq!(complaints.is_empty(), *outcome == Some(0), "{k} of {args:?}: {ran:?}");
+            assert!(complaints.len() <= 21, "{k} of {args:?}: {ran:?}");
             let expected = outcome.map_or(String::new(), |number| format!("refused with {number}: "));
-            assert!(complaint.contains(&expected), "{outcome:?} of {args:?}: {ran:?}");
-            assert_eq!(complaint.contains("refused with"), outcome.is_some(), "{args:?}: {ran:?}");
+            let numbered =
+                complaints.iter().filter(|line| !line.contains(" more")).all(|line| line.contains(&expected));
+            assert!(numbered, "{outcome:?} of {k} of {args:?}: {ran:?}");
+            let has_number = complaints.iter().any(|line| line.contains("refused with"));
+            assert_eq!(has_number, outcome.is_some_and(|number| number > 0), "{k} of {args:?}: {ran:?}");
         }
-        let good = outcomes.len() - ran.err.lines().count();
+        let good = outcomes.len() - bad;
         let headings = ran.out.lines().filter(|line| line.contains(" units") && line.contains(", D ")).count();
         assert_eq!(headings, if self.verb == "ladder" { good.min(1) } else { good }, "{args:?}: {ran:?}");
         if matches!(self.verb, "evaluate" | "ladder") {
             let jobs = [OsString::from("--jobs=3")];
             assert_eq!(&run(&[args, &jobs].concat()), ran, "threads change the outcome of {args:?}");
+            self.hold_lists(args, ran, &outcomes);
+        }
+        self.hold_format(args, ran);
+    }
+
+    /// The same files by a folder, by a list, by a list on standard input, and without GAME SEATS D where all have a heading.
+    fn hold_lists(&self, args: &[OsString], ran: &Ran, outcomes: &[Option<u64>]) {
+        let (front, files) = args.split_at(4);
+        let list = files.iter().map(|file| file.as_bytes()).collect::<Vec<_>>().join(&b"\n"[..]);
+        let from = |word: &str| [front, &[OsString::from("--files-from"), OsString::from(word)]].concat();
+        assert_eq!(&run_with(&from("-"), &list), ran, "a list changes the outcome of {args:?}");
+        let nul: Vec<u8> = list.iter().map(|&byte| if byte == b'\n' { 0 } else { byte }).chain([0]).collect();
+        assert_eq!(&run_with(&from("-"), &nul), ran, "a list with NULs changes the outcome of {args:?}");
+        let folder = Path::new(&files[0]).parent().expect("a file is in a folder").as_os_str().to_os_string();
+        assert_eq!(&run(&[front, &[folder]].concat()), ran, "a folder changes the outcome of {args:?}");
+        let headed = self.tables.iter().all(|given| given.labelled.as_ref().is_some_and(|labelled| labelled.headed));
+        if headed && outcomes.iter().all(|outcome| *outcome == Some(0)) {
+            assert_eq!(&run(&[&front[..1], files].concat()), ran, "headings change the outcome of {args:?}");
+        }
+    }
+
+    /// What software reads: a record for each file, with the same status and the same complaints, and the same NashConv.
+    fn hold_format(&self, args: &[OsString], ran: &Ran) {
+        let Some(format) = self.format else { return };
+        let told = run(&[args, &[OsString::from(format!("--format={format}"))]].concat());
+        assert_eq!((told.status, &told.err), (ran.status, &ran.err), "{format} of {args:?}");
+        let lines: Vec<&str> = told.out.lines().collect();
+        if format == "csv" {
+            let columns = |line: &str| line.split(',').count();
+            assert!(lines[0].starts_with("version,commit,command,file,"), "{args:?}: {}", lines[0]);
+            assert!(self.verb == "reply" || lines.len() == 1 + self.tables.len(), "{args:?}: {told:?}");
+            assert!(lines[1..].iter().all(|line| columns(line) >= columns(lines[0])), "{args:?}: {told:?}");
+            return;
+        }
+        assert_eq!(lines.len(), self.tables.len(), "{args:?}: {told:?}");
+        assert!(
+            lines.iter().all(|line| line.starts_with("{\"version\":") && line.ends_with('}')),
+            "{args:?}: {told:?}"
+        );
+        if self.verb == "evaluate" {
+            let member = |line: &&str| {
+                line.split("\"nash_conv\":").nth(1).and_then(|behind| behind.split(',').next().map(str::to_string))
+            };
+            let printed = ran.out.lines().filter_map(|line| line.strip_prefix("NashConv ")?.split_whitespace().next());
+            let printed: Vec<&str> = printed.collect();
+            let members: Vec<String> = lines.iter().filter_map(member).filter(|number| number != "null").collect();
+            let members: Vec<&str> = members.iter().map(|number| number.trim_matches('"')).collect();
+            assert_eq!(members, printed, "{args:?}: {told:?}");
         }
     }
 }

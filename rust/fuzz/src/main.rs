@@ -1,8 +1,9 @@
-//! Random tables and profiles for the reader and random command lines for the commands, from a seed, for some seconds. Each answer is held to a
-//! model written from document 01's list, and the first that differs ends the run with all that is needed to repeat it.
+//! Random tables and profiles for the reader, with labels, headings and CSV among them, and random command lines for the commands, with formats
+//! and lists of files, from a seed, for some seconds. Each answer is held to a model written from document 01's list and docs/TABLES.md, and the first that differs ends the run with all that is needed to repeat it.
 //!
 //!     cargo run --offline --release -p fuzz -- 600 1
 
+mod labelled;
 mod lines;
 mod model;
 mod texts;
@@ -12,6 +13,8 @@ use std::path::{Path, PathBuf};
 use std::process::ExitCode;
 use std::time::{Duration, Instant};
 
+use chukkanalli::tables::Labels;
+use chukkanalli::{Evaluator, Game};
 use random::Random;
 
 fn main() -> ExitCode {
@@ -53,15 +56,21 @@ fn fuzz(time: Duration, seed: u64, folder: &Path) -> (u64, u64, Seen) {
     let start = Instant::now();
     let (mut texts, mut lines, mut seen) = (0, 0, Seen::default());
     let games = model::games();
+    let labels: Vec<Labels> = games.iter().map(|listed| labels_of(listed.game)).collect();
     while start.elapsed() < time {
-        for _ in 0..50 {
-            texts::try_one(&mut random, &games);
-            texts += 1;
+        for _ in 0..5 {
+            texts::try_one(&mut random, &games, &labels);
+            labelled::try_one(&mut random, &games, &labels);
+            texts += 2;
         }
         lines::try_one(&mut random, &games, folder, &mut seen);
         lines += 1;
     }
     (texts, lines, seen)
+}
+
+fn labels_of(game: Game) -> Labels {
+    Labels::new(&Evaluator::new(game).expect("the game has a tree"))
 }
 
 /// The path of the table number k.

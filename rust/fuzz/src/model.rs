@@ -1,11 +1,13 @@
 //! What is expected: the reader once more, byte by byte, and the refusals of document 01 by its list.
 
-use chukkanalli::{Evaluator, Game};
+use chukkanalli::{Evaluator, Game, InfoSet};
 
-/// A game with a tree, and the actions of each of its sets.
+/// A game with a tree, and of each of its sets the legal actions, how many they are, and the label.
 pub struct Listed {
     pub game: Game,
     pub actions: Vec<usize>,
+    pub legal: Vec<Vec<u8>>,
+    pub labels: Vec<String>,
 }
 
 impl Listed {
@@ -14,6 +16,12 @@ impl Listed {
             Game::Kuhn { .. } => "kuhn",
             Game::Leduc => "leduc",
         }
+    }
+
+    /// The game in words, as a heading has it.
+    pub fn words(&self) -> String {
+        let name = if self.name() == "kuhn" { "Kuhn" } else { "Leduc" };
+        format!("{name} with {} seats", self.game.seats())
     }
 
     pub fn most_parts(&self) -> u64 {
@@ -25,6 +33,16 @@ impl Listed {
 
     pub fn entries(&self) -> usize {
         self.actions.iter().sum()
+    }
+
+    /// Whether each set of a profile's bits has no number below 0 and no NaN, and adds up to 1 within 1e-9.
+    pub fn adds_up_to_1(&self, bits: &[u64]) -> bool {
+        let mut rest = bits.iter().map(|&bits| f64::from_bits(bits));
+        self.actions.iter().all(|&count| {
+            let own: Vec<f64> = rest.by_ref().take(count).collect();
+            let total = own.iter().fold(0.0, |total, number| total + number);
+            own.iter().all(|&number| number >= 0.0) && total >= 1.0 - 1e-9 && total <= 1.0 + 1e-9
+        })
     }
 
     /// Document 01's 7 and 8, or 0.
@@ -49,9 +67,42 @@ pub fn games() -> Vec<Listed> {
     let games = (2..=6).map(|seats| Game::Kuhn { seats }).chain([Game::Leduc]);
     let listed = games.map(|game| {
         let sets = Evaluator::new(game).expect("the game has a tree").sets();
-        Listed { game, actions: sets.iter().map(|set| set.legal.len()).collect() }
+        let legal: Vec<Vec<u8>> = sets.iter().map(|set| set.legal.clone()).collect();
+        Listed { game, actions: legal.iter().map(Vec::len).collect(), legal, labels: labels_of(game, &sets) }
     });
     listed.collect()
+}
+
+/// The labels of sets, as docs/TABLES.md has them.
+pub fn labels_of(game: Game, sets: &[InfoSet]) -> Vec<String> {
+    let named = |actions: &[u8]| {
+        let names = match game {
+            Game::Kuhn { .. } => ["PASS", "BET", ""],
+            Game::Leduc => ["FOLD", "CALL", "RAISE"],
+        };
+        actions.iter().map(|&action| names[usize::from(action)]).collect::<Vec<_>>().join(" ")
+    };
+    let label = |set: &InfoSet| {
+        let ranked = |card: u8| format!("card {card} (rank {})", card / 2);
+        let first = |actions: &[u8]| match actions {
+            [] => "first action of the hand".to_string(),
+            actions => format!("after {}", named(actions)),
+        };
+        let known = match (game, set.public_card) {
+            (Game::Kuhn { .. }, _) => format!("card {}, {}", set.card, first(&set.rounds[0])),
+            (_, None) => format!("{}, no public card, {}", ranked(set.card), first(&set.rounds[0])),
+            (_, Some(public)) => {
+                let round2 = match &set.rounds[1][..] {
+                    [] => "first action of round 2".to_string(),
+                    actions => format!("in round 2 after {}", named(actions)),
+                };
+                let (own, public) = (ranked(set.card), ranked(public));
+                format!("{own}, public {public}, after {}, {round2}", named(&set.rounds[0]))
+            }
+        };
+        format!("{}: seat {}, {known}", named(&set.legal), set.seat)
+    };
+    sets.iter().map(label).collect()
 }
 
 /// Document 01's 1, 2 or 3, or the game.

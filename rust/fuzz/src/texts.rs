@@ -2,7 +2,7 @@
 
 use std::fmt::Debug;
 
-use chukkanalli_cli::reader::{self, Entry};
+use chukkanalli::tables::{Labels, Number, Reader};
 use random::Random;
 
 use crate::model::{self, Listed, Read};
@@ -108,10 +108,19 @@ pub fn valid(random: &mut Random, listed: &Listed, d: u64) -> Vec<u8> {
 pub fn valid_profile(random: &mut Random, listed: &Listed) -> Vec<u8> {
     let mut text = String::new();
     let end = random.pick(&["\n", "\r\n", "\r", "  ", " # set\n"]);
-    let of_any_bits = random.one_in(4);
+    let (of_any_bits, adds_up) = (random.one_in(4), random.one_in(2));
     for &count in &listed.actions {
-        for _ in 0..count {
-            let number = if of_any_bits { f64::from_bits(random.draw()) } else { random.below(13) as f64 / 12.0 };
+        let mut left = 12;
+        for action in 0..count {
+            let twelfths = if action + 1 == count { left } else { random.below(left + 1) };
+            left -= twelfths;
+            let number = if of_any_bits {
+                f64::from_bits(random.draw())
+            } else if adds_up {
+                twelfths as f64 / 12.0
+            } else {
+                random.below(13) as f64 / 12.0
+            };
             text += &if random.one_in(2) { format!("{number:?} ") } else { format!("{number} ") };
         }
         text += end;
@@ -142,7 +151,7 @@ pub fn spoil(random: &mut Random, bytes: &mut Vec<u8>) {
     }
 }
 
-pub fn try_one(random: &mut Random, games: &[Listed]) {
+pub fn try_one(random: &mut Random, games: &[Listed], labels: &[Labels]) {
     let listed = &games[random.below(2)];
     let mut bytes = match random.below(6) {
         0 | 1 => {
@@ -155,8 +164,8 @@ pub fn try_one(random: &mut Random, games: &[Listed]) {
     if random.one_in(2) {
         spoil(random, &mut bytes);
     }
-    hold(&bytes, |bytes| read(bytes, |part: u8| part), model::part);
-    hold(&bytes, |bytes| read(bytes, f64::to_bits), model::bits);
+    hold(&bytes, |bytes| read(bytes, &labels[0], |part: u8| part), model::part);
+    hold(&bytes, |bytes| read(bytes, &labels[0], f64::to_bits), model::bits);
 }
 
 /// Holds a reader to the model, on a text and on its like with a mark or other line ends.
@@ -174,12 +183,12 @@ fn hold<T: Debug + PartialEq>(bytes: &[u8], read: impl Fn(&[u8]) -> Read<T>, num
 }
 
 /// The reader's answer in the model's form.
-fn read<E: Entry + Copy, T>(bytes: &[u8], form: impl Fn(E) -> T) -> Read<T> {
-    match reader::read::<E>(bytes) {
+fn read<N: Number, T>(bytes: &[u8], labels: &Labels, form: impl Fn(N) -> T) -> Read<T> {
+    match Reader::new(labels).read::<N>(bytes) {
         Ok(entries) => {
             let lines = (0..entries.numbers.len()).map(|entry| entries.line_of(entry)).collect();
             Ok((entries.numbers.into_iter().map(form).collect(), lines))
         }
-        Err(fault) => Err(fault.line.expect("a fault of a text is in a line")),
+        Err(faults) => Err(faults.told()[0].line.expect("a fault of a text is in a line")),
     }
 }

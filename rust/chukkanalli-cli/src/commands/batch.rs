@@ -1,41 +1,88 @@
 //! Tables evaluated side by side, for the commands that take several.
 
-use std::io;
 use std::path::PathBuf;
 
+use chukkanalli::tables::{Faults, Labels, Reader};
 use chukkanalli::{Evaluator, Refusal};
 
-use super::{table, Stop};
+use super::table::{self, Graded};
+use super::{game, headings, Stop};
+use crate::args::{Setting, Verb};
 use crate::console::Console;
 use crate::jobs::side_by_side;
-use crate::words::file_name;
+use crate::options::Options;
+use crate::same::{Fingerprints, SameTables};
+use crate::sources::{self, Source};
 
-/// Evaluates each table with D parts in each set, a thread for each evaluator. An evaluation is handed the parts. Its result goes on with the
-/// table's name, in the order of the tables; a table without one is complained of. Answers what was said of these.
-pub fn evaluated<T: Send>(
-    tables: &[PathBuf],
-    d: u64,
+/// The tables of a command line, and what they are evaluated with.
+pub struct Batch {
+    pub sources: Vec<Source>,
+    pub labels: Labels,
+    pub d: u64,
     evaluators: Vec<Evaluator>,
-    console: &mut Console,
-    evaluation: impl Fn(&mut Evaluator, &[u8]) -> Result<T, Refusal> + Sync,
-    mut hand_on: impl FnMut(&mut Console, String, T) -> io::Result<()>,
-) -> Result<Vec<String>, Stop> {
-    let mut refused = Vec::new();
-    console.expect(tables.len());
-    let work = |evaluator: &mut Evaluator, place: usize| table::evaluated(&tables[place], evaluator, d, &evaluation);
-    side_by_side(evaluators, tables.len(), work, |place, outcome| {
-        let name = file_name(&tables[place]);
-        match outcome {
-            Ok(result) => hand_on(console, name, result)?,
-            Err(fault) => {
-                let complaint = fault.at(&name).to_string();
-                console.complain(&complaint);
-                refused.push(complaint);
+    labelled: bool,
+    headed: bool,
+}
+
+/// What came of a table: the figures, and the name of the first table that has the same parts, or what is wrong with it.
+pub type Outcome<'a, R> = Result<(Graded<R>, Option<&'a str>), Faults>;
+
+impl Batch {
+    /// Gathers the tables, and takes GAME SEATS D from the first heading where they are left out.
+    pub fn new(
+        verb: Verb,
+        setting: Option<Setting>,
+        tables: &[PathBuf],
+        options: &Options,
+        console: &mut Console,
+    ) -> Result<Self, Stop> {
+        let given = setting.is_some();
+        // Bad use is told before any file is read.
+        let ready = setting.map(|setting| game::evaluator_of_parts(verb, &setting, None).map(|first| (first, setting)));
+        let ready = ready.transpose()?;
+        let gathered = sources::gather(tables, options.files_from.as_deref(), console);
+        let mut sources = gathered.map_err(|sentence| Stop::Refused(vec![sentence]))?;
+        let (first, setting) = match ready {
+            Some(ready) => ready,
+            None => {
+                let found = headings::first::<u8>(verb, &mut sources)?;
+                (found.evaluator(verb)?, found.setting)
             }
-        }
-        console.count();
-        Ok::<(), Stop>(())
-    })?;
-    console.end();
-    Ok(refused)
+        };
+        let labels = Labels::new(&first);
+        let evaluators = game::one_a_thread(first, options.jobs, sources.len());
+        Ok(Batch { sources, labels, d: setting.d.value, evaluators, labelled: options.labelled, headed: !given })
+    }
+
+    /// Evaluates each table, a thread for each evaluator. An evaluation is handed the parts. What came of each table goes on with its place,
+    /// in the order of the tables.
+    pub fn evaluate<R: Send>(
+        &mut self,
+        console: &mut Console,
+        evaluation: impl Fn(&mut Evaluator, &[u8]) -> Result<R, Refusal> + Sync,
+        mut hand_on: impl FnMut(&mut Console, usize, Outcome<R>) -> Result<(), Stop>,
+    ) -> Result<(), Stop> {
+        let mut reader = Reader::new(&self.labels).with_d(self.d);
+        reader = if self.labelled { reader.labelled() } else { reader };
+        reader = if self.headed { reader.headed() } else { reader };
+        let (fingerprints, mut same) = (Fingerprints::default(), SameTables::default());
+        let sources = &self.sources;
+        console.expect(sources.len());
+        let work = |evaluator: &mut Evaluator, place: usize| {
+            table::evaluated(&sources[place], &reader, evaluator, |evaluator, parts| {
+                evaluation(evaluator, parts).map(|result| (result, fingerprints.of(parts)))
+            })
+        };
+        side_by_side(std::mem::take(&mut self.evaluators), sources.len(), work, |place, outcome| {
+            let outcome = outcome.map(|Graded { read_by, result: (result, fingerprint) }| {
+                let before = same.before(fingerprint, place).map(|first| sources[first].name.as_str());
+                (Graded { read_by, result }, before)
+            });
+            hand_on(console, place, outcome)?;
+            console.count();
+            Ok::<(), Stop>(())
+        })?;
+        console.end();
+        Ok(())
+    }
 }

@@ -4,53 +4,101 @@ use std::path::PathBuf;
 
 use chukkanalli::{Evaluator, Game, NashConv, Refusal, Worths};
 
-use super::{batch, game, Stop, DONE, REFUSED};
+use super::batch::Batch;
+use super::table::Graded;
+use super::{complain_of, Stop, DONE, REFUSED};
 use crate::args::{Setting, Verb};
 use crate::console::Console;
 use crate::figures::Figures;
+use crate::options::{Format, Options};
+use crate::output::{self, Frame};
 
 /// What a table is worth to each seat, each seat's best value, and NashConv.
-struct Evaluation {
+pub struct Evaluation {
     worths: Worths,
     best: Vec<i64>,
-    conv: NashConv,
+    pub conv: NashConv,
 }
 
-pub fn run(setting: &Setting, tables: &[PathBuf], jobs: Option<u64>, console: &mut Console) -> Result<u8, Stop> {
-    let first = game::evaluator_of_parts(Verb::Evaluate, setting, None)?;
-    let (game, d) = (first.game(), setting.d.value);
-    let evaluators = game::one_a_thread(first, jobs, tables.len());
-    let mut gap = "";
-    let refused = batch::evaluated(
-        tables,
-        d,
-        evaluators,
+impl Evaluation {
+    fn of(evaluator: &mut Evaluator, d: u64, parts: &[u8]) -> Result<Self, Refusal> {
+        let (worths, best) = (evaluator.worths(d, parts)?, best_values(evaluator, d, parts)?);
+        Ok(Evaluation { worths, best, conv: evaluator.nash_conv_units(d, parts)? })
+    }
+
+    /// The same in half the time, where the units of the game with D are known: NashConv is the sum of the gains.
+    pub fn with_units(evaluator: &mut Evaluator, d: u64, parts: &[u8], units: u64) -> Result<Self, Refusal> {
+        let (worths, best) = (evaluator.worths(d, parts)?, best_values(evaluator, d, parts)?);
+        let nash_conv = worths.iter().zip(&best).map(|(worth, best)| best.abs_diff(*worth)).sum();
+        Ok(Evaluation { worths, best, conv: NashConv { nash_conv, units } })
+    }
+
+    /// Each seat with its worth and its best value.
+    fn by_seat(&self) -> impl Iterator<Item = (u64, i64, i64)> + '_ {
+        (0..).zip(self.worths.iter().zip(&self.best)).map(|(seat, (&worth, &best))| (seat, worth, best))
+    }
+
+    /// The same for software.
+    pub fn seat_values(&self) -> Vec<output::Members> {
+        self.by_seat().map(|(seat, worth, best)| output::seat_values(seat, worth, best)).collect()
+    }
+}
+
+fn best_values(evaluator: &mut Evaluator, d: u64, parts: &[u8]) -> Result<Vec<i64>, Refusal> {
+    let mut reply = vec![0; parts.len()];
+    (0..evaluator.game().seats()).map(|seat| evaluator.best_reply_into(seat, d, parts, &mut reply)).collect()
+}
+
+pub fn run(setting: Option<Setting>, tables: &[PathBuf], options: &Options, console: &mut Console) -> Result<u8, Stop> {
+    let mut batch = Batch::new(Verb::Evaluate, setting, tables, options, console)?;
+    let (game, d) = (batch.labels.game(), batch.d);
+    let frame = Frame { verb: Verb::Evaluate, format: options.format, game, d: Some(d), seat: None, any: false };
+    let names: Vec<String> = batch.sources.iter().map(|source| source.name.clone()).collect();
+    let (mut gap, mut status) = ("", DONE);
+    if options.format != Format::Text {
+        console.print(&frame.heading())?;
+    }
+    batch.evaluate(
         console,
-        |evaluator, parts| evaluate(evaluator, d, parts),
-        |console, name, evaluation| {
-            console.print(&format!("{gap}{}", block(&name, game, d, &evaluation)))?;
-            gap = "\n";
-            Ok(())
+        |evaluator, parts| Evaluation::of(evaluator, d, parts),
+        |console, place, outcome| {
+            let name = &names[place];
+            if let Err(faults) = &outcome {
+                complain_of(faults, name, console);
+                status = REFUSED;
+            }
+            let text = match (outcome, options.format) {
+                (Ok((graded, same)), Format::Text) => {
+                    format!("{}{}", std::mem::replace(&mut gap, "\n"), block(name, game, d, &graded, same))
+                }
+                (Ok((graded, same)), _) => frame.evaluated(name, machine_figures(&graded, same)),
+                (Err(_), Format::Text) => return Ok(()),
+                (Err(faults), _) => frame.refused(name, &faults),
+            };
+            Ok(console.print(&text)?)
         },
     )?;
-    Ok(if refused.is_empty() { DONE } else { REFUSED })
+    Ok(status)
 }
 
-fn evaluate(evaluator: &mut Evaluator, d: u64, parts: &[u8]) -> Result<Evaluation, Refusal> {
-    let worths = evaluator.worths(d, parts)?;
-    let mut best = Vec::new();
-    let mut reply = vec![0; parts.len()];
-    for seat in 0..evaluator.game().seats() {
-        best.push(evaluator.best_reply_into(seat, d, parts, &mut reply)?);
+fn machine_figures<'a>(graded: &Graded<Evaluation>, same: Option<&'a str>) -> output::Figures<'a> {
+    output::Figures {
+        read_by: Some(graded.read_by),
+        same_table_as: same,
+        seat_values: graded.result.seat_values(),
+        conv: Some(graded.result.conv),
+        ..output::Figures::default()
     }
-    let conv = evaluator.nash_conv_units(d, parts)?;
-    Ok(Evaluation { worths, best, conv })
 }
 
 /// What is printed of a table.
-fn block(name: &str, game: Game, d: u64, evaluation: &Evaluation) -> String {
-    let mut figures = Figures::new(name, game, d, evaluation.conv.units);
-    for (seat, (&worth, &best)) in (0..).zip(evaluation.worths.iter().zip(&evaluation.best)) {
+fn block(name: &str, game: Game, d: u64, graded: &Graded<Evaluation>, same: Option<&str>) -> String {
+    let evaluation = &graded.result;
+    let mut figures = Figures::new(name, game, d, evaluation.conv.units, graded.read_by);
+    if let Some(same) = same {
+        figures.mark_same(same);
+    }
+    for (seat, worth, best) in evaluation.by_seat() {
         figures.add_seat(seat, worth, best);
     }
     figures.add_nash_conv(evaluation.conv.nash_conv);

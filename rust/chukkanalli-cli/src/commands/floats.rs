@@ -2,13 +2,17 @@
 
 use std::path::Path;
 
+use chukkanalli::tables::{game_words, Labels, Reader};
 use chukkanalli::{Evaluator, Game, Refusal, Values};
 
-use super::{game, report, table, Stop};
+use super::table::{self, Graded};
+use super::{complain_of, game, headings, Stop, DONE, REFUSED};
 use crate::args::{Asked, Verb};
 use crate::columns::{self, Side};
 use crate::console::Console;
-use crate::words::{file_name, game_words};
+use crate::options::{Format, Options};
+use crate::output::{self, Frame};
+use crate::sources::Source;
 
 struct Evaluation {
     best: Values,
@@ -17,12 +21,38 @@ struct Evaluation {
     exploitability: f64,
 }
 
-pub fn run(asked: &Asked, path: &Path, console: &mut Console) -> Result<u8, Stop> {
-    let mut evaluator = game::evaluator(Verb::F64, asked)?;
-    let name = file_name(path);
+pub fn run(asked: Option<Asked>, path: &Path, options: &Options, console: &mut Console) -> Result<u8, Stop> {
+    let ready = asked.map(|asked| game::evaluator(Verb::F64, &asked)).transpose()?;
+    let mut source = Source::one::<f64>(path, console);
+    let headed = ready.is_none();
+    let mut evaluator = match ready {
+        Some(evaluator) => evaluator,
+        None => {
+            let found = headings::first::<f64>(Verb::F64, std::slice::from_mut(&mut source))?;
+            found.blame(game::evaluator(Verb::F64, &found.setting.asked))?
+        }
+    };
+    let labels = Labels::new(&evaluator);
+    let mut reader = Reader::new(&labels);
+    reader = if options.labelled { reader.labelled() } else { reader };
+    reader = if options.any { reader.any() } else { reader };
+    reader = if headed { reader.headed() } else { reader };
+    let frame =
+        Frame { verb: Verb::F64, format: options.format, game: labels.game(), d: None, seat: None, any: options.any };
     console.expect(1);
-    let evaluation = table::valued(path, &mut evaluator, evaluate);
-    report(&name, evaluation.map(|evaluation| text(&name, evaluator.game(), &evaluation)), console)
+    let answer = table::valued(&source, &reader, &mut evaluator, evaluate);
+    let status = if answer.is_ok() { DONE } else { REFUSED };
+    let text = match (&answer, options.format) {
+        (Ok(graded), Format::Text) => text(&source.name, labels.game(), graded, options.any),
+        (Ok(graded), _) => frame.heading() + &frame.evaluated(&source.name, machine_figures(graded)),
+        (Err(_), Format::Text) => String::new(),
+        (Err(faults), _) => frame.heading() + &frame.refused(&source.name, faults),
+    };
+    if let Err(faults) = &answer {
+        complain_of(faults, &source.name, console);
+    }
+    console.print(&text)?;
+    Ok(status)
 }
 
 fn evaluate(evaluator: &mut Evaluator, profile: &[f64]) -> Result<Evaluation, Refusal> {
@@ -34,7 +64,8 @@ fn evaluate(evaluator: &mut Evaluator, profile: &[f64]) -> Result<Evaluation, Re
 }
 
 /// A value a line, with the fewest digits that read back as the same number.
-fn text(name: &str, game: Game, evaluation: &Evaluation) -> String {
+fn text(name: &str, game: Game, graded: &Graded<Evaluation>, any: bool) -> String {
+    let evaluation = &graded.result;
     let mut rows = Vec::new();
     let mut add = |what: String, value: f64| rows.push([what, format!("{value:?}")]);
     for (seat, &value) in evaluation.best.iter().enumerate() {
@@ -46,5 +77,17 @@ fn text(name: &str, game: Game, evaluation: &Evaluation) -> String {
     add("NashConv".to_string(), evaluation.nash_conv);
     add("exploitability".to_string(), evaluation.exploitability);
     let lines = columns::lines([Side::Left, Side::Left], &rows);
-    format!("{name}: {}, chips per hand in f64\n\n{lines}", game_words(game))
+    let taken = if any { ", whatever its numbers add up to" } else { "" };
+    format!("{name}: {}, chips per hand in f64, read by {}{taken}\n\n{lines}", game_words(game), graded.read_by.name())
+}
+
+fn machine_figures<'a>(graded: &Graded<Evaluation>) -> output::Figures<'a> {
+    let evaluation = &graded.result;
+    let by_seat = (0..).zip(evaluation.worths.iter().zip(evaluation.best.iter()));
+    output::Figures {
+        read_by: Some(graded.read_by),
+        seat_values: by_seat.map(|(seat, (&worth, &best))| output::seat_floats(seat, worth, best)).collect(),
+        floats: Some([evaluation.nash_conv, evaluation.exploitability]),
+        ..output::Figures::default()
+    }
 }

@@ -1,13 +1,15 @@
 //! GAME SEATS and D: every refusal of them comes from the proved calls.
 
 use std::fmt::Display;
+use std::path::Path;
 use std::thread;
 
+use chukkanalli::tables::quoted;
 use chukkanalli::{Evaluator, Game, Refusal};
 
 use super::Stop;
 use crate::args::{Asked, Misuse, Number, Setting, Verb};
-use crate::words::{game_word, quoted};
+use crate::names::game_word;
 
 /// The threads at most, whatever is asked for: each takes memory of its own.
 const MOST_THREADS: usize = 256;
@@ -19,6 +21,11 @@ const GAMES: [Game; 2] = [Game::Kuhn { seats: 0 }, Game::Leduc];
 fn number_of(name: &str) -> u64 {
     let named = GAMES.into_iter().find(|&game| name.eq_ignore_ascii_case(game.name()));
     named.map_or(u64::MAX, Game::number)
+}
+
+/// Whether a path is a game's name.
+pub fn is_name(path: &Path) -> bool {
+    GAMES.into_iter().any(|game| path.as_os_str().eq_ignore_ascii_case(game.name()))
 }
 
 /// What is said of a word of the command line that is refused.

@@ -4,6 +4,7 @@ mod batch;
 mod evaluate;
 mod floats;
 mod game;
+mod headings;
 mod ladder;
 mod reply;
 mod table;
@@ -12,12 +13,12 @@ mod template;
 use std::ffi::OsString;
 use std::io::{self, ErrorKind};
 
+use chukkanalli::tables::Faults;
 use chukkanalli::Refusal;
 
 use crate::args::{self, Misuse, Request};
 use crate::console::Console;
-use crate::help;
-use crate::reader::Fault;
+use crate::{help, version};
 
 /// The statuses that a run ends with.
 const DONE: u8 = 0;
@@ -27,6 +28,8 @@ const MISUSED: u8 = 2;
 /// Why a command ended early.
 enum Stop {
     Misuse(Misuse),
+    /// What was given cannot be read or is refused as a whole: a sentence for each complaint.
+    Refused(Vec<String>),
     /// The system has no work memory for the game.
     NoMemory(Refusal),
     /// The output cannot be written.
@@ -55,6 +58,12 @@ pub fn run(args: &[OsString], console: &mut Console) -> u8 {
             console.complain(format_args!("`chukkanalli {}--help` says more", named("")));
             MISUSED
         }
+        Err(Stop::Refused(sentences)) => {
+            for sentence in sentences {
+                console.complain(sentence);
+            }
+            REFUSED
+        }
         Err(Stop::NoMemory(refusal)) => {
             console.complain(format_args!("there is too little memory: {refusal}"));
             REFUSED
@@ -74,17 +83,10 @@ pub fn run(args: &[OsString], console: &mut Console) -> u8 {
     }
 }
 
-/// Prints what is to be said of a file, or complains of it.
-fn report(name: &str, text: Result<String, Fault>, console: &mut Console) -> Result<u8, Stop> {
-    match text {
-        Ok(text) => {
-            console.print(&text)?;
-            Ok(DONE)
-        }
-        Err(fault) => {
-            console.complain(fault.at(name));
-            Ok(REFUSED)
-        }
+/// Complains of each fault of a file.
+fn complain_of(faults: &Faults, name: &str, console: &mut Console) {
+    for sentence in faults.sentences(name) {
+        console.complain(sentence);
     }
 }
 
@@ -94,10 +96,14 @@ fn carry_out(args: &[OsString], console: &mut Console) -> Result<u8, Stop> {
             console.print(&help::text(verb))?;
             Ok(DONE)
         }
-        Request::Evaluate { setting, tables, jobs } => evaluate::run(&setting, &tables, jobs, console),
-        Request::Ladder { setting, tables, jobs } => ladder::run(&setting, &tables, jobs, console),
-        Request::Reply { setting, table, seat } => reply::run(&setting, &table, &seat, console),
-        Request::Template { setting } => template::run(&setting, console),
-        Request::F64 { asked, profile } => floats::run(&asked, &profile, console),
+        Request::Version => {
+            console.print(&version::text())?;
+            Ok(DONE)
+        }
+        Request::Evaluate { setting, tables, options } => evaluate::run(setting, &tables, &options, console),
+        Request::Ladder { setting, tables, options } => ladder::run(setting, &tables, &options, console),
+        Request::Reply { setting, table, seat, options } => reply::run(&setting, &table, &seat, &options, console),
+        Request::Template { setting, options } => template::run(&setting, &options, console),
+        Request::F64 { asked, profile, options } => floats::run(asked, &profile, &options, console),
     }
 }

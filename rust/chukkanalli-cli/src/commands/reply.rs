@@ -2,58 +2,143 @@
 
 use std::path::Path;
 
-use chukkanalli::{BestReply, Evaluator, Game, InfoSet, Refusal};
+use chukkanalli::tables::{action_words, set_words, Labels, Reader};
+use chukkanalli::{BestReply, Evaluator, InfoSet, NashConv, Refusal};
 
-use super::{game, report, table, Stop};
+use super::table::{self, Graded};
+use super::{complain_of, game, Stop, DONE, REFUSED};
 use crate::args::{Number, Setting, Verb};
 use crate::console::Console;
 use crate::figures::Figures;
-use crate::words::{action_words, file_name, set_words};
+use crate::options::{Format, Options};
+use crate::output::{self, Frame, Members, Value};
+use crate::reach::Reach;
+use crate::sources::Source;
 
-/// A best reply, beside what the table itself is worth to the seat.
+/// A best reply, beside what the table itself is worth to the seat, and the seat's sets.
 struct Answer {
     worth: i64,
     best: BestReply,
-    units: u64,
+    conv: NashConv,
+    moves: Vec<Move>,
 }
 
-pub fn run(setting: &Setting, path: &Path, seat: &Number, console: &mut Console) -> Result<u8, Stop> {
+/// What the reply does in a set, and whether a hand gets there while the others play the table.
+struct Move {
+    set: usize,
+    action: String,
+    reached: bool,
+}
+
+pub fn run(
+    setting: &Setting,
+    path: &Path,
+    seat: &Number,
+    options: &Options,
+    console: &mut Console,
+) -> Result<u8, Stop> {
     let mut evaluator = game::evaluator_of_parts(Verb::Reply, setting, Some(seat))?;
-    let (name, d) = (file_name(path), setting.d.value);
+    let labels = Labels::new(&evaluator);
+    let (source, d) = (Source::one::<u8>(path, console), setting.d.value);
+    let reader = Reader::new(&labels).with_d(d);
+    let reader = if options.labelled { reader.labelled() } else { reader };
+    let seat = seat.value;
+    let frame = Frame {
+        verb: Verb::Reply,
+        format: options.format,
+        game: labels.game(),
+        d: Some(d),
+        seat: Some(seat),
+        any: false,
+    };
     console.expect(1);
-    let answer = table::evaluated(path, &mut evaluator, d, |evaluator, parts| reply(evaluator, seat.value, d, parts));
-    let text = answer.map(|answer| text(&name, &evaluator, seat.value, d, &answer));
-    report(&name, text, console)
+    let answer = table::evaluated(&source, &reader, &mut evaluator, |evaluator, parts| {
+        reply(evaluator, &labels, seat, d, parts)
+    });
+    let status = if answer.is_ok() { DONE } else { REFUSED };
+    let text = match (&answer, options.format) {
+        (Ok(graded), Format::Text) => text(&source.name, &labels, seat, d, graded),
+        (Ok(graded), _) => frame.heading() + &frame.evaluated(&source.name, machine_figures(&labels, seat, graded)),
+        (Err(_), Format::Text) => String::new(),
+        (Err(faults), _) => frame.heading() + &frame.refused(&source.name, faults),
+    };
+    if let Err(faults) = &answer {
+        complain_of(faults, &source.name, console);
+    }
+    console.print(&text)?;
+    Ok(status)
 }
 
-fn reply(evaluator: &mut Evaluator, seat: u64, d: u64, parts: &[u8]) -> Result<Answer, Refusal> {
+fn reply(evaluator: &mut Evaluator, labels: &Labels, seat: u64, d: u64, parts: &[u8]) -> Result<Answer, Refusal> {
     let best = evaluator.best_reply(seat, d, parts)?;
     let worth = evaluator.worths(d, parts)?[seat as usize];
-    let units = evaluator.nash_conv_units(d, parts)?.units;
-    Ok(Answer { worth, best, units })
+    let conv = evaluator.nash_conv_units(d, parts)?;
+    let moves = moves(labels, seat, parts, &best.table);
+    Ok(Answer { worth, best, conv, moves })
 }
 
-fn text(name: &str, evaluator: &Evaluator, seat: u64, d: u64, answer: &Answer) -> String {
-    let game = evaluator.game();
-    let mut figures = Figures::new(name, game, d, answer.units);
-    figures.add_seat(seat, answer.worth, answer.best.value);
-    let lines = lines(game, evaluator.sets(), seat, &answer.best.table);
-    format!("{figures}\nthe perfect reply of seat {seat}:\n{lines}")
-}
-
-/// A line for each set of the seat, by its card, then by the public card, then in set order.
-fn lines(game: Game, mut sets: Vec<InfoSet>, seat: u64, reply: &[u8]) -> String {
-    sets.retain(|set| set.seat == seat);
-    sets.sort_by_key(|set| (set.card, set.public_card));
-    let mut text = String::new();
-    for set in &sets {
-        text += &format!("{}: {}\n", set_words(game, set), action_words(game, &chosen(set, reply)));
-    }
-    text
+/// What the reply does in each set of the seat: those that a hand gets to, then the others, each by card, public card and set order.
+fn moves(labels: &Labels, seat: u64, parts: &[u8], reply: &[u8]) -> Vec<Move> {
+    let reach = Reach::new(labels, parts);
+    let own = labels.sets().iter().enumerate().filter(|(_, set)| set.seat == seat);
+    let mut moves: Vec<Move> = own
+        .map(|(number, set)| Move {
+            set: number,
+            action: action_words(labels.game(), &chosen(set, reply)),
+            reached: reach.gets_to(set),
+        })
+        .collect();
+    moves.sort_by_key(|own| (!own.reached, labels.sets()[own.set].card, labels.sets()[own.set].public_card));
+    moves
 }
 
 /// The actions of a set that have a part in the reply, which is one.
 fn chosen(set: &InfoSet, reply: &[u8]) -> Vec<u8> {
     let parts = &reply[set.entries()];
     set.legal.iter().zip(parts).filter(|(_, &part)| part > 0).map(|(&action, _)| action).collect()
+}
+
+fn text(name: &str, labels: &Labels, seat: u64, d: u64, graded: &Graded<Answer>) -> String {
+    let answer = &graded.result;
+    let mut figures = Figures::new(name, labels.game(), d, answer.conv.units, graded.read_by);
+    figures.add_gain(seat, answer.worth, answer.best.value);
+    figures.add_seat(seat, answer.worth, answer.best.value);
+    let said = if answer.best.value == answer.worth {
+        format!(
+            "the table cannot be beaten from seat {seat}; its reply gets as much, and is no correction of the table"
+        )
+    } else {
+        format!("the reply of seat {seat} beats this table; it is no correction of it")
+    };
+    format!("{figures}\n{said}\n\nthe perfect reply of seat {seat}:\n{}", lines(labels, &answer.moves))
+}
+
+/// A line for each set; those that no hand gets to stand under a line of their own.
+fn lines(labels: &Labels, moves: &[Move]) -> String {
+    let mut text = String::new();
+    for (place, own) in moves.iter().enumerate() {
+        if !own.reached && (place == 0 || moves[place - 1].reached) {
+            text += "\nin sets that no hand reaches while the others play this table:\n";
+        }
+        text += &format!("{}: {}\n", set_words(labels.game(), &labels.sets()[own.set]), own.action);
+    }
+    text
+}
+
+fn machine_figures<'a>(labels: &Labels, seat: u64, graded: &Graded<Answer>) -> output::Figures<'a> {
+    let answer = &graded.result;
+    let told = |own: &Move| -> Members {
+        vec![
+            ("set", Value::from(labels.label(own.set))),
+            ("action", Value::from(&own.action[..])),
+            ("reached", Value::Bool(own.reached)),
+        ]
+    };
+    output::Figures {
+        read_by: Some(graded.read_by),
+        seat_values: vec![output::seat_values(seat, answer.worth, answer.best.value)],
+        conv: Some(answer.conv),
+        reply: Some(answer.moves.iter().map(told).collect()),
+        ..output::Figures::default()
+    }
 }

@@ -1,5 +1,8 @@
 //! Runs the program at the repository's root, and keeps tables to give it.
 
+#[allow(dead_code)]
+pub mod json;
+
 use std::ffi::OsStr;
 use std::fs;
 use std::path::{Path, PathBuf};
@@ -50,4 +53,13 @@ pub fn table(name: &str, bytes: impl AsRef<[u8]>) -> String {
     let path = Path::new(env!("CARGO_TARGET_TMPDIR")).join(name);
     fs::write(&path, bytes).expect("the tests' folder can be written");
     path.to_str().expect("the tests' folder has a name of text").to_string()
+}
+
+/// An empty folder that this test alone uses.
+#[allow(dead_code)]
+pub fn folder(name: &str) -> PathBuf {
+    let path = Path::new(env!("CARGO_TARGET_TMPDIR")).join(name);
+    let _ = fs::remove_dir_all(&path);
+    fs::create_dir_all(&path).expect("the tests' folder can be written");
+    path
 }

@@ -1,31 +1,27 @@
-//! Games and sets in words; words and files' names in sentences.
+//! Games and sets in words; words in sentences.
 
-use std::path::Path;
-
-use chukkanalli::{Game, InfoSet};
+use crate::{Game, InfoSet};
 
 /// The characters of a word that a sentence quotes at most.
 const MOST_QUOTED: usize = 24;
 
+/// The characters of a label that a sentence quotes at most; the longest label of a game has 113.
+const MOST_OF_A_LABEL: usize = 120;
+
 /// A word in a sentence: cut where it is long, with what does not print written out.
 pub fn quoted(word: &str) -> String {
-    let front: String = word.chars().take(MOST_QUOTED).collect();
+    quoted_up_to(word, MOST_QUOTED)
+}
+
+/// A label in a sentence, likewise.
+pub(super) fn quoted_label(label: &str) -> String {
+    quoted_up_to(label, MOST_OF_A_LABEL)
+}
+
+fn quoted_up_to(word: &str, most: usize) -> String {
+    let front: String = word.chars().take(most).collect();
     let cut = if front.len() < word.len() { "..." } else { "" };
     format!("'{}{cut}'", front.escape_debug())
-}
-
-/// A file's name in a sentence: with what does not print written out, in quotes where it is empty.
-pub fn file_name(path: &Path) -> String {
-    let name = path.to_string_lossy();
-    if name.is_empty() {
-        return quoted(&name);
-    }
-    name.escape_debug().to_string().replace(r"\'", "'").replace(r#"\""#, "\"")
-}
-
-/// A game's name on the command line.
-pub fn game_word(game: Game) -> String {
-    game.name().to_lowercase()
 }
 
 /// A game with its seats, as `Kuhn with 2 seats`.
@@ -76,6 +72,11 @@ fn played(game: Game, actions: &[u8], where_first: &str) -> String {
     }
 }
 
+/// How many there are of something, as `1 part` and `2 parts`.
+pub(super) fn counted(count: usize, name: &str) -> String {
+    format!("{count} {name}{}", if count == 1 { "" } else { "s" })
+}
+
 #[cfg(test)]
 mod tests {
     use super::*;
@@ -94,17 +95,12 @@ mod tests {
     }
 
     #[test]
-    fn words_and_names_are_shown_on_one_line() {
+    fn words_are_shown_on_one_line() {
         assert_eq!(quoted("a\nb\u{1b}"), r"'a\nb\u{1b}'");
         assert_eq!(quoted(&"ä".repeat(25)), format!("'{}...'", "ä".repeat(24)));
         assert_eq!(quoted(&"ä".repeat(24)), format!("'{}'", "ä".repeat(24)));
-        let named = |name: &str| file_name(Path::new(name));
-        assert_eq!(named("a\nb\u{202e}c\u{2028}d\te"), r"a\nb\u{202e}c\u{2028}d\te");
-        assert_eq!(named(""), "''");
-        for name in ["folder/tä ble.txt", "it's", "\"a\"'b'", "हिन्दी", "e\u{301}"] {
-            assert_eq!(named(name), name);
-        }
-        assert_eq!(named(r"a\'b\n"), r"a\\'b\\n");
+        assert_eq!(counted(1, "part"), "1 part");
+        assert_eq!(counted(0, "part"), "0 parts");
     }
 
     #[test]
