@@ -1,4 +1,5 @@
 -- Laws of Kuhn's calls.
 pub mod Answers
 pub mod Outputs
+pub mod Decides
 pub mod Facts

@@ -1,4 +1,5 @@
 -- Laws of Leduc's calls.
 pub mod Writing
 pub mod Answers
+pub mod Decides
 pub mod Facts
