@@ -14,7 +14,7 @@ use Rattle.kuhn.specs.declared.KuhnPoker.{KuhnPoker}
 use Rattle.kuhn_positions.specs.declared.KuhnState.{KuhnState}
 
 -- the number in an answer
-moved-number : (r : ℕ) (s t : KuhnState) → moved r s t .refusal ≡ r
+pub moved-number : (r : ℕ) (s t : KuhnState) → moved r s t .refusal ≡ r
 moved-number zero s t = refl
 moved-number (suc r) s t = refl
 

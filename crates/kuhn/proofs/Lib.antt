@@ -3,3 +3,4 @@ pub mod Answers
 pub mod Outputs
 pub mod Decides
 pub mod Facts
+pub mod Moving
