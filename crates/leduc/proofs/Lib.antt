@@ -3,3 +3,4 @@ pub mod Writing
 pub mod Answers
 pub mod Decides
 pub mod Facts
+pub mod Moving
