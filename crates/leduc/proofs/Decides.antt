@@ -15,7 +15,7 @@ use Rattle.leduc.specs.Facts.{Calls-decide}
 use Rattle.leduc_positions.specs.declared.LeducState.{LeducState}
 
 -- the number in an answer
-moved-number : (r : ℕ) (s t : LeducState) → moved r s t .refusal ≡ r
+pub moved-number : (r : ℕ) (s t : LeducState) → moved r s t .refusal ≡ r
 moved-number zero s t = refl
 moved-number (suc r) s t = refl
 
