@@ -17,6 +17,7 @@ pub mod Theorem
 pub mod Computed
 pub mod Sets
 pub mod Counting
+pub mod Nodes
 pub mod Walk
 pub mod Entries
 pub mod Tables

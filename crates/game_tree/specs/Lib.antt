@@ -5,5 +5,6 @@ pub mod Recall
 pub mod Small
 pub mod Theorem
 pub mod Sets
+pub mod Nodes
 pub mod Table
 pub mod TableTheorem

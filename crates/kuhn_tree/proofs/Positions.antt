@@ -1,81 +1,52 @@
 -- The nodes of Kuhn's tree stand for the reachable positions, and each of these has its node. Assumes nothing.
-use mathlib.Core.Path.{_≡_, refl, ap, ap₂, _∙_}
+use mathlib.Core.Path.{_≡_, refl, _∙_}
 use mathlib.Core.Logic.{_⊎_, inl, inr}
 use mathlib.Core.Bool.{Bool, true, not}
-use mathlib.Core.List.{List, [], _∷_, _++_, map}
-use Prim.Native.Nat.{ℕ, zero, suc, _+_, _≤_, _<_, zero-le, suc-le-suc}
-use native.Mathlib.Nat as NatL
+use mathlib.Core.List.{List, [], _∷_, _++_}
+use Prim.Native.Nat.{ℕ, zero, suc, _≤_, _<_}
 use native.Mathlib.Omega.{arith}
 use lib.Dec.{eqb, leb}
-use lib.ListN.{length, getD, length-append}
+use lib.ListN.{length}
 use borrow.Author.Tests.{ltb-true, eqb-true, leb-true, not-true}
 use Rattle.prelude.specs.Finite.{and}
 use Rattle.prelude.proofs.Tests.{true≢false, and-left, and-right}
 use Rattle.game_tree.specs.Tree.{Tree, end, chance, decide, Trees, nil, cons}
-use Rattle.game_tree.specs.Sets.{size, sizes}
+use Rattle.game_tree.specs.Sets.{size}
+use Rattle.game_tree.specs.Nodes.{nodes, nodesAll, nodeOf}
 use Rattle.game_tree.proofs.Counting.{In, in-left, in-right, in-append}
+use Rattle.game_tree.proofs.Nodes.{place-of, in-map, Along, along-append, along-length, along-at, length-nodes}
 use Rattle.kuhn_rules.specs.Rules.{PASS, BET, ended, turn, due, live, over, remaining, legal}
 use Rattle.kuhn_rules.specs.Reached.{Reached, start, deal, act}
 use Rattle.kuhn_tree.specs.Tree.{kuhnTree}
-use Rattle.kuhn_tree.specs.Follows.{Position, dealt, acted, positions, positionsAll, Follows, FollowsAll}
+use Rattle.kuhn_tree.specs.Follows.{Position, dealt, acted, positions, positionsAll, positionOf, Follows, FollowsAll}
 use Rattle.kuhn_tree.specs.Facts.{NodesReached}
 use Rattle.kuhn_tree.proofs.Cards.{in-of-left}
 use Rattle.kuhn_tree.proofs.Growth.{legal-acts, kuhn-follows}
 
--- ---- places of a list
-at-place : {A : Type 0} (xs : List A) (a : ℕ) (d : A) → a < length xs → In (getD xs a d) xs
-unfolding In
-at-place [] a d l = absurd (NatL.not-suc-le-zero l)
-at-place (x ∷ xs) zero d l = inl refl
-at-place (x ∷ xs) (suc a) d l = inr (at-place xs a d (NatL.le-of-suc-le-suc l))
-
-place-of : {A : Type 0} (xs : List A) (x d : A) → In x xs → (a : ℕ) × (a < length xs) × (getD xs a d ≡ x)
-unfolding In
-place-of [] x d w = absurd w
-place-of (y ∷ xs) x d (inl e) = (0, suc-le-suc zero-le, e)
-place-of (y ∷ xs) x d (inr w) = let (a, l, e) = place-of xs x d w in (suc a, suc-le-suc l, e)
-
-in-map : {A B : Type 0} (f : A → B) (x : A) (xs : List A) → In x xs → In (f x) (map f xs)
-unfolding In
-in-map f x [] w = absurd w
-in-map f x (y ∷ xs) (inl e) = inl (ap f e)
-in-map f x (y ∷ xs) (inr w) = inr (in-map f x xs w)
-
 module _ (ante bet n : ℕ) where
-  -- ---- a position for each node
+  -- ---- each node follows the rules from its position
+  abbrev pub Stands : Tree → Position → Type 0
+  Stands t q = Follows ante bet n t (q .0) (q .1)
+
+  reached-of : (t : Tree) (cs h : List ℕ) → Follows ante bet n t cs h → Reached n cs h
+  unfolding Follows
+  reached-of (end p) cs h g = g .0
+  reached-of (chance f) cs h g = g .0
+  reached-of (decide j k f) cs h g = g .0
+
   mutual
-    unfolding positions size Follows
+    unfolding positions nodes Follows Along
 
-    node-positions : (t : Tree) (cs h : List ℕ) → Follows ante bet n t cs h → length (positions n t cs h) ≡ size t
-    node-positions (end p) cs h g = refl
-    node-positions (chance f) cs h g = ap suc (node-positions-all f (dealt n cs h) (g .2))
-    node-positions (decide j k f) cs h g = ap suc (node-positions-all f (acted n cs h) (g .4))
+    pub nodes-follow : (t : Tree) (cs h : List ℕ) → Follows ante bet n t cs h → Along Stands (nodes t) (positions n t cs h)
+    nodes-follow (end p) cs h g = (g, tt)
+    nodes-follow (chance f) cs h g = (g, nodes-follow-all f (dealt n cs h) (g .2))
+    nodes-follow (decide j k f) cs h g = (g, nodes-follow-all f (acted n cs h) (g .4))
 
-    node-positions-all : (f : Trees) (qs : List Position) → FollowsAll ante bet n f qs → length (positionsAll n f qs) ≡ sizes f
-    node-positions-all nil qs g = refl
-    node-positions-all (cons t f) [] g = absurd g
-    node-positions-all (cons t f) (q ∷ qs) g = length-append (positions n t (q .0) (q .1)) (positionsAll n f qs) ∙ ap₂ _+_ (node-positions t (q .0) (q .1) (g .0)) (node-positions-all f qs (g .1))
-
-  -- ---- each is reachable
-  mutual
-    unfolding positions Follows In
-
-    each-reached : (t : Tree) (cs h : List ℕ) → Follows ante bet n t cs h → (q : Position) → In q (positions n t cs h) → Reached n (q .0) (q .1)
-    each-reached (end p) cs h g q (inl e) = rw (← e) (g .0)
-    each-reached (end p) cs h g q (inr w) = absurd w
-    each-reached (chance f) cs h g q (inl e) = rw (← e) (g .0)
-    each-reached (chance f) cs h g q (inr w) = each-reached-all f (dealt n cs h) (g .2) q w
-    each-reached (decide j k f) cs h g q (inl e) = rw (← e) (g .0)
-    each-reached (decide j k f) cs h g q (inr w) = each-reached-all f (acted n cs h) (g .4) q w
-
-    each-reached-all : (f : Trees) (qs : List Position) → FollowsAll ante bet n f qs → (q : Position) → In q (positionsAll n f qs) → Reached n (q .0) (q .1)
-    each-reached-all nil qs g q w = absurd w
-    each-reached-all (cons t f) [] g q w = absurd g
-    each-reached-all (cons t f) (p ∷ qs) g q w = at (in-append q (positions n t (p .0) (p .1)) (positionsAll n f qs) w) (λ v. each-reached t (p .0) (p .1) (g .0) q v) (λ v. each-reached-all f qs (g .1) q v)
-      where
-        at : In q (positions n t (p .0) (p .1)) ⊎ In q (positionsAll n f qs) → (In q (positions n t (p .0) (p .1)) → Reached n (q .0) (q .1)) → (In q (positionsAll n f qs) → Reached n (q .0) (q .1)) → Reached n (q .0) (q .1)
-        at (inl v) x y = x v
-        at (inr v) x y = y v
+    nodes-follow-all : (f : Trees) (qs : List Position) → FollowsAll ante bet n f qs → Along Stands (nodesAll f) (positionsAll n f qs)
+    nodes-follow-all nil qs g = tt
+    nodes-follow-all (cons t f) [] g = absurd g
+    nodes-follow-all (cons t f) (q ∷ qs) g =
+        along-append Stands (nodes t) (positions n t (q .0) (q .1)) (nodesAll f) (positionsAll n f qs) (nodes-follow t (q .0) (q .1) (g .0)) (nodes-follow-all f qs (g .1))
 
   -- ---- each reachable position is there
   -- z comes right after q
@@ -146,20 +117,29 @@ module _ (ante bet n : ℕ) where
     reached-in (act {cs} {h} a r l e) = next-in t [] [] g (cs, h) (cs, h ++ (a ∷ [])) (reached-in r)
         (inr (l, in-map (λ a. (cs, h ++ (a ∷ []))) a (legal n cs h (turn n h)) (legal-in cs h a l e)))
 
+module _ (ante bet n : ℕ) (one : 1 ≤ n) where
+  abbrev t : Tree
+  t = kuhnTree ante bet n
+
+  abbrev ps : List Position
+  ps = positions n t [] []
+
+  follows : Follows ante bet n t [] []
+  follows = kuhn-follows n one ante bet
+
+  along : Along (Stands ante bet n) (nodes t) ps
+  along = nodes-follow ante bet n t [] [] follows
+
+  as-many : length ps ≡ size t
+  as-many = along-length (Stands ante bet n) (nodes t) ps along ∙ length-nodes t
+
+  -- the tree at a node follows the rules from its position
+  pub node-follows : (a : ℕ) → a < size t → Follows ante bet n (nodeOf t a) (positionOf t n a .0) (positionOf t n a .1)
+  node-follows a l = along-at (Stands ante bet n) (nodes t) ps along a _ ([], []) (rw (length-nodes t) l)
+
 pub nodes-reached : NodesReached
-nodes-reached ante bet n l = (as-many, each-one, λ cs h r. let (a, w, e) = place-of ps (cs, h) ([], []) (reached-in ante bet n t g r) in (a, rw as-many at w, e))
-  where
-    t : Tree
-    t = kuhnTree ante bet n
-
-    ps : List Position
-    ps = positions n t [] []
-
-    g : Follows ante bet n t [] []
-    g = kuhn-follows n l ante bet
-
-    as-many : length ps ≡ size t
-    as-many = node-positions ante bet n t [] [] g
-
-    each-one : (a : ℕ) → a < size t → Reached n (getD ps a ([], []) .0) (getD ps a ([], []) .1)
-    each-one a w = each-reached ante bet n t [] [] g (getD ps a ([], [])) (at-place ps a ([], []) (rw as-many w))
+nodes-reached ante bet n l = (
+  as-many ante bet n l,
+  (λ a w. reached-of ante bet n (nodeOf (t ante bet n l) a) _ _ (node-follows ante bet n l a w)),
+  (λ cs h r. let (a, w, e) = place-of (ps ante bet n l) (cs, h) ([], []) (reached-in ante bet n (t ante bet n l) (follows ante bet n l) r) in (a, rw (as-many ante bet n l) at w, e)),
+)

@@ -5,8 +5,7 @@ use Prim.Native.Nat.{ℕ}
 use Rattle.prelude.specs.Finite.{those}
 use Rattle.leduc_betting.specs.Cards.{seen, left}
 use Rattle.leduc_betting.specs.Betting.{in-play, may}
-use Rattle.leduc_tree.specs.Tree.{Position, dealt, acted, due, ended, next}
-use Rattle.leduc_tree.specs.Follows.{acts}
+use Rattle.leduc_tree.specs.Tree.{Position, dealt, acted, due, acts, ended, next}
 use Rattle.leduc_tree.specs.Turns.{turns, isFirst, decisionAt}
 use Rattle.listing_records.specs.Listing.{bytesOf}
 use Rattle.listing_records.specs.Written.{joined}

@@ -19,8 +19,7 @@ use Rattle.leduc_betting.specs.Betting.{closes, in-play, options, turn}
 use Rattle.leduc_betting.specs.Cards.{seen, left, remaining}
 use Rattle.leduc_rules.specs.Rules.{live, shown-public}
 use Rattle.leduc_rules.specs.Rules as Rules
-use Rattle.leduc_tree.specs.Tree.{Position, dealt, acted, actor, key}
-use Rattle.leduc_tree.specs.Follows.{acts}
+use Rattle.leduc_tree.specs.Tree.{Position, dealt, acted, acts, actor, key}
 use Rattle.leduc_listing_positions.specs.declared.Spot.{Spot}
 use Rattle.leduc_listing_positions.specs.Spots.{placed}
 use Rattle.listing_records.specs.Listing.{padded}

@@ -1,24 +1,25 @@
 -- The facts of specs/Facts.antt, proved. Assumes nothing.
 use mathlib.Core.Path.{_≡_, refl, sym, ap, ap₂, _∙_}
-use mathlib.Core.Bool.{Bool, true, false, not, cond}
+use mathlib.Core.Bool.{Bool, true, false, not, cond, _&&_}
 use mathlib.Core.List.{List, [], _∷_, _++_}
 use Prim.Native.Nat.{ℕ, zero, suc, _+_, _-_, _≤_, _<_}
 use native.Mathlib.Omega.{arith}
-use lib.Dec.{leb, ltb}
+use lib.Dec.{eqb, leb, ltb}
 use lib.IntN.{pos, _+ℤ_, +ℤ-invr, +ℤ-invl}
 use lib.ListN.{length, getD, take, drop}
 use lib.Seq.{take-append-seam, drop-append-seam}
-use borrow.Author.Tests.{ltb-true, leb-true, leb-false, not-true}
+use borrow.Author.Tests.{eq-eqb, lt-ltb, ltb-true, leb-true, leb-false, not-true}
 use Rattle.prelude.specs.Finite.{and, or, some, has}
-use Rattle.prelude.proofs.Tests.{Tested, holds, fails, tested, both, and-left, and-right, and-left-fails, and-rest, or-left, or-right, or-cases, or-false-right, true≢false}
+use Rattle.prelude.proofs.Tests.{Tested, holds, fails, tested, both, and-left, and-right, and-left-fails, and-right-fails, and-rest, or-left, or-right, or-cases, or-false-right, true≢false}
 use Rattle.prelude.proofs.Lists.{those-ascending, has-those}
 use Rattle.leduc_betting.specs.Cards.{rank, left, remaining, strange}
-use Rattle.leduc_betting.specs.Betting.{folded, closes}
+use Rattle.leduc_betting.specs.Betting.{folded, closes, may, options, in-play, turn}
 use Rattle.leduc_rules.specs.Rules.{folds, pairs, beats, wins, public-due, due, live, legal, key, contribution, payoff}
 use Rattle.leduc_betting.specs.Checks.{action-checks, barred-by}
-use Rattle.leduc_rules.specs.Facts.{Zero-sum, Ascending, All-left, Longest-round, Same-shape, Key-tells, Key-recalls, Public-told, Second-too-early}
+use Rattle.leduc_rules.specs.Facts.{Legal-moves, Zero-sum, Ascending, All-left, Longest-round, Same-shape, Key-tells, Key-recalls, Public-told, Second-too-early}
 use Rattle.leduc_betting.specs.declared.Public.{Public}
 use Rattle.leduc_betting.specs.declared.Public.the-variants.{Hidden, Card}
+use Rattle.leduc_betting.proofs.Histories.{may-small}
 use Rattle.leduc_betting.proofs.Rounds.{all-of, rounds, round-rule, closed-unfolded}
 use Rattle.leduc_rules.proofs.Gains.{gained}
 use Rattle.leduc_rules.proofs.Reaching.{Possible}
@@ -148,6 +149,27 @@ unfolding at-most-four
 longest-round cs p h₁ h₂ r =
     let w = reached-parts r in
     (leb-true (length h₁) 4 (round-rule at-most-four all-short h₁ (w .first-played)), leb-true (length h₂) 4 (round-rule at-most-four all-short h₂ (w .second-played)))
+
+-- the legal actions are those that may be made
+options-may : (h : List ℕ) (a : ℕ) → has a (options h) ≡ may h a
+unfolding options
+options-may h a = has-those (may h) a 3 ∙ go (tested (may h a))
+  where
+    go : Tested (may h a) → and (ltb a 3) (may h a) ≡ may h a
+    go (holds t) = and-rest (may h a) (lt-ltb a 3 (let l = may-small h a t in omega arith))
+    go (fails t) = and-right-fails (ltb a 3) t ∙ sym t
+
+pub legal-moves : Legal-moves
+unfolding legal in-play has and
+legal-moves cs p h₁ h₂ a = at (live cs p h₁ h₂)
+  where
+    round : (b : Bool) → may (cond b h₂ h₁) a ≡ cond b (may h₂ a) (may h₁ a)
+    round true = refl
+    round false = refl
+
+    at : (b : Bool) → has a (cond (and b (eqb (turn h₁ h₂) (turn h₁ h₂))) (options (in-play h₁ h₂)) []) ≡ (b && cond (closes h₁) (may h₂ a) (may h₁ a))
+    at true = ap (λ t. has a (cond t (options (in-play h₁ h₂)) [])) (eq-eqb (turn h₁ h₂) (turn h₁ h₂) refl) ∙ options-may (in-play h₁ h₂) a ∙ round (closes h₁)
+    at false = refl
 
 pub same-shape : Same-shape
 unfolding legal live due public-due

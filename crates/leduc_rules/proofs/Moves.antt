@@ -92,7 +92,7 @@ start-possible =
 
 -- while a seat has no card nobody has acted, and the public card is hidden
 module _ {cs : List ℕ} {p : Public} {h₁ h₂ : List ℕ} (w : Possible cs p h₁ h₂) where
-  none-acted : length cs < 2 → h₁ ≡ []
+  pub none-acted : length cs < 2 → h₁ ≡ []
   none-acted l =
       or-cases (eqb (length cs) 2) (eqb (length h₁) 0) (w .dealt-first)
       (λ q. let r = eqb-true (length cs) 2 q in absurd (omega arith))

@@ -1,7 +1,7 @@
 -- What holds of Leduc's rules, proved in proofs/Facts.antt.
 -- cs are the seats' cards, p the public card, h₁ and h₂ the histories of the rounds.
 use mathlib.Core.Path.{_≡_}
-use mathlib.Core.Bool.{Bool, true, false}
+use mathlib.Core.Bool.{Bool, true, false, cond, _&&_}
 use mathlib.Core.List.{List, [], _∷_}
 use Prim.Native.Nat.{ℕ, _-_, _≤_, _<_}
 use lib.Dec.{ltb}
@@ -10,13 +10,18 @@ use lib.ListN.{length, getD, take}
 use Rattle.refusals.specs.Refusals.{first}
 use Rattle.refusals.specs.Refusals as Refusals
 use Rattle.prelude.specs.Finite.{has}
-use Rattle.leduc_betting.specs.Betting.{closes, behind, in-play, turn, ended}
+use Rattle.leduc_betting.specs.Betting.{closes, behind, may, in-play, turn, ended}
 use Rattle.leduc_betting.specs.Cards.{hidden, left, remaining}
 use Rattle.leduc_rules.specs.Rules.{due, live, legal, shown-public, key, contribution, payoff}
 use Rattle.leduc_rules.specs.Reached.{Reached}
 use Rattle.leduc_betting.specs.Checks.{action-checks, barred-by}
 use Rattle.leduc_betting.specs.declared.Public.{Public}
 use Rattle.leduc_betting.specs.declared.Public.the-variants.{Hidden}
+
+-- the legal list of the seat whose turn it is has the actions that moves make there, in round 1 or, once that has closed, in round 2
+abbrev pub Legal-moves : Type 0
+Legal-moves = (cs : List ℕ) (p : Public) (h₁ h₂ : List ℕ) (a : ℕ)
+    → has a (legal cs p h₁ h₂ (turn h₁ h₂)) ≡ (live cs p h₁ h₂ && cond (closes h₁) (may h₂ a) (may h₁ a))
 
 -- payoffs add up to 0 at every end, at all stakes
 abbrev pub Zero-sum : Type 0

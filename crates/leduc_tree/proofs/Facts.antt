@@ -4,12 +4,19 @@ use mathlib.Core.List.{List, [], _∷_, map}
 use lib.ListN.{length}
 use Rattle.leduc_tree.specs.Tree.{Position, choices}
 use Rattle.leduc_tree.specs.Turns.{firstTurns, decisionAt, actionsInOrder}
-use Rattle.leduc_tree.specs.Facts.{FollowsRules, FuelEnough, FirstOfSet, ActionsInOrder}
+use Rattle.leduc_tree.specs.Facts.{FollowsRules, NodesReached, PayoffsBalance, FuelEnough, FirstOfSet, ActionsInOrder}
 use Rattle.leduc_tree.proofs.Growth.{leduc-follows, leduc-fuel}
+use Rattle.leduc_tree.proofs.Positions as Positions
 use Rattle.leduc_tree.proofs.Computed as Computed
 
 pub follows-rules : FollowsRules
 follows-rules ante raise₁ raise₂ = leduc-follows ante raise₁ raise₂
+
+pub nodes-reached : NodesReached
+nodes-reached = Positions.nodes-reached
+
+pub payoffs-balance : PayoffsBalance
+payoffs-balance = Positions.payoffs-balance
 
 pub fuel-enough : FuelEnough
 fuel-enough ante raise₁ raise₂ x = leduc-fuel ante raise₁ raise₂ x

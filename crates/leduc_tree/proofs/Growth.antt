@@ -20,8 +20,11 @@ use Rattle.leduc_rules.specs.Rules.{public-due, live, legal}
 use Rattle.leduc_betting.specs.Betting as Betting
 use Rattle.leduc_rules.specs.Rules as Rules
 use Rattle.leduc_rules.specs.Reached as Reached
-use Rattle.leduc_tree.specs.Tree.{Position, start, dealt, acted, due, ended, actor, choices, key, payoff, afterDeal, afterAction, Next, card, action, nothing, next, each, below, fuel, leducTree}
-use Rattle.leduc_tree.specs.Follows.{Reachable, acts, Follows, FollowsAll}
+use Rattle.leduc_tree.specs.Tree.{Position, start, dealt, acted, due, acts, ended, actor, choices, key, payoff, afterDeal, afterAction, Next, card, action, nothing}
+use Rattle.leduc_tree.specs.Tree.{next, each, below, fuel, leducTree}
+use Rattle.leduc_tree.specs.Follows.{Follows, FollowsAll}
+use Rattle.leduc_tree.specs.Follows as Rule
+use Rattle.leduc_tree.specs.Facts.{Reachable}
 
 -- ---- what comes next
 pub data Case (q : Position) : Next → Type 0 where
@@ -89,14 +92,17 @@ module _ (ante raise₁ raise₂ : ℕ) where
   pay = payoff ante raise₁ raise₂
 
   -- ---- the rules are followed
+  abbrev pub Stands : Tree → Position → Type 0
+  Stands t q = Follows ante raise₁ raise₂ t (q .cards) (q .public) (q .first) (q .second)
+
   follows-each : (l : List ℕ) (move : ℕ → Position) (g : Position → Tree) (p : Position → Bool) → all-of (map move l) p ≡ true
-      → ((c : ℕ) → In c l → p (move c) ≡ true → Follows ante raise₁ raise₂ (g (move c)) (move c)) → FollowsAll ante raise₁ raise₂ (each (map move l) g) (map move l)
+      → ((c : ℕ) → In c l → p (move c) ≡ true → Stands (g (move c)) (move c)) → FollowsAll ante raise₁ raise₂ (each (map move l) g) (map move l)
   unfolding each all-of Follows In
   follows-each [] move g p e h = tt
   follows-each (c ∷ l) move g p e h = (h c (inl refl) (and-left (p (move c)) (all-of (map move l) p) e), follows-each l move g p (and-right (p (move c)) (all-of (map move l) p) e) (λ x w v. h x (inr w) v))
 
-  pub below-follows : (r : ℕ) (x : Next) (q : Position) → Case q x → Reachable q → lasts r x q ≡ true → Follows ante raise₁ raise₂ (below pay r x q) q
-  unfolding below Follows lasts
+  pub below-follows : (r : ℕ) (x : Next) (q : Position) → Case q x → Reachable q → lasts r x q ≡ true → Stands (below pay r x q) q
+  unfolding below Follows lasts Rule.dealt Rule.acted
   below-follows zero card q (is-card e) p l = true≢false false l refl
   below-follows zero action q (is-action e) p l = true≢false false l refl
   below-follows zero nothing q (is-over e) p l = (p, e, refl)
@@ -116,7 +122,7 @@ module _ (ante raise₁ raise₂ : ℕ) where
         (λ a w v. below-follows r (next (acted q a)) (acted q a) (case (acted q a)) (reach-action q a p e w) v)),
   )
 
-  pub leduc-follows : Follows ante raise₁ raise₂ (leducTree ante raise₁ raise₂) start
+  pub leduc-follows : Stands (leducTree ante raise₁ raise₂) start
   unfolding leducTree
   leduc-follows = below-follows fuel (next start) start (case start) Reached.start fuel-lasts
 

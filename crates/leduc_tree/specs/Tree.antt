@@ -1,6 +1,5 @@
--- Leduc's tree: a child for each card left, ascending, or for each legal action in legal order;
--- ends carry the payoffs (document 01, "The tree and its sets").
--- Definitions only; nothing is assumed.
+-- Leduc's tree: a child for each card left, ascending, or for each legal action in legal order; ends carry the payoffs
+-- (document 01, "The tree and its sets"). Definitions only; nothing is assumed.
 use mathlib.Core.Bool.{Bool, cond}
 use mathlib.Core.List.{List, [], _∷_, _++_, map}
 use Prim.Native.Nat.{ℕ, zero, suc, _+_, _*_}
@@ -38,9 +37,12 @@ acted q a = cond (closes (q .first))
     (record { cards = q .cards; public = q .public; first = q .first; second = q .second ++ (a ∷ []) })
     (record { cards = q .cards; public = q .public; first = q .first ++ (a ∷ []); second = q .second })
 
--- the rules, of a position: a card is due; the hand has ended; whose turn it is; what that seat may do; its key; the payoffs
+-- the rules, of a position: a card is due; a seat acts; the hand has ended; whose turn it is; what that seat may do; its key; the payoffs
 abbrev pub due : Position → Bool
 due q = Rules.due (q .cards) (q .public) (q .first) (q .second)
+
+abbrev pub acts : Position → Bool
+acts q = Rules.live (q .cards) (q .public) (q .first) (q .second)
 
 abbrev pub ended : Position → Bool
 ended q = Betting.ended (q .first) (q .second)

@@ -4,17 +4,15 @@ use mathlib.Core.Logic.{inl, inr}
 use mathlib.Core.Bool.{Bool, true}
 use mathlib.Core.List.{List, [], _∷_, map}
 use Prim.Native.Nat.{ℕ, _+_}
-use lib.Dec.{ltb}
-use borrow.Author.Tests.{ltb-true}
 use Rattle.prelude.specs.Finite.{or}
 use Rattle.prelude.proofs.Tests.{and-left, and-right}
 use Rattle.game_tree.specs.Tree.{Tree, chance, cons}
 use Rattle.game_tree.specs.Sets.{size}
 use Rattle.game_tree.proofs.Counting.{In}
-use Rattle.game_tree.proofs.Numbers.{those-in}
 use Rattle.leduc_betting.specs.Cards.{left, remaining}
 use Rattle.leduc_rules.specs.Rules.{due}
 use Rattle.leduc_tree.specs.Tree.{Position, start, dealt, payoff, afterDeal, next, each, below, m, leducTree}
+use Rattle.leduc_tree.proofs.Positions.{left-in}
 use Rattle.leduc_tree_facts.specs.Shape.{bare, withCards, hand}
 use Rattle.leduc_tree_facts.proofs.Shape.{fits, fits-sound, every-tree, children, hands-fit}
 use Rattle.leduc_tree_facts.proofs.Computed.{hands-alike}
@@ -25,10 +23,6 @@ unfolding every-tree each In
 each-holds p [] move g e c w = absurd w
 each-holds p (x ∷ l) move g e c (inl q) = ap (λ y. p (g (move y))) (sym q) ∙ and-left _ _ e
 each-holds p (x ∷ l) move g e c (inr w) = each-holds p l move g (and-right _ _ e) c w
-
-left-in : (cs : List ℕ) (c : ℕ) → left cs c ≡ true → In c (remaining cs)
-unfolding remaining left
-left-in cs c e = those-in (left cs) 6 c (ltb-true c 6 (and-left (ltb c 6) _ e)) e
 
 module _ (ante raise₁ raise₂ : ℕ) where
   -- ---- the deal, then a hand

@@ -15,14 +15,15 @@ use Rattle.game_tree.proofs.Integers.{size-of-loss}
 use Rattle.leduc_betting.specs.Betting.{CALL, RAISE, raises, may}
 use Rattle.leduc_rules.specs.Rules.{matched, bet, after-round, contribution, wins}
 use Rattle.leduc_rules.specs.Rules as Rules
-use Rattle.leduc_rules.specs.Reached.{Reached, start, deal, reveal, act₁, act₂}
+use Rattle.leduc_rules.specs.Reached.{Reached, deal, reveal, act₁, act₂}
 use Rattle.leduc_betting.specs.declared.Public.{Public}
 use Rattle.leduc_rules.specs.declared.Pot.{Pot}
 use Rattle.leduc_betting.proofs.Histories.{may-raise}
 use Rattle.leduc_rules.proofs.Pots.{pot-of, Within, seated-bound}
-use Rattle.leduc_tree.specs.Tree.{Position, payoff, leducTree, largestPayoff}
-use Rattle.leduc_tree.specs.Follows.{Reachable, Follows, FollowsAll}
-use Rattle.leduc_tree.proofs.Growth.{leduc-follows}
+use Rattle.leduc_tree.specs.Tree.{Position, start, payoff, leducTree, largestPayoff}
+use Rattle.leduc_tree.specs.Follows.{Follows, FollowsAll}
+use Rattle.leduc_tree.specs.Facts.{Reachable}
+use Rattle.leduc_tree.proofs.Growth.{Stands, leduc-follows}
 
 -- ---- a round has at most two raises
 raises-more : (h : List ℕ) (a : ℕ) → raises (h ++ (a ∷ [])) ≡ raises h + cond (eqb a RAISE) 1 0
@@ -39,7 +40,7 @@ raises-kept h a l e = rw (raises-more h a) (at (tested (eqb a RAISE)))
 
 two-raises : {cs h₁ h₂ : List ℕ} {p : Public} → Reached cs p h₁ h₂ → (raises h₁ ≤ 2) × (raises h₂ ≤ 2)
 unfolding raises
-two-raises start = (omega arith, omega arith)
+two-raises Reached.start = (omega arith, omega arith)
 two-raises (deal c r e l) = two-raises r
 two-raises (reveal c r e l) = two-raises r
 two-raises (act₁ {h₁ = h₁} a r e c l) = let (x, y) = two-raises r in (raises-kept h₁ a x l, y)
@@ -126,7 +127,7 @@ module _ (ante raise₁ raise₂ : ℕ) where
     mutual
       unfolding Follows Pays
 
-      follows-pays : (t : Tree) (q : Position) → Follows ante raise₁ raise₂ t q → Pays B i t
+      follows-pays : (t : Tree) (q : Position) → Stands ante raise₁ raise₂ t q → Pays B i t
       follows-pays (end p) q (r, e, v) = rw v (payoff-size q i r)
       follows-pays (chance f) q (r, e, v) = follows-pays-all f _ v
       follows-pays (decide j k f) q (r, e, a, b, v) = follows-pays-all f _ v
@@ -137,4 +138,4 @@ module _ (ante raise₁ raise₂ : ℕ) where
       follows-pays-all (cons t f) (q ∷ qs) (v, w) = (follows-pays t q v, follows-pays-all f qs w)
 
     pub leduc-pays : Pays (largestPayoff ante raise₁ raise₂) i (leducTree ante raise₁ raise₂)
-    leduc-pays = follows-pays _ _ (leduc-follows ante raise₁ raise₂)
+    leduc-pays = follows-pays _ start (leduc-follows ante raise₁ raise₂)

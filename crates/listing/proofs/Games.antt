@@ -15,6 +15,7 @@ use Rattle.game_tree.specs.Sets.{size, setCount}
 use Rattle.kuhn_tree.specs.Tree.{kuhnTree}
 use Rattle.kuhn_tree.specs.Follows as Kuhn-tree
 use Rattle.leduc_tree.specs.Tree.{leducTree}
+use Rattle.leduc_tree.specs.Follows as Leduc-tree
 use Rattle.games.specs.declared.Game.{Game}
 use Rattle.games.specs.Games.{treeOf}
 use Rattle.games.specs.Seats.{seats-out}
@@ -35,11 +36,11 @@ use Rattle.listing.specs.Calls.{cardsAt, listingOf, listing-checks, list
 module _ (g : Game) where
   pub kuhn-listed : g .number ≡ 0 → listingOf g ≡ kuhnListing (g .seats)
   unfolding listingOf cardsAt treeOf kuhnListing
-  kuhn-listed e = ap (λ b. listing (cond b (kuhnTree 1 1 (g .seats)) (leducTree 1 2 4)) (λ a. cond b (Kuhn.cardsOf (Kuhn-tree.positionOf (cond b (kuhnTree 1 1 (g .seats)) (leducTree 1 2 4)) (g .seats) a)) (Leduc.cardsOf (Leduc.positionOf (cond b (kuhnTree 1 1 (g .seats)) (leducTree 1 2 4)) a)))) (eq-eqb (g .number) 0 e)
+  kuhn-listed e = ap (λ b. listing (cond b (kuhnTree 1 1 (g .seats)) (leducTree 1 2 4)) (λ a. cond b (Kuhn.cardsOf (Kuhn-tree.positionOf (cond b (kuhnTree 1 1 (g .seats)) (leducTree 1 2 4)) (g .seats) a)) (Leduc.cardsOf (Leduc-tree.positionOf (cond b (kuhnTree 1 1 (g .seats)) (leducTree 1 2 4)) a)))) (eq-eqb (g .number) 0 e)
 
   pub leduc-listed : (g .number ≡ 0 → ⊥) → listingOf g ≡ leducListing
   unfolding listingOf cardsAt treeOf leducListing
-  leduc-listed e = ap (λ b. listing (cond b (kuhnTree 1 1 (g .seats)) (leducTree 1 2 4)) (λ a. cond b (Kuhn.cardsOf (Kuhn-tree.positionOf (cond b (kuhnTree 1 1 (g .seats)) (leducTree 1 2 4)) (g .seats) a)) (Leduc.cardsOf (Leduc.positionOf (cond b (kuhnTree 1 1 (g .seats)) (leducTree 1 2 4)) a)))) (ne-eqb (g .number) 0 e)
+  leduc-listed e = ap (λ b. listing (cond b (kuhnTree 1 1 (g .seats)) (leducTree 1 2 4)) (λ a. cond b (Kuhn.cardsOf (Kuhn-tree.positionOf (cond b (kuhnTree 1 1 (g .seats)) (leducTree 1 2 4)) (g .seats) a)) (Leduc.cardsOf (Leduc-tree.positionOf (cond b (kuhnTree 1 1 (g .seats)) (leducTree 1 2 4)) a)))) (ne-eqb (g .number) 0 e)
 
   pub listing-length : length (listingOf g) ≡ 24 * setCount (treeOf g)
   unfolding listingOf

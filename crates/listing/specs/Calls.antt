@@ -7,6 +7,7 @@ use lib.ListN.{length, drop}
 use Rattle.refusals.specs.Refusals.{Check, _refuses_, first, output}
 use Rattle.game_tree.specs.Sets.{size, setCount}
 use Rattle.kuhn_tree.specs.Follows as Kuhn-tree
+use Rattle.leduc_tree.specs.Follows as Leduc-tree
 use Rattle.games.specs.declared.Game.{Game}
 use Rattle.games.specs.Games.{isKuhn, treeOf}
 pub use Rattle.games.specs.Games.{gameOf}
@@ -18,7 +19,7 @@ use Rattle.listing.specs.declared.ListingAnswer.{ListingAnswer}
 
 -- the cards of a node of the game's tree, by its number: those of its position
 unfoldable pub cardsAt : Game → ℕ → Cards
-cardsAt g a = cond (isKuhn g) (Kuhn.cardsOf (Kuhn-tree.positionOf (treeOf g) (g .seats) a)) (Leduc.cardsOf (Leduc.positionOf (treeOf g) a))
+cardsAt g a = cond (isKuhn g) (Kuhn.cardsOf (Kuhn-tree.positionOf (treeOf g) (g .seats) a)) (Leduc.cardsOf (Leduc-tree.positionOf (treeOf g) a))
 
 -- the listing of the game's tree
 unfoldable pub listingOf : Game → List ℕ
