@@ -35,18 +35,21 @@ pub fn best_value(g: Game, words: &mut [u64], seat: usize, d: usize, table: &[u8
 }
 
 // The seat's reply to the table, from its choices.
-pub fn best_table(
-    g: Game,
-    words: &mut [u64],
-    seat: usize,
-    d: usize,
-    table: &[u8],
-    out: &mut [u8],
-)
+pub fn best_table(g: Game, words: &mut [u64], seat: usize, d: usize, table: &[u8], out: &mut [u8])
     requires { ⌜ Staged g d seat (now table) (now words) × AcceptedTable g d (now table) × (seat < g .seats) ⌝ }
     ensures { λ _. ⌜ (now (out .exit) ≡ sets (now (out .entry)) 0 (replyTable (treeOf g) d (rootUnits g d) (now (table .entry)) seat))
         × BestReply g d seat (now (table .entry)) (tableBest (treeOf g) d (rootUnits g d) (now (table .entry)) seat) (replyTable (treeOf g) d (rootUnits g d) (now (table .entry)) seat) ⌝ }
 {
     let at = places_of(g);
-    write_reply(words, table, out, g.sets(), seat, d, at.heads, at.reach, at.kept);
+    write_reply(
+        words,
+        table,
+        out,
+        g.sets(),
+        seat,
+        d,
+        at.heads,
+        at.reach,
+        at.kept,
+    );
 }

@@ -2,15 +2,14 @@
 use mathlib.Core.Path.{sym, ap, _∙_, subst}
 use denote.Ref.{now}
 use native.Mathlib.Omega.{arith}
-use Rattle.profile_refusals.specs.Asked.{SeatOf}
 use Rattle.best_response.specs.Calls.{single}
-use Rattle.best_response.specs.Asked.{valuesOf}
+use Rattle.best_response.specs.Asked.{SeatOf, valuesOf}
 use borrow.Author.Needs.{needs}
 use Rattle.best_response.proofs.evaluate.Statement.{statement}
 use Rattle.best_response.proofs.evaluate.Tie as tie
 
 store-requires : tie.Need-store-requires
-store-requires c κs = let s0 = c .before .before .before in record { known = s0 .pre .0 .game .known; seats = s0 .pre .0 .game .seats; small = s0 .pre .0 .game .small; words = s0 .pre .1 }
+store-requires c κs = let s0 = c .before .before .before in (s0 .pre .0 .game, s0 .pre .1)
 
 enum-known-asked : tie.Need-enum-known-asked
 enum-known-asked c = search needs

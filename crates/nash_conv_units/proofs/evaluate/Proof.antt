@@ -21,7 +21,7 @@ abbrev μ-loop : tie.MeasureT-loop
 μ-loop g words₀ d table worths seats sum₀ seat₀ words sum seat = g .seats - seat
 
 store-requires : tie.Need-store-requires Inv-loop μ-loop
-store-requires c κs = let s0 = c .before .before .before in record { known = s0 .pre .0 .game .known; seats = s0 .pre .0 .game .seats; small = s0 .pre .0 .game .small; words = s0 .pre .1 }
+store-requires c κs = let s0 = c .before .before .before in (s0 .pre .0 .game, s0 .pre .1)
 
 table-worths-requires : tie.Need-table-worths-requires Inv-loop μ-loop
 table-worths-requires c κs = let s0 = c .before .before .before .before .before .before .before in let s1 = c .before .before .before in (s1 .store .ensures, s0 .pre .0, omega (arith, s0 .pre .1, s1 .store .kept .1 .0))
