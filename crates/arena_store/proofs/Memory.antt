@@ -20,12 +20,21 @@ memory-kept zero g work f = absurd (f refl)
 memory-kept (suc r) g work f = refl
 
 -- an accepted one writes to its front, which has 12 words for each of n nodes
-pub rest-kept : (r n : ℕ) (g : Game) (work part : List ℕ) → r ≡ 0 → seats-out g ≡ false → n ≡ nodesOf g → 12 * n ≤ length work → length part ≡ length (take (12 * n) work)
-    → MemoryAfter r g work (part ++ drop (12 * n) work)
-rest-kept zero n g work part z o q l k =
-    let s : 12 * n ≡ 12 * size (treeOf g) = ap (λ x. 12 * x) (q ∙ sym (nodes-are g o)) in
-    let p : length part ≡ 12 * n = k ∙ length-take-le (12 * n) work l in (
-      omega (arith, length-append part (drop (12 * n) work), length-drop (12 * n) work),
-      ap (λ x. drop x (part ++ drop (12 * n) work)) (sym s) ∙ drop-at part (drop (12 * n) work) (12 * n) p ∙ ap (λ x. drop x work) s,
-    )
-rest-kept (suc r) n g work part z o q l k = absurd (omega arith)
+module _ (g : Game) (work : List ℕ) (n : ℕ) (q : n ≡ nodesOf g) (l : 12 * nodesOf g ≤ length work) where
+  pub front-fits : 12 * n ≤ length work
+  front-fits = omega arith
+
+  pub front-length : 12 * n ≡ length (take (12 * n) work)
+  front-length = sym (length-take-le (12 * n) work front-fits)
+
+  pub front-long : 12 * nodesOf g ≤ length (take (12 * n) work)
+  front-long = omega (arith, front-length)
+
+  pub rest-kept : (r : ℕ) → r ≡ 0 → seats-out g ≡ false → (part : List ℕ) → length part ≡ length (take (12 * n) work) → MemoryAfter r g work (part ++ drop (12 * n) work)
+  rest-kept zero z o part k =
+      let s : 12 * n ≡ 12 * size (treeOf g) = ap (λ x. 12 * x) (q ∙ sym (nodes-are g o)) in
+      let p : length part ≡ 12 * n = k ∙ sym front-length in (
+        omega (arith, front-fits, length-append part (drop (12 * n) work), length-drop (12 * n) work),
+        ap (λ x. drop x (part ++ drop (12 * n) work)) (sym s) ∙ drop-at part (drop (12 * n) work) (12 * n) p ∙ ap (λ x. drop x work) s,
+      )
+  rest-kept (suc r) z o part k = absurd (omega arith)

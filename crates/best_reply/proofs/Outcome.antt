@@ -1,73 +1,18 @@
--- What the call for a seat's best value and reply knows and answers, refused or accepted. Assumes nothing.
+-- What the call for a seat's best value and reply answers, refused or accepted. Assumes nothing.
 use mathlib.Core.Path.{_≡_, refl, sym, ap, ap₂, _∙_, subst}
-use mathlib.Core.Bool.{Bool, true, false}
-use mathlib.Core.List.{List, [], _∷_, _++_}
-use Prim.Native.Nat.{ℕ, zero, suc, _+_, _*_, _≤_, _<_}
+use mathlib.Core.List.{List, _++_}
+use Prim.Native.Nat.{ℕ, zero, suc, _+_, _≤_}
 use native.Mathlib.Omega.{arith}
-use lib.Dec.{eqb, leb, ltb}
 use lib.IntN.{ℤ, pos}
 use lib.ListN.{length, take, drop}
-use lib.Seq.{sets, sets-eq, length-take-le, take-at}
-use borrow.Author.Tests.{eqb-true, eqb-false, leb-false, ltb-false}
-use Rattle.refusals.specs.Refusals.{Check, _refuses_, first}
-use Rattle.prelude.proofs.Tests.{Tested, holds, fails, tested}
+use lib.Seq.{sets, sets-eq, take-at}
 use Rattle.game_tree.specs.Sets.{entries}
 use Rattle.game_tree.specs.Table.{Table, tableBest, replyTable}
 use Rattle.games.specs.declared.Game.{Game}
 use Rattle.games.specs.Games.{treeOf}
-use Rattle.table_refusals.specs.Checks.{tree-checks, seat-checks, parts-checks, table-checks, output-checks}
-use Rattle.games.specs.Facts.{nodesOf, rootUnits}
-use Rattle.table_refusals.proofs.Order.{first-refused, tree-passed, table-passed}
-use Rattle.units_worths.specs.Facts.{Known}
-use Rattle.units_worths.specs.Accepted.{Accepted}
-use Rattle.units_worths.proofs.Passed.{game-known, enough-nodes, table-accepted}
+use Rattle.games.specs.Facts.{rootUnits}
 use Rattle.units_best.specs.Best.{BestReply}
-use Rattle.best_reply.specs.Calls.{reply-refusal, answer, written, Demand}
-
--- checks that are followed by others refuse nothing, if all together refuse nothing
-passed : (xs ys : List Check) → first (xs ++ ys) ≡ 0 → first xs ≡ 0
-passed xs ys e = at (tested (eqb (first xs) 0))
-  where
-    at : Tested (eqb (first xs) 0) → first xs ≡ 0
-    at (holds t) = eqb-true (first xs) 0 t
-    at (fails t) = first-refused xs ys (eqb-false (first xs) 0 t) ∙ e
-
--- ---- an accepted call
-module _ (g : Game) (words seat D : ℕ) (table : Table) (room : ℕ) (e : reply-refusal g words seat D table room ≡ 0) where
-  tree-accepted : first (tree-checks g words) ≡ 0
-  tree-accepted = passed (tree-checks g words) (seat-checks g seat ++ ((parts-checks g D ++ table-checks g D table) ++ output-checks g room)) e
-
-  behind-tree : first (seat-checks g seat ++ ((parts-checks g D ++ table-checks g D table) ++ output-checks g room)) ≡ 0
-  behind-tree = sym (tree-passed g words (seat-checks g seat ++ ((parts-checks g D ++ table-checks g D table) ++ output-checks g room)) tree-accepted) ∙ e
-
-  one : (b : Bool) (k : ℕ) (ys : List Check) → first ((b refuses suc k) ∷ ys) ≡ 0 → (b ≡ false) × (first ys ≡ 0)
-  one true k ys q = absurd (omega arith)
-  one false k ys q = (refl, q)
-
-  behind-seat : (leb (g .seats) seat ≡ false) × (first ((parts-checks g D ++ table-checks g D table) ++ output-checks g room) ≡ 0)
-  behind-seat = one (leb (g .seats) seat) 4 ((parts-checks g D ++ table-checks g D table) ++ output-checks g room) behind-tree
-
-  table-checked : first (parts-checks g D ++ table-checks g D table) ≡ 0
-  table-checked = passed (parts-checks g D ++ table-checks g D table) (output-checks g room) (behind-seat .1)
-
-  pub accepted-game : Known g
-  accepted-game = game-known g words tree-accepted
-
-  pub accepted-table : Accepted g D table
-  accepted-table = table-accepted g D table table-checked accepted-game
-
-  pub accepted-seat : seat < g .seats
-  accepted-seat = leb-false (g .seats) seat (behind-seat .0)
-
-  pub accepted-room : entries (treeOf g) ≤ room
-  unfolding output-checks
-  accepted-room = ltb-false room (entries (treeOf g)) (one (ltb room (entries (treeOf g))) 8 [] (sym (table-passed g D table (output-checks g room) table-checked) ∙ behind-seat .1) .0)
-
-  pub nodes-room : (n : ℕ) → n ≡ nodesOf g → 12 * n ≤ words
-  nodes-room n q = omega (arith, enough-nodes g words tree-accepted)
-
-  pub part-room : (n : ℕ) (work : List ℕ) → n ≡ nodesOf g → length work ≡ words → 12 * nodesOf g ≤ length (take (12 * n) work)
-  part-room n work q l = omega (arith, length-take-le (12 * n) work (omega (arith, enough-nodes g words tree-accepted)))
+use Rattle.best_reply.specs.Calls.{answer, written, Demand}
 
 -- ---- the answer
 module _ (r q : ℕ) (g : Game) (seat D : ℕ) (table : Table) (e : r ≡ q) where

@@ -3,19 +3,13 @@ use mathlib.Core.List.{List, _++_}
 use Prim.Native.Nat.{ℕ, zero, suc}
 use lib.IntN.{ℤ, pos}
 use lib.ListN.{take, drop}
-use Rattle.refusals.specs.Refusals.{first}
 use Rattle.game_tree.specs.Sets.{entries}
 use Rattle.game_tree.specs.Table.{Table, tableBest, replyTable}
 use Rattle.games.specs.declared.Game.{Game}
 use Rattle.games.specs.Games.{treeOf}
-use Rattle.table_refusals.specs.Checks.{reply-checks}
 use Rattle.games.specs.Facts.{rootUnits}
 use Rattle.units_best.specs.Best.{BestReply}
 use Rattle.best_reply.specs.declared.ReplyAnswer.{ReplyAnswer}
-
--- the refusal number, 1 to 9 in order, 0 if the call was accepted
-abbrev pub reply-refusal : (g : Game) (words seat D : ℕ) (table : Table) (room : ℕ) → ℕ
-reply-refusal g words seat D table room = first (reply-checks g words seat D table room)
 
 -- the answer: the best value of the seat, 0 if the call was refused
 abbrev pub answer : ℕ → Game → (seat D : ℕ) → Table → ReplyAnswer

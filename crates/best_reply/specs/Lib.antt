@@ -1,2 +1,2 @@
--- The best value of a seat and its reply (document 01, "Whole units"): the call, its checks, its answer and what is demanded of it.
+-- The best value of a seat and its reply (document 01, "Whole units"): its answer and what is demanded of it.
 pub mod Calls

@@ -7,10 +7,11 @@ ghost use lib.Seq.{sets};
 ghost use Rattle.game_tree.specs.Table.{tableBest, replyTable};
 ghost use Rattle.games.specs.Games.{gameOf, treeOf};
 ghost use Rattle.games.specs.Facts.{nodesOf, rootUnits};
-ghost use Rattle.units_worths.specs.Memory.{Left};
-ghost use Rattle.units_worths.specs.Accepted.{Accepted};
+ghost use Rattle.tree_refusals.specs.Checks.{reply-refusal};
+ghost use Rattle.tree_refusals.specs.Accepted.{AcceptedTable};
+ghost use Rattle.arena_store.specs.Memory.{MemoryAfter};
 ghost use Rattle.units_best.specs.Best.{BestReply};
-ghost use Rattle.best_reply.specs.Calls.{reply-refusal, answer, written, Demand};
+ghost use Rattle.best_reply.specs.Calls.{answer, written, Demand};
 
 // A call's refusal number, 0 if it was accepted, and the best value, 0 if it was refused. C has it as it is.
 #[repr(C)]
@@ -21,7 +22,7 @@ pub struct ReplyAnswer {
 
 // The best value of a seat against a table that is not refused, and its reply written to out, with the game's tree stored in the words for it.
 fn evaluate(g: Game, words: &mut [u64], seat: usize, d: usize, table: &[u8], out: &mut [u8]) -> i64
-    requires { ⌜ Accepted g d (now table) × (seat < g .seats) × (12 * nodesOf g ≤ length (now words)) ⌝ }
+    requires { ⌜ AcceptedTable g d (now table) × (seat < g .seats) × (12 * nodesOf g ≤ length (now words)) ⌝ }
     ensures { λ r. ⌜ (r ≡ tableBest (treeOf g) d (rootUnits g d) (now (table .entry)) seat)
         × (now (out .exit) ≡ sets (now (out .entry)) 0 (replyTable (treeOf g) d (rootUnits g d) (now (table .entry)) seat))
         × BestReply g d seat (now (table .entry)) r (replyTable (treeOf g) d (rootUnits g d) (now (table .entry)) seat) ⌝ }
@@ -46,14 +47,14 @@ pub fn best_reply(
     ensures answer { λ r. ⌜ r ≡ answer (reply-refusal (gameOf number seats) (length (now (work .entry))) seat d (now (table .entry)) (length (now (out .entry)))) (gameOf number seats) seat d (now (table .entry)) ⌝ }
     ensures output { λ r. ⌜ now (out .exit) ≡ written (r .refusal) (gameOf number seats) seat d (now (table .entry)) (now (out .entry)) ⌝ }
     ensures best { λ r. ⌜ Demand (r .refusal) (gameOf number seats) seat d (now (table .entry)) (r .value) (now (out .exit)) ⌝ }
-    ensures memory { λ r. ⌜ Left (r .refusal) (gameOf number seats) (now (work .entry)) (now (work .exit)) ⌝ }
+    ensures memory { λ r. ⌜ MemoryAfter (r .refusal) (gameOf number seats) (now (work .entry)) (now (work .exit)) ⌝ }
 {
     let g = Game { number, seats };
-    let refusal = table_refusals::reply_refusal(g, work.len(), seat, d, table, out.len());
+    let refusal = tree_refusals::reply_refusal(g, work.len(), seat, d, table, out.len());
     if refusal != refusals::ACCEPTED {
         return ReplyAnswer { refusal, value: 0 };
     }
-    let words = Game::WORDS * g.nodes();
-    let value = evaluate(g, &mut work[..words], seat, d, table, out);
+    let length = Game::WORDS * g.nodes();
+    let value = evaluate(g, &mut work[..length], seat, d, table, out);
     ReplyAnswer { refusal, value }
 }

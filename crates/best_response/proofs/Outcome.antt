@@ -1,13 +1,26 @@
--- What a call answers, refused or accepted. Assumes nothing.
+-- What a call knows and answers, refused or accepted. Assumes nothing.
 use mathlib.Core.Path.{_≡_, ap, ap₂, _∙_}
 use mathlib.Core.List.{List}
-use Prim.Native.Nat.{ℕ, zero, suc}
+use Prim.Native.Nat.{ℕ, zero, suc, _*_, _≤_}
 use native.Mathlib.Omega.{arith}
 use lib.Ieee.{Float}
 use lib.ListN.{replicate}
 use Rattle.game_tree_f64.specs.Values.{nought}
+use Rattle.games.specs.declared.Game.{Game}
+use Rattle.games.specs.Facts.{nodesOf}
+use Rattle.tree_refusals.specs.Accepted.{AcceptedProfile}
 use Rattle.best_response.specs.Calls.{answer}
+use Rattle.best_response.specs.Asked.{SeatOf, PassedOf}
+use Rattle.best_response.specs.declared.Asked.{Asked}
 use Rattle.best_response.specs.declared.ValuesAnswer.{ValuesAnswer}
+
+-- what every call knows once its checks have passed
+pub passed-by : (asked : Asked) (g : Game) (memory : ℕ) (P : List Float) → PassedOf asked g memory P → AcceptedProfile g P × (12 * nodesOf g ≤ memory) × SeatOf asked g
+passed-by (Asked.Best i) g memory P p = p
+passed-by Asked.Bests g memory P p = (p .0, p .1, tt)
+passed-by Asked.Worths g memory P p = (p .0, p .1, tt)
+passed-by Asked.NashConv g memory P p = (p .0, p .1, tt)
+passed-by Asked.Exploitability g memory P p = (p .0, p .1, tt)
 
 abbrev given : (refusal count : ℕ) → List Float → ValuesAnswer
 given refusal count values = record { refusal = refusal; count = count; values = values }

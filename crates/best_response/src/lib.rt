@@ -1,18 +1,27 @@
 // The f64 values of a profile, under the Rust's names: best response values, worths, NashConv and exploitability.
 use games::Game;
-use profile_refusals::Asked;
 ghost use mathlib.Core.Path.{_≡_};
 ghost use Prim.Native.Nat.{_*_, _≤_};
 ghost use lib.ListN.{length};
 ghost use Rattle.games.specs.Games.{gameOf};
 ghost use Rattle.games.specs.Facts.{nodesOf};
-ghost use Rattle.units_worths.specs.Memory.{Left};
-ghost use Rattle.profile_refusals.specs.Checks.{value-refusal, values-refusal};
-ghost use Rattle.profile_refusals.specs.Asked.{refusalOf, SeatOf};
-ghost use Rattle.profile_refusals.specs.Accepted.{Accepted};
+ghost use Rattle.refusals.specs.Refusals.{first};
+ghost use Rattle.refusals.specs.Settled.{Settled};
+ghost use Rattle.tree_refusals.specs.Checks.{value-refusal, values-refusal};
+ghost use Rattle.tree_refusals.specs.Accepted.{AcceptedProfile};
+ghost use Rattle.arena_store.specs.Memory.{MemoryAfter};
 ghost use Rattle.f64_games.specs.Values.{bestOf, bestsOf, worthsOf, nashConvOf, exploitabilityOf};
 ghost use Rattle.best_response.specs.Calls.{single, answer};
-ghost use Rattle.best_response.specs.Asked.{countOf, valuesOf};
+ghost use Rattle.best_response.specs.Asked.{checksOf, PassedOf, SeatOf, countOf, valuesOf};
+
+// What a call asks of a profile.
+pub enum Asked {
+    Best(usize),
+    Bests,
+    Worths,
+    NashConv,
+    Exploitability,
+}
 
 // A call's refusal number, 0 if it was accepted, and count values, 0.0 past them; every number but the first is 0 if it was refused. C has it as it is.
 #[repr(C)]
@@ -31,7 +40,7 @@ fn alone(x: f64) -> [f64; 6]
 
 // The values of a profile that is not refused, with the game's tree stored in the words for it.
 fn evaluate(g: Game, words: &mut [u64], asked: Asked, profile: &[f64]) -> [f64; 6]
-    requires { ⌜ Accepted g (now profile) × (12 * nodesOf g ≤ length (now words)) × SeatOf asked g ⌝ }
+    requires { ⌜ AcceptedProfile g (now profile) × (12 * nodesOf g ≤ length (now words)) × SeatOf asked g ⌝ }
     ensures { λ r. ⌜ r ≡ valuesOf asked g (now (profile .entry)) ⌝ }
 {
     arena_store::store(g, words);
@@ -57,20 +66,12 @@ fn count_of(g: Game, asked: Asked) -> usize
     }
 }
 
-// The answer of each call: its checks, then its values from the tree built at the front of the work memory.
-fn call(
-    number: usize,
-    seats: usize,
-    work: &mut [u64],
-    asked: Asked,
-    profile: &[f64],
-) -> ValuesAnswer
-    ensures { λ r. ⌜ (r ≡ answer (refusalOf asked (gameOf number seats) (length (now (work .entry))) (length (now (profile .entry))))
-        (countOf asked (gameOf number seats)) (valuesOf asked (gameOf number seats) (now (profile .entry))))
-        × Left (r .refusal) (gameOf number seats) (now (work .entry)) (now (work .exit)) ⌝ }
+// The answer of each call, from what refuses it: its values from the tree built at the front of the work memory.
+fn call(g: Game, refusal: u64, work: &mut [u64], asked: Asked, profile: &[f64]) -> ValuesAnswer
+    requires { ⌜ Settled (checksOf asked g (length (now work)) (length (now profile))) (PassedOf asked g (length (now work)) (now profile)) refusal ⌝ }
+    ensures { λ r. ⌜ (r ≡ answer (first (checksOf asked g (length (now (work .entry))) (length (now (profile .entry))))) (countOf asked g) (valuesOf asked g (now (profile .entry))))
+        × MemoryAfter (r .refusal) g (now (work .entry)) (now (work .exit)) ⌝ }
 {
-    let g = Game { number, seats };
-    let refusal = profile_refusals::refusal_of(g, work.len(), asked, profile.len());
     if refusal != refusals::ACCEPTED {
         return ValuesAnswer {
             refusal,
@@ -78,8 +79,8 @@ fn call(
             values: [0.0; 6],
         };
     }
-    let words = Game::WORDS * g.nodes();
-    let values = evaluate(g, &mut work[..words], asked, profile);
+    let length = Game::WORDS * g.nodes();
+    let values = evaluate(g, &mut work[..length], asked, profile);
     ValuesAnswer {
         refusal,
         count: count_of(g, asked),
@@ -95,11 +96,12 @@ pub fn best_response_value(
     seat: usize,
     profile: &[f64],
 ) -> ValuesAnswer
-    ensures answer { λ r. ⌜ r ≡ answer (value-refusal (gameOf number seats) (length (now (work .entry))) seat (length (now (profile .entry))))
-        1 (single (bestOf (gameOf number seats) (now (profile .entry)) seat)) ⌝ }
-    ensures memory { λ r. ⌜ Left (r .refusal) (gameOf number seats) (now (work .entry)) (now (work .exit)) ⌝ }
+    ensures answer { λ r. ⌜ r ≡ answer (value-refusal (gameOf number seats) (length (now (work .entry))) seat (length (now (profile .entry)))) 1 (single (bestOf (gameOf number seats) (now (profile .entry)) seat)) ⌝ }
+    ensures memory { λ r. ⌜ MemoryAfter (r .refusal) (gameOf number seats) (now (work .entry)) (now (work .exit)) ⌝ }
 {
-    call(number, seats, work, Asked::Best(seat), profile)
+    let g = Game { number, seats };
+    let refusal = tree_refusals::value_refusal(g, work.len(), seat, profile);
+    call(g, refusal, work, Asked::Best(seat), profile)
 }
 
 // The best response value of each seat.
@@ -109,11 +111,12 @@ pub fn best_response_values(
     work: &mut [u64],
     profile: &[f64],
 ) -> ValuesAnswer
-    ensures answer { λ r. ⌜ r ≡ answer (values-refusal (gameOf number seats) (length (now (work .entry))) (length (now (profile .entry))))
-        seats (bestsOf (gameOf number seats) (now (profile .entry))) ⌝ }
-    ensures memory { λ r. ⌜ Left (r .refusal) (gameOf number seats) (now (work .entry)) (now (work .exit)) ⌝ }
+    ensures answer { λ r. ⌜ r ≡ answer (values-refusal (gameOf number seats) (length (now (work .entry))) (length (now (profile .entry)))) seats (bestsOf (gameOf number seats) (now (profile .entry))) ⌝ }
+    ensures memory { λ r. ⌜ MemoryAfter (r .refusal) (gameOf number seats) (now (work .entry)) (now (work .exit)) ⌝ }
 {
-    call(number, seats, work, Asked::Bests, profile)
+    let g = Game { number, seats };
+    let refusal = tree_refusals::values_refusal(g, work.len(), profile);
+    call(g, refusal, work, Asked::Bests, profile)
 }
 
 // What a profile is worth to each seat.
@@ -123,20 +126,22 @@ pub fn profile_values(
     work: &mut [u64],
     profile: &[f64],
 ) -> ValuesAnswer
-    ensures answer { λ r. ⌜ r ≡ answer (values-refusal (gameOf number seats) (length (now (work .entry))) (length (now (profile .entry))))
-        seats (worthsOf (gameOf number seats) (now (profile .entry))) ⌝ }
-    ensures memory { λ r. ⌜ Left (r .refusal) (gameOf number seats) (now (work .entry)) (now (work .exit)) ⌝ }
+    ensures answer { λ r. ⌜ r ≡ answer (values-refusal (gameOf number seats) (length (now (work .entry))) (length (now (profile .entry)))) seats (worthsOf (gameOf number seats) (now (profile .entry))) ⌝ }
+    ensures memory { λ r. ⌜ MemoryAfter (r .refusal) (gameOf number seats) (now (work .entry)) (now (work .exit)) ⌝ }
 {
-    call(number, seats, work, Asked::Worths, profile)
+    let g = Game { number, seats };
+    let refusal = tree_refusals::values_refusal(g, work.len(), profile);
+    call(g, refusal, work, Asked::Worths, profile)
 }
 
 // NashConv of a profile: the sum of best response value − worth by seat.
 pub fn nash_conv(number: usize, seats: usize, work: &mut [u64], profile: &[f64]) -> ValuesAnswer
-    ensures answer { λ r. ⌜ r ≡ answer (values-refusal (gameOf number seats) (length (now (work .entry))) (length (now (profile .entry))))
-        1 (single (nashConvOf (gameOf number seats) (now (profile .entry)))) ⌝ }
-    ensures memory { λ r. ⌜ Left (r .refusal) (gameOf number seats) (now (work .entry)) (now (work .exit)) ⌝ }
+    ensures answer { λ r. ⌜ r ≡ answer (values-refusal (gameOf number seats) (length (now (work .entry))) (length (now (profile .entry)))) 1 (single (nashConvOf (gameOf number seats) (now (profile .entry)))) ⌝ }
+    ensures memory { λ r. ⌜ MemoryAfter (r .refusal) (gameOf number seats) (now (work .entry)) (now (work .exit)) ⌝ }
 {
-    call(number, seats, work, Asked::NashConv, profile)
+    let g = Game { number, seats };
+    let refusal = tree_refusals::values_refusal(g, work.len(), profile);
+    call(g, refusal, work, Asked::NashConv, profile)
 }
 
 // Exploitability of a profile: NashConv divided by the seats.
@@ -146,9 +151,10 @@ pub fn exploitability(
     work: &mut [u64],
     profile: &[f64],
 ) -> ValuesAnswer
-    ensures answer { λ r. ⌜ r ≡ answer (values-refusal (gameOf number seats) (length (now (work .entry))) (length (now (profile .entry))))
-        1 (single (exploitabilityOf (gameOf number seats) (now (profile .entry)))) ⌝ }
-    ensures memory { λ r. ⌜ Left (r .refusal) (gameOf number seats) (now (work .entry)) (now (work .exit)) ⌝ }
+    ensures answer { λ r. ⌜ r ≡ answer (values-refusal (gameOf number seats) (length (now (work .entry))) (length (now (profile .entry)))) 1 (single (exploitabilityOf (gameOf number seats) (now (profile .entry)))) ⌝ }
+    ensures memory { λ r. ⌜ MemoryAfter (r .refusal) (gameOf number seats) (now (work .entry)) (now (work .exit)) ⌝ }
 {
-    call(number, seats, work, Asked::Exploitability, profile)
+    let g = Game { number, seats };
+    let refusal = tree_refusals::values_refusal(g, work.len(), profile);
+    call(g, refusal, work, Asked::Exploitability, profile)
 }

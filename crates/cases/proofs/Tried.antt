@@ -24,13 +24,13 @@ use Rattle.games.specs.Facts.{rootUnits}
 use Rattle.games.specs.Actions.{actionsOf}
 use Rattle.games.specs.declared.Game.{Game}
 use Rattle.games.proofs.Facts.{counted-games, actions-listed, reply-best}
-use Rattle.units_worths.specs.Accepted.{Accepted}
+use Rattle.tree_refusals.specs.Accepted.{AcceptedTable}
 use Rattle.units_best.specs.Best.{BestReply}
 use Rattle.cases.specs.Cases.{kuhn2-tables, passes, bluffs}
 use Rattle.cases.specs.Tried.{KuhnTried, leduc, callsAt, calls, LeducTried}
 
 -- the theorem, of a table that is accepted
-best-reply : (g : Game) (D i : ℕ) (table : Table) → Accepted g D table → i < g .seats
+best-reply : (g : Game) (D i : ℕ) (table : Table) → AcceptedTable g D table → i < g .seats
     → BestReply g D i table (tableBest (treeOf g) D (rootUnits g D) table i) (replyTable (treeOf g) D (rootUnits g D) table i)
 best-reply g D i table a l = reply-best g D i table (a .game .known) (a .game .seats) l (a .least) (a .valid)
 
@@ -40,7 +40,7 @@ passes-valid : (length passes ≡ entries (treeOf kuhn2-tables)) × (addUp 1 (se
 unfolding addUp sets entriesOf sumℕ treeOf Kuhn.kuhnTree Kuhn.below Kuhn.next Kuhn.each and or some every those has bet-made after-bet ended left remaining legal
 passes-valid = (refl, refl)
 
-passes-accepted : Accepted kuhn2-tables 1 passes
+passes-accepted : AcceptedTable kuhn2-tables 1 passes
 unfolding or dealNodes
 passes-accepted = record { game = record { known = omega arith; seats = refl; small = omega arith }; least = omega arith; most = omega arith; valid = passes-valid }
 
@@ -79,7 +79,7 @@ leduc-actions : setActions (treeOf leduc) ≡ actionsInOrder
 unfolding actionsOf
 leduc-actions = actions-listed leduc refl
 
-calls-accepted : Accepted leduc 1 calls
+calls-accepted : AcceptedTable leduc 1 calls
 calls-accepted = record {
   game = record { known = omega arith; seats = refl; small = omega arith };
   least = omega arith;

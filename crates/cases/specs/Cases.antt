@@ -30,7 +30,7 @@ use Rattle.best_reply.specs.Calls as Reply
 use Rattle.best_reply.specs.declared.ReplyAnswer.{ReplyAnswer}
 use Rattle.nash_conv_units.specs.Calls as Conv
 use Rattle.nash_conv_units.specs.declared.NashConvAnswer.{NashConvAnswer}
-use Rattle.units_worths.specs.Checks.{evaluation-refusal}
+use Rattle.tree_refusals.specs.Checks.{evaluation-refusal, reply-refusal}
 
 -- ---- what a case is
 
@@ -132,7 +132,7 @@ worths D table = worths-in (Worths.answer (table-refusal D table) kuhn2-tables D
 
 -- the refusal of the reply call, with an output of 24 bytes
 abbrev pub refused : (seat D : ℕ) → Table → ℕ
-refused seat D table = Reply.reply-refusal kuhn2-tables room seat D table 24
+refused seat D table = reply-refusal kuhn2-tables room seat D table 24
 
 -- a seat's best value, and what the call leaves in the output
 abbrev pub best : (seat D : ℕ) → Table → List ℤ

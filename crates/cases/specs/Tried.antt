@@ -11,13 +11,13 @@ use Rattle.leduc_tree.specs.Turns.{firstTurns}
 use Rattle.games.specs.Games.{gameOf, treeOf}
 use Rattle.games.specs.Facts.{rootUnits}
 use Rattle.games.specs.declared.Game.{Game}
-use Rattle.units_worths.specs.Accepted.{Accepted}
+use Rattle.tree_refusals.specs.Accepted.{AcceptedTable}
 use Rattle.units_best.specs.Best.{BestReply}
 use Rattle.cases.specs.Cases.{kuhn2-tables, passes, bluffs}
 
 -- Kuhn 2, always PASS: case k's reply of seat 0 is a rival table, it is worth 6, and no rival table, mixed or not, is worth more.
 abbrev pub KuhnTried : Type 0
-KuhnTried = Accepted kuhn2-tables 1 passes × BestReply kuhn2-tables 1 0 passes (pos 6) bluffs
+KuhnTried = AcceptedTable kuhn2-tables 1 passes × BestReply kuhn2-tables 1 0 passes (pos 6) bluffs
 
 abbrev pub leduc : Game
 leduc = gameOf 1 2
@@ -34,6 +34,5 @@ calls = callsAt firstTurns
 
 -- It is accepted with D 1, and for each seat the reply is a rival table that is worth the best value, and no rival table is worth more.
 abbrev pub LeducTried : Type 0
-LeducTried = Accepted leduc 1 calls
-    × ((i : ℕ) → i < 2 → BestReply leduc 1 i calls (tableBest (treeOf leduc) 1 (rootUnits leduc 1) calls i)
-    (replyTable (treeOf leduc) 1 (rootUnits leduc 1) calls i))
+LeducTried = AcceptedTable leduc 1 calls
+    × ((i : ℕ) → i < 2 → BestReply leduc 1 i calls (tableBest (treeOf leduc) 1 (rootUnits leduc 1) calls i) (replyTable (treeOf leduc) 1 (rootUnits leduc 1) calls i))

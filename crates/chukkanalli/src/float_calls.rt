@@ -3,8 +3,8 @@ use best_response::ValuesAnswer;
 ghost use mathlib.Core.Path.{_≡_};
 ghost use lib.ListN.{length};
 ghost use Rattle.games.specs.Games.{gameOf};
-ghost use Rattle.units_worths.specs.Memory.{Left};
-ghost use Rattle.profile_refusals.specs.Checks.{value-refusal, values-refusal};
+ghost use Rattle.tree_refusals.specs.Checks.{value-refusal, values-refusal};
+ghost use Rattle.arena_store.specs.Memory.{MemoryAfter};
 ghost use Rattle.f64_games.specs.Values.{bestOf, bestsOf, worthsOf, nashConvOf, exploitabilityOf};
 ghost use Rattle.best_response.specs.Calls as Response;
 
@@ -17,9 +17,8 @@ pub extern "C" fn chukkanalli_best_response_value(
     seat: u64,
     profile: &[f64],
 ) -> ValuesAnswer
-    ensures answer { λ r. ⌜ r ≡ Response.answer (value-refusal (gameOf game seats) (length (now (work .entry))) seat (length (now (profile .entry))))
-        1 (Response.single (bestOf (gameOf game seats) (now (profile .entry)) seat)) ⌝ }
-    ensures memory { λ r. ⌜ Left (r .refusal) (gameOf game seats) (now (work .entry)) (now (work .exit)) ⌝ }
+    ensures answer { λ r. ⌜ r ≡ Response.answer (value-refusal (gameOf game seats) (length (now (work .entry))) seat (length (now (profile .entry)))) 1 (Response.single (bestOf (gameOf game seats) (now (profile .entry)) seat)) ⌝ }
+    ensures memory { λ r. ⌜ MemoryAfter (r .refusal) (gameOf game seats) (now (work .entry)) (now (work .exit)) ⌝ }
 {
     best_response::best_response_value(game as usize, seats as usize, work, seat as usize, profile)
 }
@@ -32,9 +31,8 @@ pub extern "C" fn chukkanalli_best_response_values(
     work: &mut [u64],
     profile: &[f64],
 ) -> ValuesAnswer
-    ensures answer { λ r. ⌜ r ≡ Response.answer (values-refusal (gameOf game seats) (length (now (work .entry))) (length (now (profile .entry))))
-        seats (bestsOf (gameOf game seats) (now (profile .entry))) ⌝ }
-    ensures memory { λ r. ⌜ Left (r .refusal) (gameOf game seats) (now (work .entry)) (now (work .exit)) ⌝ }
+    ensures answer { λ r. ⌜ r ≡ Response.answer (values-refusal (gameOf game seats) (length (now (work .entry))) (length (now (profile .entry)))) seats (bestsOf (gameOf game seats) (now (profile .entry))) ⌝ }
+    ensures memory { λ r. ⌜ MemoryAfter (r .refusal) (gameOf game seats) (now (work .entry)) (now (work .exit)) ⌝ }
 {
     best_response::best_response_values(game as usize, seats as usize, work, profile)
 }
@@ -47,9 +45,8 @@ pub extern "C" fn chukkanalli_profile_values(
     work: &mut [u64],
     profile: &[f64],
 ) -> ValuesAnswer
-    ensures answer { λ r. ⌜ r ≡ Response.answer (values-refusal (gameOf game seats) (length (now (work .entry))) (length (now (profile .entry))))
-        seats (worthsOf (gameOf game seats) (now (profile .entry))) ⌝ }
-    ensures memory { λ r. ⌜ Left (r .refusal) (gameOf game seats) (now (work .entry)) (now (work .exit)) ⌝ }
+    ensures answer { λ r. ⌜ r ≡ Response.answer (values-refusal (gameOf game seats) (length (now (work .entry))) (length (now (profile .entry)))) seats (worthsOf (gameOf game seats) (now (profile .entry))) ⌝ }
+    ensures memory { λ r. ⌜ MemoryAfter (r .refusal) (gameOf game seats) (now (work .entry)) (now (work .exit)) ⌝ }
 {
     best_response::profile_values(game as usize, seats as usize, work, profile)
 }
@@ -62,9 +59,8 @@ pub extern "C" fn chukkanalli_nash_conv(
     work: &mut [u64],
     profile: &[f64],
 ) -> ValuesAnswer
-    ensures answer { λ r. ⌜ r ≡ Response.answer (values-refusal (gameOf game seats) (length (now (work .entry))) (length (now (profile .entry))))
-        1 (Response.single (nashConvOf (gameOf game seats) (now (profile .entry)))) ⌝ }
-    ensures memory { λ r. ⌜ Left (r .refusal) (gameOf game seats) (now (work .entry)) (now (work .exit)) ⌝ }
+    ensures answer { λ r. ⌜ r ≡ Response.answer (values-refusal (gameOf game seats) (length (now (work .entry))) (length (now (profile .entry)))) 1 (Response.single (nashConvOf (gameOf game seats) (now (profile .entry)))) ⌝ }
+    ensures memory { λ r. ⌜ MemoryAfter (r .refusal) (gameOf game seats) (now (work .entry)) (now (work .exit)) ⌝ }
 {
     best_response::nash_conv(game as usize, seats as usize, work, profile)
 }
@@ -77,9 +73,8 @@ pub extern "C" fn chukkanalli_exploitability(
     work: &mut [u64],
     profile: &[f64],
 ) -> ValuesAnswer
-    ensures answer { λ r. ⌜ r ≡ Response.answer (values-refusal (gameOf game seats) (length (now (work .entry))) (length (now (profile .entry))))
-        1 (Response.single (exploitabilityOf (gameOf game seats) (now (profile .entry)))) ⌝ }
-    ensures memory { λ r. ⌜ Left (r .refusal) (gameOf game seats) (now (work .entry)) (now (work .exit)) ⌝ }
+    ensures answer { λ r. ⌜ r ≡ Response.answer (values-refusal (gameOf game seats) (length (now (work .entry))) (length (now (profile .entry)))) 1 (Response.single (exploitabilityOf (gameOf game seats) (now (profile .entry)))) ⌝ }
+    ensures memory { λ r. ⌜ MemoryAfter (r .refusal) (gameOf game seats) (now (work .entry)) (now (work .exit)) ⌝ }
 {
     best_response::exploitability(game as usize, seats as usize, work, profile)
 }

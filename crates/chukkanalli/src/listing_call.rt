@@ -2,7 +2,8 @@
 use listing::ListingAnswer;
 ghost use mathlib.Core.Path.{_≡_};
 ghost use lib.ListN.{length};
-ghost use Rattle.listing.specs.Calls.{listing-refusal, answer, written, gameOf};
+ghost use Rattle.tree_refusals.specs.Checks.{listing-refusal};
+ghost use Rattle.listing.specs.Calls.{answer, written, gameOf};
 
 // The sets of a game, in set order.
 #[no_mangle]

@@ -1,17 +1,14 @@
 -- What the listing call answers and leaves (document 01, "The tree and its sets": "Listing writes 24 bytes per set ... Its answer carries node and set counts").
 use mathlib.Core.Bool.{cond}
-use mathlib.Core.List.{List, [], _∷_, _++_}
-use Prim.Native.Nat.{ℕ, zero, suc, _*_}
-use lib.Dec.{ltb}
+use mathlib.Core.List.{List, _++_}
+use Prim.Native.Nat.{ℕ, zero, suc}
 use lib.ListN.{length, drop}
-use Rattle.refusals.specs.Refusals.{Check, _refuses_, first, output}
 use Rattle.game_tree.specs.Sets.{size, setCount}
 use Rattle.kuhn_tree.specs.Follows as Kuhn-tree
 use Rattle.leduc_tree.specs.Follows as Leduc-tree
 use Rattle.games.specs.declared.Game.{Game}
 use Rattle.games.specs.Games.{isKuhn, treeOf}
 pub use Rattle.games.specs.Games.{gameOf}
-use Rattle.table_refusals.specs.Checks.{tree-checks}
 use Rattle.listing_records.specs.Listing.{Cards, listing}
 use Rattle.kuhn_listing.specs.Listing as Kuhn
 use Rattle.leduc_listing.specs.Listing as Leduc
@@ -25,14 +22,6 @@ cardsAt g a = cond (isKuhn g) (Kuhn.cardsOf (Kuhn-tree.positionOf (treeOf g) (g 
 unfoldable pub listingOf : Game → List ℕ
 unfolding listing
 listingOf g = listing (treeOf g) (cardsAt g)
-
--- 1 to 4, then 9: an output of so many bytes is shorter than 24 for each set
-unfoldable pub listing-checks : (g : Game) (words room : ℕ) → List Check
-listing-checks g words room = tree-checks g words ++ ((ltb room (24 * setCount (treeOf g)) refuses output) ∷ [])
-
--- the refusal number, 0 if the call was accepted
-abbrev pub listing-refusal : (g : Game) (words room : ℕ) → ℕ
-listing-refusal g words room = first (listing-checks g words room)
 
 -- the answer: the node and set counts; every field but the number is 0, if the call was refused
 abbrev pub answer : ℕ → Game → ListingAnswer

@@ -4,9 +4,9 @@ ghost use mathlib.Core.Path.{_≡_};
 ghost use Prim.Native.Nat.{_≤_};
 ghost use lib.ListN.{length};
 ghost use lib.Seq.{sets};
-ghost use Rattle.refusals.specs.Refusals.{first};
-ghost use Rattle.table_refusals.specs.Checks.{tree-checks};
-ghost use Rattle.listing.specs.Calls.{listingOf, listing-refusal, answer, written, gameOf};
+ghost use Rattle.games.specs.Known.{Known};
+ghost use Rattle.tree_refusals.specs.Checks.{listing-refusal};
+ghost use Rattle.listing.specs.Calls.{listingOf, answer, written, gameOf};
 
 // A call's refusal number, 0 if it was accepted, and the nodes and sets of the game's tree; these are 0 if it was refused. C has it as it is.
 #[repr(C)]
@@ -16,23 +16,9 @@ pub struct ListingAnswer {
     pub sets: usize,
 }
 
-// What refuses a listing, with so many words of work memory and an output of room bytes: 1 to 4, then 9.
-fn refusal_of(g: Game, words: usize, room: usize) -> u64
-    ensures { λ r. ⌜ r ≡ listing-refusal g words room ⌝ }
-{
-    let tree = table_refusals::tree_refusal(g, words);
-    if tree != refusals::ACCEPTED {
-        return tree;
-    }
-    if room < listing_records::RECORD * g.sets() {
-        return refusals::OUTPUT;
-    }
-    refusals::ACCEPTED
-}
-
 // The listing of a game whose tree is not refused, from the start of an output.
-fn write_listing(g: Game, words: usize, out: &mut [u8])
-    requires { ⌜ (first (tree-checks g words) ≡ 0) × (length (listingOf g) ≤ length (now out)) ⌝ }
+fn write_listing(g: Game, out: &mut [u8])
+    requires { ⌜ Known g × (length (listingOf g) ≤ length (now out)) ⌝ }
     ensures { λ _. ⌜ now (out .exit) ≡ sets (now (out .entry)) 0 (listingOf g) ⌝ }
 {
     if g.number == Game::KUHN {
@@ -54,8 +40,7 @@ pub fn enumerate_infosets(
     ensures output { λ r. ⌜ now (out .exit) ≡ written (r .refusal) (gameOf number seats) (now (out .entry)) ⌝ }
 {
     let g = Game { number, seats };
-    let words = work.len();
-    let refusal = refusal_of(g, words, out.len());
+    let refusal = tree_refusals::listing_refusal(g, work.len(), out.len());
     if refusal != refusals::ACCEPTED {
         return ListingAnswer {
             refusal,
@@ -63,7 +48,7 @@ pub fn enumerate_infosets(
             sets: 0,
         };
     }
-    write_listing(g, words, out);
+    write_listing(g, out);
     ListingAnswer {
         refusal,
         nodes: g.nodes(),

@@ -24,12 +24,13 @@ use Rattle.games.specs.Facts as Games
 use Rattle.games.specs.Facts.{rootUnits}
 use Rattle.games.proofs.Facts.{games-fit}
 use Rattle.units_best.specs.Best.{Unbeaten}
-use Rattle.units_worths.specs.Accepted.{Accepted}
+use Rattle.tree_refusals.specs.Accepted.{AcceptedTable}
+use Rattle.arena_store.proofs.Shaped.{games-shaped}
 use Rattle.units_worths.specs.Worths.{worthsOf}
-use Rattle.units_worths.proofs.Facts.{games-shaped, units-fit}
+use Rattle.units_worths.proofs.Facts.{units-fit}
 use Rattle.nash_conv_units.proofs.Differences.{bits, bits-of-small, difference-size}
 
-module _ (g : Game) (D : ℕ) (table : Table) (a : Accepted g D table) where
+module _ (g : Game) (D : ℕ) (table : Table) (a : AcceptedTable g D table) where
   abbrev T : Tree
   T = treeOf g
 

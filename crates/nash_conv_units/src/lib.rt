@@ -8,15 +8,14 @@ ghost use lib.Signed.{_≤ℤ_};
 ghost use Rattle.game_tree.specs.Table.{tableWorth, tableBest, nashConv};
 ghost use Rattle.games.specs.Games.{gameOf, treeOf};
 ghost use Rattle.games.specs.Facts.{nodesOf, rootUnits};
+ghost use Rattle.tree_refusals.specs.Checks.{evaluation-refusal};
+ghost use Rattle.tree_refusals.specs.Accepted.{AcceptedTable};
+ghost use Rattle.arena_store.specs.Memory.{MemoryAfter};
 ghost use Rattle.arena_store.specs.Stored.{Stored};
 ghost use Rattle.units_worths.specs.Worths.{worthsOf};
-ghost use Rattle.units_worths.specs.Memory.{Left};
-ghost use Rattle.units_worths.specs.Accepted.{Accepted};
-ghost use Rattle.units_worths.specs.Checks.{evaluation-refusal};
 ghost use Rattle.nash_conv_units.specs.Calls.{answer, Whole};
 
-// A call's refusal number, 0 if it was accepted, NashConv, and the units of the root that it is measured in;
-// every number but the first is 0 if it was refused. C has it as it is.
+// A call's refusal number, 0 if it was accepted, NashConv, and the units of the root that it is measured in; every number but the first is 0 if it was refused. C has it as it is.
 #[repr(C)]
 pub struct NashConvAnswer {
     pub refusal: u64,
@@ -41,10 +40,8 @@ fn seat_excess(
     table: &[u8],
     worths: [i64; 6],
 ) -> u64
-    requires { ⌜ Stored g (now words) × Accepted g d (now table) × (seat < g .seats) × (12 * nodesOf g ≤ length (now words))
-        × (worths ≡ worthsOf g d (now table)) ⌝ }
-    ensures { λ r. ⌜ (pos r ≡ tableBest (treeOf g) d (rootUnits g d) (now (table .entry)) seat
-        -ℤ tableWorth (treeOf g) d (rootUnits g d) (now (table .entry)) seat) × Stored g (now (words .exit)) ⌝ }
+    requires { ⌜ Stored g (now words) × AcceptedTable g d (now table) × (seat < g .seats) × (12 * nodesOf g ≤ length (now words)) × (worths ≡ worthsOf g d (now table)) ⌝ }
+    ensures { λ r. ⌜ (pos r ≡ tableBest (treeOf g) d (rootUnits g d) (now (table .entry)) seat -ℤ tableWorth (treeOf g) d (rootUnits g d) (now (table .entry)) seat) × Stored g (now (words .exit)) ⌝ }
 {
     let worth = worths[seat];
     let best = units_best::best_value(g, words, seat, d, table);
@@ -53,7 +50,7 @@ fn seat_excess(
 
 // NashConv of a table that is not refused, with the game's tree stored in the words for it.
 fn evaluate(g: Game, words: &mut [u64], d: usize, table: &[u8]) -> u64
-    requires { ⌜ Accepted g d (now table) × (12 * nodesOf g ≤ length (now words)) ⌝ }
+    requires { ⌜ AcceptedTable g d (now table) × (12 * nodesOf g ≤ length (now words)) ⌝ }
     ensures { λ r. ⌜ pos r ≡ nashConv (treeOf g) d (rootUnits g d) (now (table .entry)) (g .seats) ⌝ }
 {
     arena_store::store(g, words);
@@ -68,8 +65,7 @@ fn evaluate(g: Game, words: &mut [u64], d: usize, table: &[u8]) -> u64
     sum
 }
 
-// NashConv of a table with d parts in each set: the sum of best value − worth over the seats, in whole units.
-// The tree is built at the front of the work memory, which has 12 words for each node.
+// NashConv of a table with d parts in each set: the sum of best value − worth over the seats, in whole units. The tree is built at the front of the work memory, which has 12 words for each node.
 pub fn nash_conv_units(
     number: usize,
     seats: usize,
@@ -77,13 +73,12 @@ pub fn nash_conv_units(
     d: usize,
     table: &[u8],
 ) -> NashConvAnswer
-    ensures answer { λ r. ⌜ r ≡ answer (evaluation-refusal (gameOf number seats) (length (now (work .entry))) d (now (table .entry)))
-        (gameOf number seats) d (now (table .entry)) ⌝ }
+    ensures answer { λ r. ⌜ r ≡ answer (evaluation-refusal (gameOf number seats) (length (now (work .entry))) d (now (table .entry))) (gameOf number seats) d (now (table .entry)) ⌝ }
     ensures whole { λ r. ⌜ Whole r (gameOf number seats) d (now (table .entry)) ⌝ }
-    ensures memory { λ r. ⌜ Left (r .refusal) (gameOf number seats) (now (work .entry)) (now (work .exit)) ⌝ }
+    ensures memory { λ r. ⌜ MemoryAfter (r .refusal) (gameOf number seats) (now (work .entry)) (now (work .exit)) ⌝ }
 {
     let g = Game { number, seats };
-    let refusal = units_worths::evaluation_refusal(g, work.len(), d, table);
+    let refusal = tree_refusals::evaluation_refusal(g, work.len(), d, table);
     if refusal != refusals::ACCEPTED {
         return NashConvAnswer {
             refusal,
@@ -91,8 +86,8 @@ pub fn nash_conv_units(
             units: 0,
         };
     }
-    let words = Game::WORDS * g.nodes();
-    let nash_conv = evaluate(g, &mut work[..words], d, table);
+    let length = Game::WORDS * g.nodes();
+    let nash_conv = evaluate(g, &mut work[..length], d, table);
     NashConvAnswer {
         refusal,
         nash_conv,

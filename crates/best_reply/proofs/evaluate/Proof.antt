@@ -13,7 +13,7 @@ use Rattle.best_reply.proofs.evaluate.Statement.{statement}
 use Rattle.best_reply.proofs.evaluate.Tie as tie
 
 store-requires : tie.Need-store-requires
-store-requires c κs = let s0 = c .before .before .before .before in record { known = s0 .pre .0 .game .known; seats = s0 .pre .0 .game .seats; small = s0 .pre .0 .game .small; words = s0 .pre .2 }
+store-requires c κs = let s0 = c .before .before .before .before in (s0 .pre .0 .game, s0 .pre .2)
 
 best-value-requires : tie.Need-best-value-requires
 best-value-requires c κs = let s0 = c .before .before .before .before .before .before .before .before in let s1 = c .before .before .before in (s1 .store .ensures, s0 .pre .0, s0 .pre .1, omega (arith, s0 .pre .2, s1 .store .kept .1 .0))
