@@ -263,7 +263,7 @@ chukkanalli_nash_conv_answer chukkanalli_nash_conv_units(
 
 /* How NashConv / units of one table stands to that of another, of any games, seats and d: -1 less, 0 equal, 1 greater; the lesser is closer to equilibrium.
  * Of any four numbers it compares nash_conv * other_units with other_nash_conv * units, as whole numbers. Units of 0, which no accepted call answers,
- * make it no order: 0 of 0 is equal to everything. */
+ * make it no order: 0 of 0 is equal to everything. Never refuses. */
 int64_t chukkanalli_compare(uint64_t nash_conv, uint64_t units, uint64_t other_nash_conv, uint64_t other_units);
 
 /* Values in f64. A profile lists an entry for each action, set after set in set order, any bits; products, sums and quotients are rounded in the order

@@ -26,12 +26,13 @@ struct Reader<'a> {
     /// The comment right above.
     comment: String,
     for_cpp: bool,
+    for_gcc: bool,
 }
 
 pub fn header(text: &str) -> Result<Header, String> {
     let interface = Interface { name: PATH.to_string(), ..Interface::default() };
     let header = Header { interface, said: BTreeMap::new(), above: BTreeMap::new(), lengths: Vec::new() };
-    let mut reader = Reader { tokens: tokens(PATH, text)?, next: 0, header, comment: String::new(), for_cpp: false };
+    let mut reader = Reader { tokens: tokens(PATH, text)?, next: 0, header, comment: String::new(), for_cpp: false, for_gcc: false };
     while reader.next < reader.tokens.len() {
         reader.declaration()?;
     }
@@ -95,6 +96,9 @@ impl<'a> Reader<'a> {
         if self.for_cpp {
             return self.linkage();
         }
+        if self.for_gcc {
+            return self.access();
+        }
         if self.take("enum") {
             return self.constants();
         }
@@ -112,7 +116,8 @@ impl<'a> Reader<'a> {
         match words.concat().as_str() {
             "ifndefCHUKKANALLI_H" | "defineCHUKKANALLI_H" | "include<stddef.h>" | "include<stdint.h>" => {}
             "ifdef__cplusplus" => self.for_cpp = true,
-            "endif" => self.for_cpp = false,
+            "ifdefined(__GNUC__)&&!defined(__clang__)&&__GNUC__>=11" => self.for_gcc = true,
+            "endif" => (self.for_cpp, self.for_gcc) = (false, false),
             _ => return self.error("a directive that is not known"),
         }
         Ok(())
@@ -143,7 +148,7 @@ impl<'a> Reader<'a> {
         loop {
             let name = self.constant_name()?;
             self.expect("=")?;
-            let value = number(self.kind(Kind::Number)?)?;
+            let value = self.value()?;
             if self.header.interface.constants.insert(name.clone(), value).is_some() {
                 return self.error("a constant stands twice");
             }
@@ -157,6 +162,40 @@ impl<'a> Reader<'a> {
                 return self.expect(";");
             }
         }
+    }
+
+    /// A number, or the product of two constants that stand above.
+    fn value(&mut self) -> Result<u64, String> {
+        if self.peek().is_some_and(|token| token.kind == Kind::Number) {
+            return number(self.kind(Kind::Number)?);
+        }
+        let left = self.known()?;
+        self.expect("*")?;
+        Ok(left * self.known()?)
+    }
+
+    fn known(&mut self) -> Result<u64, String> {
+        let name = self.constant_name()?;
+        match self.header.interface.constants.get(&name) {
+            Some(value) => Ok(*value),
+            None => self.error("a constant that stands above is expected"),
+        }
+    }
+
+    /// What is for gcc alone says again that a call is there, and which of its pointers it does not look behind.
+    fn access(&mut self) -> Result<(), String> {
+        for text in ["extern", "__typeof__", "("] {
+            self.expect(text)?;
+        }
+        let name = self.kind(Kind::Word)?.to_string();
+        for text in [")", name.as_str(), "__attribute__", "(", "(", "access", "(", "none", ","] {
+            self.expect(text)?;
+        }
+        self.kind(Kind::Number)?;
+        for text in [")", ")", ")", ";"] {
+            self.expect(text)?;
+        }
+        Ok(())
     }
 
     fn structure(&mut self) -> Result<(), String> {

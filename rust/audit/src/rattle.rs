@@ -14,7 +14,7 @@ pub const EXPORTS: &str = "chukkanalli";
 pub const REFUSALS: &str = "refusals";
 
 /// The header's constants that are no refusal numbers: the crate, and the constant there.
-const CONSTANTS: [(&str, &str, &str); 9] = [
+const CONSTANTS: [(&str, &str, &str); 10] = [
     ("PASS", "kuhn", "KuhnPoker::PASS"),
     ("BET", "kuhn", "KuhnPoker::BET"),
     ("FOLD", "leduc", "LeducPoker::FOLD"),
@@ -24,6 +24,7 @@ const CONSTANTS: [(&str, &str, &str); 9] = [
     ("KUHN_POKER", "games", "Game::KUHN"),
     ("LEDUC_POKER", "games", "Game::LEDUC"),
     ("RECORD", "listing_records", "RECORD"),
+    ("WORDS", "games", "Game::WORDS"),
 ];
 
 /// The files of crates/, each read once.
@@ -74,7 +75,7 @@ pub fn interface(sources: &Sources) -> Result<Interface, String> {
     Ok(side.interface)
 }
 
-/// The constants of the crate of refusal numbers.
+/// The constants of the crate of refusal numbers, which has functions on them too.
 pub fn refusal_numbers(sources: &Sources) -> Result<BTreeMap<String, u64>, String> {
     let path = format!("crates/{REFUSALS}/src/lib.rt");
     let mut numbers = BTreeMap::new();
@@ -85,6 +86,7 @@ pub fn refusal_numbers(sources: &Sources) -> Result<BTreeMap<String, u64>, Strin
                     number(&joined(&constant.value)).map_err(|error| format!("{path}:{}: {error}", item.line))?;
                 numbers.insert(constant.name.clone(), value);
             }
+            Form::GhostUse(_) | Form::Function(_) => {}
             _ => return Err(format!("{path}:{}: a public constant is expected", item.line)),
         }
     }
