@@ -1,4 +1,5 @@
--- What a call leaves of work memory (document 01, "Holding the evaluator to its hand": "Only work memory within 12 words per node is free after an accepted call").
+-- What a call leaves of work memory (document 01, "Holding the evaluator to its hand": "Only work memory within 12 words per node is
+-- free after an accepted call").
 use mathlib.Core.Path.{_≡_}
 use mathlib.Core.List.{List}
 use Prim.Native.Nat.{ℕ, zero, suc, _*_}

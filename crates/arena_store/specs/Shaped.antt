@@ -1,4 +1,5 @@
--- What holds of the games that numbers 1 to 3 let through, proved in proofs/Shaped.antt: the shape of their trees, and that a stored one can be walked.
+-- What holds of the games that numbers 1 to 3 let through, proved in proofs/Shaped.antt: the shape of their trees, and that a stored
+-- one can be walked.
 use mathlib.Core.Path.{_≡_}
 use mathlib.Core.List.{List}
 use Prim.Native.Nat.{ℕ, _+_, _≤_}
@@ -11,8 +12,8 @@ use Rattle.arena.specs.Index.{laterIn}
 use Rattle.arena.specs.Legible.{Legible}
 use Rattle.arena_store.specs.Stored.{Stored}
 
--- what a walk over its tree counts on: at most six seats and 2^21 nodes, at most 32 nodes on a path, their number above a decision by its key;
--- two or three actions at each decision, with entries inside a table; payoffs of at most 60
+-- what a walk over its tree counts on: at most six seats and 2^21 nodes, at most 32 nodes on a path, their number above a decision by
+-- its key; two or three actions at each decision, with entries inside a table; payoffs of at most 60
 pub record Shaped (g : Game) : Type 0 where
   pub least : 2 ≤ g .seats
   pub most : g .seats ≤ 6
@@ -27,4 +28,5 @@ Games-shaped = (g : Game) → Known g → Shaped g
 
 -- a stored tree can be walked, with entries for each of its sets
 abbrev pub Games-legible : Type 0
-Games-legible = (g : Game) (w : List ℕ) (E : ℕ) → Known g → Stored g w → E ≡ entries (treeOf g) → Legible (g .seats) (treeOf g) (laterIn (treeOf g)) w E 0 32 (treeOf g)
+Games-legible = (g : Game) (w : List ℕ) (E : ℕ) → Known g → Stored g w → E ≡ entries (treeOf g)
+    → Legible (g .seats) (treeOf g) (laterIn (treeOf g)) w E 0 32 (treeOf g)

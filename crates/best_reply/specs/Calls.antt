@@ -21,7 +21,8 @@ abbrev pub written : ℕ → Game → (seat D : ℕ) → Table → List ℕ → 
 written zero g seat D table out = replyTable (treeOf g) D (rootUnits g D) table seat ++ drop (entries (treeOf g)) out
 written (suc r) g seat D table out = out
 
--- of an accepted call: what stands at the front of the output is a valid table with every other seat's entries as given, it is worth the value to the seat, and no such table is worth more
+-- of an accepted call: what stands at the front of the output is a valid table with every other seat's entries as given, it is worth
+-- the value to the seat, and no such table is worth more
 abbrev pub Demand : ℕ → Game → (seat D : ℕ) → Table → (value : ℤ) (out : List ℕ) → Type 0
 Demand zero g seat D table value out = BestReply g D seat table value (take (entries (treeOf g)) out)
 Demand (suc r) g seat D table value out = Unit {0}

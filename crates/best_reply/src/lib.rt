@@ -44,7 +44,9 @@ pub fn best_reply(
     table: &[u8],
     out: &mut [u8],
 ) -> ReplyAnswer
-    ensures answer { λ r. ⌜ r ≡ answer (reply-refusal (gameOf number seats) (length (now (work .entry))) seat d (now (table .entry)) (length (now (out .entry)))) (gameOf number seats) seat d (now (table .entry)) ⌝ }
+    ensures answer { λ r. ⌜ r ≡ answer
+        (reply-refusal (gameOf number seats) (length (now (work .entry))) seat d (now (table .entry)) (length (now (out .entry))))
+        (gameOf number seats) seat d (now (table .entry)) ⌝ }
     ensures output { λ r. ⌜ now (out .exit) ≡ written (r .refusal) (gameOf number seats) seat d (now (table .entry)) (now (out .entry)) ⌝ }
     ensures best { λ r. ⌜ Demand (r .refusal) (gameOf number seats) seat d (now (table .entry)) (r .value) (now (out .exit)) ⌝ }
     ensures memory { λ r. ⌜ MemoryAfter (r .refusal) (gameOf number seats) (now (work .entry)) (now (work .exit)) ⌝ }

@@ -69,7 +69,8 @@ fn count_of(g: Game, asked: Asked) -> usize
 // The answer of each call, from what refuses it: its values from the tree built at the front of the work memory.
 fn call(g: Game, refusal: u64, work: &mut [u64], asked: Asked, profile: &[f64]) -> ValuesAnswer
     requires { ⌜ Settled (checksOf asked g (length (now work)) (length (now profile))) (PassedOf asked g (length (now work)) (now profile)) refusal ⌝ }
-    ensures { λ r. ⌜ (r ≡ answer (first (checksOf asked g (length (now (work .entry))) (length (now (profile .entry))))) (countOf asked g) (valuesOf asked g (now (profile .entry))))
+    ensures { λ r. ⌜ (r ≡ answer (first (checksOf asked g (length (now (work .entry))) (length (now (profile .entry)))))
+        (countOf asked g) (valuesOf asked g (now (profile .entry))))
         × MemoryAfter (r .refusal) g (now (work .entry)) (now (work .exit)) ⌝ }
 {
     if refusal != refusals::ACCEPTED {
@@ -96,7 +97,8 @@ pub fn best_response_value(
     seat: usize,
     profile: &[f64],
 ) -> ValuesAnswer
-    ensures answer { λ r. ⌜ r ≡ answer (value-refusal (gameOf number seats) (length (now (work .entry))) seat (length (now (profile .entry)))) 1 (single (bestOf (gameOf number seats) (now (profile .entry)) seat)) ⌝ }
+    ensures answer { λ r. ⌜ r ≡ answer (value-refusal (gameOf number seats) (length (now (work .entry))) seat (length (now (profile .entry))))
+        1 (single (bestOf (gameOf number seats) (now (profile .entry)) seat)) ⌝ }
     ensures memory { λ r. ⌜ MemoryAfter (r .refusal) (gameOf number seats) (now (work .entry)) (now (work .exit)) ⌝ }
 {
     let g = Game { number, seats };
@@ -111,7 +113,8 @@ pub fn best_response_values(
     work: &mut [u64],
     profile: &[f64],
 ) -> ValuesAnswer
-    ensures answer { λ r. ⌜ r ≡ answer (values-refusal (gameOf number seats) (length (now (work .entry))) (length (now (profile .entry)))) seats (bestsOf (gameOf number seats) (now (profile .entry))) ⌝ }
+    ensures answer { λ r. ⌜ r ≡ answer (values-refusal (gameOf number seats) (length (now (work .entry))) (length (now (profile .entry))))
+        seats (bestsOf (gameOf number seats) (now (profile .entry))) ⌝ }
     ensures memory { λ r. ⌜ MemoryAfter (r .refusal) (gameOf number seats) (now (work .entry)) (now (work .exit)) ⌝ }
 {
     let g = Game { number, seats };
@@ -126,7 +129,8 @@ pub fn profile_values(
     work: &mut [u64],
     profile: &[f64],
 ) -> ValuesAnswer
-    ensures answer { λ r. ⌜ r ≡ answer (values-refusal (gameOf number seats) (length (now (work .entry))) (length (now (profile .entry)))) seats (worthsOf (gameOf number seats) (now (profile .entry))) ⌝ }
+    ensures answer { λ r. ⌜ r ≡ answer (values-refusal (gameOf number seats) (length (now (work .entry))) (length (now (profile .entry))))
+        seats (worthsOf (gameOf number seats) (now (profile .entry))) ⌝ }
     ensures memory { λ r. ⌜ MemoryAfter (r .refusal) (gameOf number seats) (now (work .entry)) (now (work .exit)) ⌝ }
 {
     let g = Game { number, seats };
@@ -136,7 +140,8 @@ pub fn profile_values(
 
 // NashConv of a profile: the sum of best response value − worth by seat.
 pub fn nash_conv(number: usize, seats: usize, work: &mut [u64], profile: &[f64]) -> ValuesAnswer
-    ensures answer { λ r. ⌜ r ≡ answer (values-refusal (gameOf number seats) (length (now (work .entry))) (length (now (profile .entry)))) 1 (single (nashConvOf (gameOf number seats) (now (profile .entry)))) ⌝ }
+    ensures answer { λ r. ⌜ r ≡ answer (values-refusal (gameOf number seats) (length (now (work .entry))) (length (now (profile .entry))))
+        1 (single (nashConvOf (gameOf number seats) (now (profile .entry)))) ⌝ }
     ensures memory { λ r. ⌜ MemoryAfter (r .refusal) (gameOf number seats) (now (work .entry)) (now (work .exit)) ⌝ }
 {
     let g = Game { number, seats };
@@ -151,7 +156,8 @@ pub fn exploitability(
     work: &mut [u64],
     profile: &[f64],
 ) -> ValuesAnswer
-    ensures answer { λ r. ⌜ r ≡ answer (values-refusal (gameOf number seats) (length (now (work .entry))) (length (now (profile .entry)))) 1 (single (exploitabilityOf (gameOf number seats) (now (profile .entry)))) ⌝ }
+    ensures answer { λ r. ⌜ r ≡ answer (values-refusal (gameOf number seats) (length (now (work .entry))) (length (now (profile .entry))))
+        1 (single (exploitabilityOf (gameOf number seats) (now (profile .entry)))) ⌝ }
     ensures memory { λ r. ⌜ MemoryAfter (r .refusal) (gameOf number seats) (now (work .entry)) (now (work .exit)) ⌝ }
 {
     let g = Game { number, seats };

@@ -17,7 +17,8 @@ pub extern "C" fn chukkanalli_best_response_value(
     seat: u64,
     profile: &[f64],
 ) -> ValuesAnswer
-    ensures answer { λ r. ⌜ r ≡ Response.answer (value-refusal (gameOf game seats) (length (now (work .entry))) seat (length (now (profile .entry)))) 1 (Response.single (bestOf (gameOf game seats) (now (profile .entry)) seat)) ⌝ }
+    ensures answer { λ r. ⌜ r ≡ Response.answer (value-refusal (gameOf game seats) (length (now (work .entry))) seat (length (now (profile .entry))))
+        1 (Response.single (bestOf (gameOf game seats) (now (profile .entry)) seat)) ⌝ }
     ensures memory { λ r. ⌜ MemoryAfter (r .refusal) (gameOf game seats) (now (work .entry)) (now (work .exit)) ⌝ }
 {
     best_response::best_response_value(game as usize, seats as usize, work, seat as usize, profile)
@@ -31,7 +32,8 @@ pub extern "C" fn chukkanalli_best_response_values(
     work: &mut [u64],
     profile: &[f64],
 ) -> ValuesAnswer
-    ensures answer { λ r. ⌜ r ≡ Response.answer (values-refusal (gameOf game seats) (length (now (work .entry))) (length (now (profile .entry)))) seats (bestsOf (gameOf game seats) (now (profile .entry))) ⌝ }
+    ensures answer { λ r. ⌜ r ≡ Response.answer (values-refusal (gameOf game seats) (length (now (work .entry))) (length (now (profile .entry))))
+        seats (bestsOf (gameOf game seats) (now (profile .entry))) ⌝ }
     ensures memory { λ r. ⌜ MemoryAfter (r .refusal) (gameOf game seats) (now (work .entry)) (now (work .exit)) ⌝ }
 {
     best_response::best_response_values(game as usize, seats as usize, work, profile)
@@ -45,7 +47,8 @@ pub extern "C" fn chukkanalli_profile_values(
     work: &mut [u64],
     profile: &[f64],
 ) -> ValuesAnswer
-    ensures answer { λ r. ⌜ r ≡ Response.answer (values-refusal (gameOf game seats) (length (now (work .entry))) (length (now (profile .entry)))) seats (worthsOf (gameOf game seats) (now (profile .entry))) ⌝ }
+    ensures answer { λ r. ⌜ r ≡ Response.answer (values-refusal (gameOf game seats) (length (now (work .entry))) (length (now (profile .entry))))
+        seats (worthsOf (gameOf game seats) (now (profile .entry))) ⌝ }
     ensures memory { λ r. ⌜ MemoryAfter (r .refusal) (gameOf game seats) (now (work .entry)) (now (work .exit)) ⌝ }
 {
     best_response::profile_values(game as usize, seats as usize, work, profile)
@@ -59,7 +62,8 @@ pub extern "C" fn chukkanalli_nash_conv(
     work: &mut [u64],
     profile: &[f64],
 ) -> ValuesAnswer
-    ensures answer { λ r. ⌜ r ≡ Response.answer (values-refusal (gameOf game seats) (length (now (work .entry))) (length (now (profile .entry)))) 1 (Response.single (nashConvOf (gameOf game seats) (now (profile .entry)))) ⌝ }
+    ensures answer { λ r. ⌜ r ≡ Response.answer (values-refusal (gameOf game seats) (length (now (work .entry))) (length (now (profile .entry))))
+        1 (Response.single (nashConvOf (gameOf game seats) (now (profile .entry)))) ⌝ }
     ensures memory { λ r. ⌜ MemoryAfter (r .refusal) (gameOf game seats) (now (work .entry)) (now (work .exit)) ⌝ }
 {
     best_response::nash_conv(game as usize, seats as usize, work, profile)
@@ -73,7 +77,8 @@ pub extern "C" fn chukkanalli_exploitability(
     work: &mut [u64],
     profile: &[f64],
 ) -> ValuesAnswer
-    ensures answer { λ r. ⌜ r ≡ Response.answer (values-refusal (gameOf game seats) (length (now (work .entry))) (length (now (profile .entry)))) 1 (Response.single (exploitabilityOf (gameOf game seats) (now (profile .entry)))) ⌝ }
+    ensures answer { λ r. ⌜ r ≡ Response.answer (values-refusal (gameOf game seats) (length (now (work .entry))) (length (now (profile .entry))))
+        1 (Response.single (exploitabilityOf (gameOf game seats) (now (profile .entry)))) ⌝ }
     ensures memory { λ r. ⌜ MemoryAfter (r .refusal) (gameOf game seats) (now (work .entry)) (now (work .exit)) ⌝ }
 {
     best_response::exploitability(game as usize, seats as usize, work, profile)

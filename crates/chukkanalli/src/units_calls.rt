@@ -20,7 +20,8 @@ pub extern "C" fn chukkanalli_worths(
     d: u64,
     table: &[u8],
 ) -> WorthsAnswer
-    ensures answer { λ r. ⌜ r ≡ Worths.answer (evaluation-refusal (gameOf game seats) (length (now (work .entry))) d (now (table .entry))) (gameOf game seats) d (now (table .entry)) ⌝ }
+    ensures answer { λ r. ⌜ r ≡ Worths.answer (evaluation-refusal (gameOf game seats) (length (now (work .entry))) d (now (table .entry)))
+        (gameOf game seats) d (now (table .entry)) ⌝ }
     ensures memory { λ r. ⌜ MemoryAfter (r .refusal) (gameOf game seats) (now (work .entry)) (now (work .exit)) ⌝ }
 {
     worths::worths(game as usize, seats as usize, work, d as usize, table)
@@ -37,7 +38,9 @@ pub extern "C" fn chukkanalli_best_reply(
     table: &[u8],
     out: &mut [u8],
 ) -> ReplyAnswer
-    ensures answer { λ r. ⌜ r ≡ Reply.answer (reply-refusal (gameOf game seats) (length (now (work .entry))) seat d (now (table .entry)) (length (now (out .entry)))) (gameOf game seats) seat d (now (table .entry)) ⌝ }
+    ensures answer { λ r. ⌜ r ≡ Reply.answer
+        (reply-refusal (gameOf game seats) (length (now (work .entry))) seat d (now (table .entry)) (length (now (out .entry))))
+        (gameOf game seats) seat d (now (table .entry)) ⌝ }
     ensures output { λ r. ⌜ now (out .exit) ≡ Reply.written (r .refusal) (gameOf game seats) seat d (now (table .entry)) (now (out .entry)) ⌝ }
     ensures best { λ r. ⌜ Reply.Demand (r .refusal) (gameOf game seats) seat d (now (table .entry)) (r .value) (now (out .exit)) ⌝ }
     ensures memory { λ r. ⌜ MemoryAfter (r .refusal) (gameOf game seats) (now (work .entry)) (now (work .exit)) ⌝ }
@@ -62,7 +65,8 @@ pub extern "C" fn chukkanalli_nash_conv_units(
     d: u64,
     table: &[u8],
 ) -> NashConvAnswer
-    ensures answer { λ r. ⌜ r ≡ Conv.answer (evaluation-refusal (gameOf game seats) (length (now (work .entry))) d (now (table .entry))) (gameOf game seats) d (now (table .entry)) ⌝ }
+    ensures answer { λ r. ⌜ r ≡ Conv.answer (evaluation-refusal (gameOf game seats) (length (now (work .entry))) d (now (table .entry)))
+        (gameOf game seats) d (now (table .entry)) ⌝ }
     ensures whole { λ r. ⌜ Conv.Whole r (gameOf game seats) d (now (table .entry)) ⌝ }
     ensures memory { λ r. ⌜ MemoryAfter (r .refusal) (gameOf game seats) (now (work .entry)) (now (work .exit)) ⌝ }
 {

@@ -1,4 +1,5 @@
--- What the listing call answers and leaves (document 01, "The tree and its sets": "Listing writes 24 bytes per set ... Its answer carries node and set counts").
+-- What the listing call answers and leaves (document 01, "The tree and its sets": "Listing writes 24 bytes per set ... Its answer
+-- carries node and set counts").
 use mathlib.Core.Bool.{cond}
 use mathlib.Core.List.{List, _++_}
 use Prim.Native.Nat.{ℕ, zero, suc}

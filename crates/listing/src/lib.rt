@@ -36,7 +36,8 @@ pub fn enumerate_infosets(
     work: &[u64],
     out: &mut [u8],
 ) -> ListingAnswer
-    ensures answer { λ r. ⌜ r ≡ answer (listing-refusal (gameOf number seats) (length (now (work .entry))) (length (now (out .entry)))) (gameOf number seats) ⌝ }
+    ensures answer { λ r. ⌜ r ≡ answer (listing-refusal (gameOf number seats) (length (now (work .entry))) (length (now (out .entry))))
+        (gameOf number seats) ⌝ }
     ensures output { λ r. ⌜ now (out .exit) ≡ written (r .refusal) (gameOf number seats) (now (out .entry)) ⌝ }
 {
     let g = Game { number, seats };

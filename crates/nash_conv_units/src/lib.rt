@@ -15,7 +15,8 @@ ghost use Rattle.arena_store.specs.Stored.{Stored};
 ghost use Rattle.units_worths.specs.Worths.{worthsOf};
 ghost use Rattle.nash_conv_units.specs.Calls.{answer, Whole};
 
-// A call's refusal number, 0 if it was accepted, NashConv, and the units of the root that it is measured in; every number but the first is 0 if it was refused. C has it as it is.
+// A call's refusal number, 0 if it was accepted, NashConv, and the units of the root that it is measured in; every number but the first is 0 if it was refused.
+// C has it as it is.
 #[repr(C)]
 pub struct NashConvAnswer {
     pub refusal: u64,
@@ -40,8 +41,10 @@ fn seat_excess(
     table: &[u8],
     worths: [i64; 6],
 ) -> u64
-    requires { ⌜ Stored g (now words) × AcceptedTable g d (now table) × (seat < g .seats) × (12 * nodesOf g ≤ length (now words)) × (worths ≡ worthsOf g d (now table)) ⌝ }
-    ensures { λ r. ⌜ (pos r ≡ tableBest (treeOf g) d (rootUnits g d) (now (table .entry)) seat -ℤ tableWorth (treeOf g) d (rootUnits g d) (now (table .entry)) seat) × Stored g (now (words .exit)) ⌝ }
+    requires { ⌜ Stored g (now words) × AcceptedTable g d (now table) × (seat < g .seats) × (12 * nodesOf g ≤ length (now words))
+        × (worths ≡ worthsOf g d (now table)) ⌝ }
+    ensures { λ r. ⌜ (pos r ≡ tableBest (treeOf g) d (rootUnits g d) (now (table .entry)) seat
+        -ℤ tableWorth (treeOf g) d (rootUnits g d) (now (table .entry)) seat) × Stored g (now (words .exit)) ⌝ }
 {
     let worth = worths[seat];
     let best = units_best::best_value(g, words, seat, d, table);
@@ -65,7 +68,8 @@ fn evaluate(g: Game, words: &mut [u64], d: usize, table: &[u8]) -> u64
     sum
 }
 
-// NashConv of a table with d parts in each set: the sum of best value − worth over the seats, in whole units. The tree is built at the front of the work memory, which has 12 words for each node.
+// NashConv of a table with d parts in each set: the sum of best value − worth over the seats, in whole units. The tree is built at the front of the work
+// memory, which has 12 words for each node.
 pub fn nash_conv_units(
     number: usize,
     seats: usize,
@@ -73,7 +77,8 @@ pub fn nash_conv_units(
     d: usize,
     table: &[u8],
 ) -> NashConvAnswer
-    ensures answer { λ r. ⌜ r ≡ answer (evaluation-refusal (gameOf number seats) (length (now (work .entry))) d (now (table .entry))) (gameOf number seats) d (now (table .entry)) ⌝ }
+    ensures answer { λ r. ⌜ r ≡ answer (evaluation-refusal (gameOf number seats) (length (now (work .entry))) d (now (table .entry)))
+        (gameOf number seats) d (now (table .entry)) ⌝ }
     ensures whole { λ r. ⌜ Whole r (gameOf number seats) d (now (table .entry)) ⌝ }
     ensures memory { λ r. ⌜ MemoryAfter (r .refusal) (gameOf number seats) (now (work .entry)) (now (work .exit)) ⌝ }
 {

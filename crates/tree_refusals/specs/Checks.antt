@@ -1,5 +1,5 @@
--- The checks of a call that needs a game's tree (document 01, numbers 1 to 9), each by its number, and for each call the list of those that concern its inputs, in
--- the paper's order.
+-- The checks of a call that needs a game's tree (document 01, numbers 1 to 9), each by its number, and for each call the list of
+-- those that concern its inputs, in the paper's order.
 use mathlib.Core.Bool.{not}
 use mathlib.Core.List.{List, [], _∷_, _++_}
 use Prim.Native.Nat.{ℕ, _*_}
@@ -65,7 +65,8 @@ evaluation-checks g memory D table = tree-checks g memory ++ (parts-check g D �
 -- one seat of a table, into an output for a table
 abbrev pub reply-checks : Game → (memory seat D : ℕ) → Table → (room : ℕ) → List Check
 reply-checks g memory seat D table room =
-    tree-checks g memory ++ (seat-check g seat ∷ parts-check g D ∷ length-check g (length table) ∷ sum-check g D table ∷ output-check (entries (treeOf g)) room ∷ [])
+    tree-checks g memory ++ (seat-check g seat ∷ parts-check g D ∷ length-check g (length table) ∷ sum-check g D table
+    ∷ output-check (entries (treeOf g)) room ∷ [])
 
 -- one seat of a profile of n entries
 abbrev pub value-checks : Game → (memory seat n : ℕ) → List Check

@@ -109,7 +109,8 @@ fn adds_up(g: Game, table: &[u8], d: usize) -> bool
 // 7 and 8: what refuses a table with d parts in each set.
 pub fn table_refusal(g: Game, d: usize, table: &[u8]) -> u64
     requires { ⌜ Known g ⌝ }
-    ensures { λ r. ⌜ Settled (length-check g (length (now (table .entry))) ∷ sum-check g d (now (table .entry)) ∷ []) (ValidTable (treeOf g) d (now (table .entry))) r ⌝ }
+    ensures { λ r. ⌜ Settled (length-check g (length (now (table .entry))) ∷ sum-check g d (now (table .entry)) ∷ [])
+        (ValidTable (treeOf g) d (now (table .entry))) r ⌝ }
 {
     let refusal = length_refusal(g, table.len());
     if refusal != refusals::ACCEPTED {

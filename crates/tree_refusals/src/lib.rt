@@ -1,5 +1,5 @@
-// What refuses a call that needs a game's tree, settled before a word of work memory is written. The checks of the tree come first; behind them each check stands
-// by itself, and the earliest refusal decides.
+// What refuses a call that needs a game's tree, settled before a word of work memory is written. The checks of the tree come first; behind them each stands by
+// itself, and the earliest refusal decides.
 pub mod checks;
 
 use crate::checks::length_refusal;
@@ -33,7 +33,8 @@ pub fn listing_refusal(g: Game, memory: usize, room: usize) -> u64
 
 // What refuses a call that evaluates all seats of a table with d parts in each set: 1 to 4, then 6 to 8.
 pub fn evaluation_refusal(g: Game, memory: usize, d: usize, table: &[u8]) -> u64
-    ensures { λ r. ⌜ Settled (evaluation-checks g memory d (now (table .entry))) (AcceptedTable g d (now (table .entry)) × (12 * nodesOf g ≤ memory)) r ⌝ }
+    ensures { λ r. ⌜ Settled (evaluation-checks g memory d (now (table .entry)))
+        (AcceptedTable g d (now (table .entry)) × (12 * nodesOf g ≤ memory)) r ⌝ }
 {
     let refusal = tree_refusal(g, memory);
     if refusal != refusals::ACCEPTED {
@@ -67,7 +68,8 @@ pub fn reply_refusal(
 
 // What refuses a call that evaluates one seat of a profile: 1 to 5, then 7.
 pub fn value_refusal(g: Game, memory: usize, seat: usize, profile: &[f64]) -> u64
-    ensures { λ r. ⌜ Settled (value-checks g memory seat (length (now (profile .entry)))) (AcceptedProfile g (now (profile .entry)) × (12 * nodesOf g ≤ memory) × (seat < g .seats)) r ⌝ }
+    ensures { λ r. ⌜ Settled (value-checks g memory seat (length (now (profile .entry))))
+        (AcceptedProfile g (now (profile .entry)) × (12 * nodesOf g ≤ memory) × (seat < g .seats)) r ⌝ }
 {
     let refusal = tree_refusal(g, memory);
     if refusal != refusals::ACCEPTED {
@@ -79,7 +81,8 @@ pub fn value_refusal(g: Game, memory: usize, seat: usize, profile: &[f64]) -> u6
 
 // What refuses a call that evaluates all its seats: 1 to 4, then 7.
 pub fn values_refusal(g: Game, memory: usize, profile: &[f64]) -> u64
-    ensures { λ r. ⌜ Settled (values-checks g memory (length (now (profile .entry)))) (AcceptedProfile g (now (profile .entry)) × (12 * nodesOf g ≤ memory)) r ⌝ }
+    ensures { λ r. ⌜ Settled (values-checks g memory (length (now (profile .entry))))
+        (AcceptedProfile g (now (profile .entry)) × (12 * nodesOf g ≤ memory)) r ⌝ }
 {
     let refusal = tree_refusal(g, memory);
     if refusal != refusals::ACCEPTED {

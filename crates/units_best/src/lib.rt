@@ -24,7 +24,8 @@ ghost use Rattle.units_best.specs.Staged.{Staged};
 // The best value of a seat against a table that is not refused.
 pub fn best_value(g: Game, words: &mut [u64], seat: usize, d: usize, table: &[u8]) -> i64
     requires { ⌜ Stored g (now words) × AcceptedTable g d (now table) × (seat < g .seats) × (12 * nodesOf g ≤ length (now words)) ⌝ }
-    ensures { λ r. ⌜ (r ≡ tableBest (treeOf g) d (rootUnits g d) (now (table .entry)) seat) × Unbeaten g d seat (now (table .entry)) r × Staged g d seat (now (table .entry)) (now (words .exit)) × Stored g (now (words .exit)) ⌝ }
+    ensures { λ r. ⌜ (r ≡ tableBest (treeOf g) d (rootUnits g d) (now (table .entry)) seat) × Unbeaten g d seat (now (table .entry)) r
+        × Staged g d seat (now (table .entry)) (now (words .exit)) × Stored g (now (words .exit)) ⌝ }
 {
     let at = places_of(g);
     let u = root_units(g, d);
@@ -38,7 +39,8 @@ pub fn best_value(g: Game, words: &mut [u64], seat: usize, d: usize, table: &[u8
 pub fn best_table(g: Game, words: &mut [u64], seat: usize, d: usize, table: &[u8], out: &mut [u8])
     requires { ⌜ Staged g d seat (now table) (now words) × AcceptedTable g d (now table) × (seat < g .seats) ⌝ }
     ensures { λ _. ⌜ (now (out .exit) ≡ sets (now (out .entry)) 0 (replyTable (treeOf g) d (rootUnits g d) (now (table .entry)) seat))
-        × BestReply g d seat (now (table .entry)) (tableBest (treeOf g) d (rootUnits g d) (now (table .entry)) seat) (replyTable (treeOf g) d (rootUnits g d) (now (table .entry)) seat) ⌝ }
+        × BestReply g d seat (now (table .entry)) (tableBest (treeOf g) d (rootUnits g d) (now (table .entry)) seat)
+        (replyTable (treeOf g) d (rootUnits g d) (now (table .entry)) seat) ⌝ }
 {
     let at = places_of(g);
     write_reply(

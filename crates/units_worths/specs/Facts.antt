@@ -1,4 +1,5 @@
--- What holds of whole units in the games that numbers 1 to 3 let through, proved in proofs/Facts.antt: 64 bits hold them, and a walk can read a valid table.
+-- What holds of whole units in the games that numbers 1 to 3 let through, proved in proofs/Facts.antt: 64 bits hold them, and a walk
+-- can read a valid table.
 use mathlib.Core.List.{List}
 use Prim.Native.Nat.{ℕ, _*_, _^_, _≤_, _<_}
 use Rattle.game_tree.specs.Table.{Table, ValidTable}

@@ -11,7 +11,8 @@ ghost use Rattle.tree_refusals.specs.Accepted.{AcceptedTable};
 ghost use Rattle.arena_store.specs.Memory.{MemoryAfter};
 ghost use Rattle.worths.specs.Calls.{answer};
 
-// A call's refusal number, 0 if it was accepted, and the worth of each of count seats, 0 past them; every number but the first is 0 if it was refused. C has it as it is.
+// A call's refusal number, 0 if it was accepted, and the worth of each of count seats, 0 past them; every number but the first is 0 if it was refused. C has it
+// as it is.
 #[repr(C)]
 pub struct WorthsAnswer {
     pub refusal: u64,
@@ -28,9 +29,11 @@ fn evaluate(g: Game, words: &mut [u64], d: usize, table: &[u8]) -> [i64; 6]
     units_worths::worths::table_worths(g, words, d, table)
 }
 
-// What a table with d parts in each set is worth to each seat, in whole units. The tree is built at the front of the work memory, which has 12 words for each node.
+// What a table with d parts in each set is worth to each seat, in whole units. The tree is built at the front of the work memory, which has 12 words for each
+// node.
 pub fn worths(number: usize, seats: usize, work: &mut [u64], d: usize, table: &[u8]) -> WorthsAnswer
-    ensures answer { λ r. ⌜ r ≡ answer (evaluation-refusal (gameOf number seats) (length (now (work .entry))) d (now (table .entry))) (gameOf number seats) d (now (table .entry)) ⌝ }
+    ensures answer { λ r. ⌜ r ≡ answer (evaluation-refusal (gameOf number seats) (length (now (work .entry))) d (now (table .entry)))
+        (gameOf number seats) d (now (table .entry)) ⌝ }
     ensures memory { λ r. ⌜ MemoryAfter (r .refusal) (gameOf number seats) (now (work .entry)) (now (work .exit)) ⌝ }
 {
     let g = Game { number, seats };
