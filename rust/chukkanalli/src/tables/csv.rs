@@ -60,10 +60,10 @@ fn quoted_cell(opened: &str, separator: char) -> Result<(Cow<'_, str>, &str), &'
     }
 }
 
-/// The comment that a line is, as it stands or in a cell with quotes.
+/// The comment that a line is, as it stands or in a cell with quotes, without the empty cells behind it.
 pub fn comment_in(line: &str) -> Option<&str> {
     let quoted = || line.trim_start().strip_prefix('"')?.trim_start().strip_prefix('#')?.split('"').next();
-    comment_line(line).or_else(quoted)
+    comment_line(line).or_else(quoted).map(|comment| comment.trim_end_matches(SEPARATORS))
 }
 
 /// The separator of a CSV file; none for any other text. Its first line that is no comment begins with the label column's name, or with
@@ -215,6 +215,14 @@ mod tests {
         {
             assert_eq!(separator_of(text), None, "{text}");
         }
+    }
+
+    #[test]
+    fn a_comment_may_stand_in_a_cell() {
+        for line in ["# Kuhn with 2 seats, D 4", "# Kuhn with 2 seats, D 4;;", "\"# Kuhn with 2 seats, D 4\",,"] {
+            assert_eq!(comment_in(line), Some(" Kuhn with 2 seats, D 4"), "{line}");
+        }
+        assert_eq!((comment_in("set,PASS"), comment_in("\"set\",#")), (None, None));
     }
 
     #[test]

@@ -34,7 +34,7 @@ pub fn by_labels<T: Number>(
     for (place, row) in rows.rows.iter().enumerate() {
         let numbers = &rows.numbers[rows.places(place)];
         match row.label {
-            Label::None => faults.add(Some(row.line), || without_label::<T>(numbers.len())),
+            Label::None if !row.spoiled => faults.add(Some(row.line), || without_label::<T>(numbers.len())),
             Label::Of(set) if !row.spoiled => hold_count(row, set, numbers, labels, &mut faults),
             _ => {}
         }
