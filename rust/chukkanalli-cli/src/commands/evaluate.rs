@@ -21,16 +21,9 @@ pub struct Evaluation {
 }
 
 impl Evaluation {
-    fn of(evaluator: &mut Evaluator, d: u64, parts: &[u8]) -> Result<Self, Refusal> {
+    pub fn of(evaluator: &mut Evaluator, d: u64, parts: &[u8]) -> Result<Self, Refusal> {
         let (worths, best) = (evaluator.worths(d, parts)?, best_values(evaluator, d, parts)?);
         Ok(Evaluation { worths, best, conv: evaluator.nash_conv_units(d, parts)? })
-    }
-
-    /// The same in half the time, where the units of the game with D are known: NashConv is the sum of the gains.
-    pub fn with_units(evaluator: &mut Evaluator, d: u64, parts: &[u8], units: u64) -> Result<Self, Refusal> {
-        let (worths, best) = (evaluator.worths(d, parts)?, best_values(evaluator, d, parts)?);
-        let nash_conv = worths.iter().zip(&best).map(|(worth, best)| best.abs_diff(*worth)).sum();
-        Ok(Evaluation { worths, best, conv: NashConv { nash_conv, units } })
     }
 
     /// Each seat with its worth and its best value.

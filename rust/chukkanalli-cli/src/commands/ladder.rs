@@ -1,7 +1,6 @@
 //! `ladder`: tables in order of NashConv.
 
 use std::path::PathBuf;
-use std::sync::OnceLock;
 
 use chukkanalli::tables::{game_words, Faults, ReadBy};
 use chukkanalli::{Evaluator, Game, NashConv, Refusal};
@@ -32,10 +31,9 @@ pub fn run(setting: Option<Setting>, tables: &[PathBuf], options: &Options, cons
     let frame = Frame { verb: Verb::Ladder, format: options.format, game, d: Some(d), seat: None, any: false };
     let names: Vec<String> = batch.sources.iter().map(|source| source.name.clone()).collect();
     let mut standing = Standing { ranked: Vec::new(), unranked: Vec::new() };
-    let units = OnceLock::new();
     batch.evaluate(
         console,
-        |evaluator, parts| evaluate(evaluator, d, parts, options.format, &units),
+        |evaluator, parts| evaluate(evaluator, d, parts, options.format),
         |console, place, outcome| {
             let name = names[place].clone();
             match outcome {
@@ -62,25 +60,17 @@ pub fn run(setting: Option<Setting>, tables: &[PathBuf], options: &Options, cons
     Ok(status)
 }
 
-/// NashConv of a table, and for software what it is worth to each seat. The units depend on the game and D alone.
+/// NashConv of a table, and for software what it is worth to each seat.
 fn evaluate(
     evaluator: &mut Evaluator,
     d: u64,
     parts: &[u8],
     format: Format,
-    units: &OnceLock<u64>,
 ) -> Result<(NashConv, Vec<Members>), Refusal> {
     if format == Format::Text {
         return Ok((evaluator.nash_conv_units(d, parts)?, Vec::new()));
     }
-    let units = match units.get() {
-        Some(&units) => units,
-        None => {
-            let conv = evaluator.nash_conv_units(d, parts)?;
-            *units.get_or_init(|| conv.units)
-        }
-    };
-    let evaluation = Evaluation::with_units(evaluator, d, parts, units)?;
+    let evaluation = Evaluation::of(evaluator, d, parts)?;
     Ok((evaluation.conv, evaluation.seat_values()))
 }
 
