@@ -34,9 +34,11 @@ action-refusal-requires : tie.Need-action-refusal-requires Inv-loop μ-loop
 action-refusal-requires c κs = search needs
 
 returns : tie.Need-returns Inv-loop μ-loop
-returns c =
-    let here : c .before .action-refusal .result ≡ first (action-checks (c .before .before .before .before .before .before .before .before .args .barred) (c .before .before .before .before .before .before .before .before .args .blind) (take (c .before .before .before .before .before .before .loop .i) (c .before .before .before .before .before .before .before .before .args .h .now)) (getD (c .before .before .before .before .before .before .before .before .args .h .now) (c .before .before .before .before .before .before .loop .i) 0 ∷ [])) = c .before .action-refusal .ensures ∙ ap (λ a. first (action-checks (c .before .before .before .before .before .before .before .before .args .barred) (c .before .before .before .before .before .before .before .before .args .blind) (take (c .before .before .before .before .before .before .loop .i) (c .before .before .before .before .before .before .before .before .args .h .now)) (a ∷ []))) (c .before .before .wide .ensures) in
-    here ∙ sym (c .before .before .before .before .before .before .loop .inv .1 ∙ action-stops _ _ (c .before .before .before .before .before .before .before .before .args .h .now) (c .before .before .before .before .before .before .loop .i) (omega arith) (λ e. c .if1 .taken (here ∙ e)))
+returns c = let s1 = c .before in let s0 = s1 .before .before .before .before .before in let args = s0 .before .before .args in
+    let here : s1.action-refusal.result ≡ first
+    (action-checks args.barred args.blind (take s0.loop.i args.h.now) (getD args.h.now s0.loop.i 0 ∷ [])) = s1.action-refusal.ensures ∙
+    ap (λ a. first (action-checks args.barred args.blind (take s0.loop.i args.h.now) (a ∷ []))) s1.before.wide.ensures in
+    here ∙ sym (s0.loop.inv.1 ∙ action-stops _ _ args.h.now s0.loop.i (omega arith) (λ e. c.if1.taken (here ∙ e)))
 
 add-i : tie.Need-add-i Inv-loop μ-loop
 add-i c = omega arith
@@ -45,26 +47,16 @@ loop-less : tie.Need-loop-less Inv-loop μ-loop
 loop-less c = omega arith
 
 loop-again : tie.Need-loop-again Inv-loop μ-loop
-loop-again c =
-    let here : c .before .action-refusal .result ≡ first (action-checks (c .before .before .before .before .before .before .before .before .args .barred) (c .before .before .before .before .before .before .before .before .args .blind) (take (c .before .before .before .before .before .before .loop .i) (c .before .before .before .before .before .before .before .before .args .h .now)) (getD (c .before .before .before .before .before .before .before .before .args .h .now) (c .before .before .before .before .before .before .loop .i) 0 ∷ [])) = c .before .action-refusal .ensures ∙ ap (λ a. first (action-checks (c .before .before .before .before .before .before .before .before .args .barred) (c .before .before .before .before .before .before .before .before .args .blind) (take (c .before .before .before .before .before .before .loop .i) (c .before .before .before .before .before .before .before .before .args .h .now)) (a ∷ []))) (c .before .before .wide .ensures) in
-    (omega arith, c .before .before .before .before .before .before .loop .inv .1 ∙ action-passes _ _ (c .before .before .before .before .before .before .before .before .args .h .now) (c .before .before .before .before .before .before .loop .i) (omega arith) (sym here ∙ c .if1 .left))
+loop-again c = let s1 = c .before in let s0 = s1 .before .before .before .before .before in let args = s0 .before .before .args in
+    let here : s1.action-refusal.result ≡ first
+    (action-checks args.barred args.blind (take s0.loop.i args.h.now) (getD args.h.now s0.loop.i 0 ∷ [])) = s1.action-refusal.ensures ∙
+    ap (λ a. first (action-checks args.barred args.blind (take s0.loop.i args.h.now) (a ∷ []))) s1.before.wide.ensures in
+    (omega arith, s0.loop.inv.1 ∙ action-passes _ _ args.h.now s0.loop.i (omega arith) (sym here ∙ c.if1.left))
 
 returns-2 : tie.Need-returns-2 Inv-loop μ-loop
-returns-2 c = sym (c .before .loop .inv .1 ∙ actions-end _ _ (c .before .before .before .args .h .now) (c .before .loop .i) (omega arith))
+returns-2 c = sym (c.before.loop.inv.1 ∙ actions-end _ _ c.before.before.before.args.h.now c.before.loop.i (omega arith))
 
 pub round-refusal-spec : {M : Type 1} → statement M
 round-refusal-spec =
-    tie.close
-    (tie.spec
-    Inv-loop
-    μ-loop
-    loop-holds
-    slice-aggregate-action-refusal
-    shared-slice-read-wide
-    wide-requires
-    action-refusal-requires
-    returns
-    add-i
-    loop-less
-    loop-again
-    returns-2)
+    tie.close (tie.spec Inv-loop μ-loop loop-holds slice-aggregate-action-refusal shared-slice-read-wide wide-requires action-refusal-requires returns
+    add-i loop-less loop-again returns-2)

@@ -17,32 +17,27 @@ returns : tie.Need-returns
 returns c = search needs
 
 mul-if2 : tie.Need-mul-if2
-mul-if2 c = let s0 = c .before .before .before .before in record { fits = omega (arith, even-few (s0 .args .u) (s0 .args .each) (s0 .args .d) (s0 .pre .1) (s0 .pre .4), s0 .pre .1) }
+mul-if2 c = let s0 = c .before .before .before .before in
+    record { fits = omega (arith, even-few s0.args.u s0.args.each s0.args.d s0.pre.1 s0.pre.4, s0.pre.1) }
 
 mul-result : tie.Need-mul-result
-mul-result c = let s0 = c .before .before .before .before .before in record { fits = omega (arith, even-part (s0 .args .u) (s0 .args .each) (c .before .before .wide .result) (s0 .args .d) (s0 .pre .1) (omega (arith, c .before .if1 .left)) (c .if2 .taken)) }
+mul-result c = let s0 = c .before .before .before .before .before in let a = s0 .args in
+    record { fits = omega (arith, even-part a.u a.each c.before.before.wide.result a.d s0.pre.1 (omega (arith, c.before.if1.left)) c.if2.taken) }
 
 returns-2 : tie.Need-returns-2
-returns-2 c = let s0 = c .before .before .before .before .before in (even-part (s0 .args .u) (s0 .args .each) (c .before .before .wide .result) (s0 .args .d) (s0 .pre .1) (omega (arith, c .before .if1 .left)) (c .if2 .taken), λ q. even-share (s0 .args .u) (s0 .args .each) (c .before .before .wide .result) (s0 .args .d) (s0 .pre .2) (c .if2 .taken) ∙ ap (λ x. s0 .args .u * x / s0 .args .d) (c .before .before .wide .ensures))
+returns-2 c = let s1 = c .before .before in let s0 = s1 .before .before .before in let a = s0 .args in (
+  even-part a.u a.each s1.wide.result a.d s0.pre.1 (omega (arith, c.before.if1.left)) c.if2.taken,
+  λ q. even-share a.u a.each s1.wide.result a.d s0.pre.2 c.if2.taken ∙ ap (λ x. a.u * x / a.d) s1.wide.ensures,
+)
 
 decision-share-requires : tie.Need-decision-share-requires
-decision-share-requires c κs = let s0 = c .before .before .before .before .before in (omega (arith, s0 .pre .2), product-few (s0 .args .u) (c .before .before .wide .result) (s0 .args .d) (s0 .pre .1) (omega (arith, c .before .if1 .left)) (s0 .pre .3))
+decision-share-requires c κs = let s0 = c .before .before .before .before .before in
+    (omega (arith, s0.pre.2), product-few s0.args.u c.before.before.wide.result s0.args.d s0.pre.1 (omega (arith, c.before.if1.left)) s0.pre.3)
 
 returns-3 : tie.Need-returns-3
-returns-3 c =
-    let e = c .decision-share .ensures in
-    let l = share-few (c .before .before .before .before .before .before .args .u) (c .before .before .before .wide .result) (c .before .before .before .before .before .before .args .d) (omega (arith, c .before .before .if1 .left)) in
-    (omega (arith, e, l, c .before .before .before .before .before .before .pre .1), λ q. e ∙ ap (λ x. c .before .before .before .before .before .before .args .u * x / c .before .before .before .before .before .before .args .d) (c .before .before .before .wide .ensures))
+returns-3 c = let s1 = c .before .before .before in let s0 = s1 .before .before .before in let a = s0 .args in
+    let e = c.decision-share.ensures in let l = share-few a.u s1.wide.result a.d (omega (arith, c.before.before.if1.left)) in
+    (omega (arith, e, l, s0.pre.1), λ q. e ∙ ap (λ x. a.u * x / a.d) s1.wide.ensures)
 
 pub share-spec : {M : Type 1} → statement M
-share-spec =
-    tie.close
-    (tie.spec
-    shared-slice-read-wide
-    wide-requires
-    returns
-    mul-if2
-    mul-result
-    returns-2
-    decision-share-requires
-    returns-3)
+share-spec = tie.close (tie.spec shared-slice-read-wide wide-requires returns mul-if2 mul-result returns-2 decision-share-requires returns-3)
