@@ -97,12 +97,12 @@ fn archive() -> std::path::PathBuf {
 }
 
 #[test]
-fn the_readmes_c_answers_what_the_readme_says() {
-    let blocks = blocks(&document("README.md"), "c");
-    assert_eq!(blocks.len(), 2);
+fn the_apis_c_answers_what_the_api_says() {
+    let blocks = blocks(&document("docs/API.md"), "c");
+    assert_eq!(blocks.len(), 4);
     run_c(
-        "readme",
-        &blocks.concat(),
+        "api-calls",
+        &blocks[..2].concat(),
         &[
             "start.refusal == 0 && dealt.refusal == 0 && dealt.position.dealt == 1",
             "sets.refusal == 0 && sets.nodes == 58 && sets.sets == 12",
@@ -111,14 +111,8 @@ fn the_readmes_c_answers_what_the_readme_says() {
             "best.value == 6 && conv.nash_conv == 12 && conv.units == 6",
         ],
     );
-}
-
-#[test]
-fn the_apis_c_answers_what_the_api_says() {
-    let blocks = blocks(&document("docs/API.md"), "c");
-    assert_eq!(blocks.len(), 2);
-    run_c("api-memory", &blocks[0], &["sets.refusal == 0 && sets.nodes == CHUKKANALLI_LEDUC_NODES"]);
-    run_c("api-values", &blocks[1], &["conv.refusal == 0 && conv.values[0] == 0.9166666666666666"]);
+    run_c("api-memory", &blocks[2], &["sets.refusal == 0 && sets.nodes == CHUKKANALLI_LEDUC_NODES"]);
+    run_c("api-values", &blocks[3], &["conv.refusal == 0 && conv.values[0] == 0.9166666666666666"]);
 }
 
 #[test]
@@ -140,12 +134,12 @@ fn the_apis_rust_answers_what_the_api_says() -> Result<(), Refusal> {
 }
 
 #[test]
-fn the_readmes_proved_program_is_the_sample() {
-    let readme = document("README.md");
+fn the_apis_proved_program_is_the_sample() {
+    let api = document("docs/API.md");
     let printed = document("crates/sample/stdout");
     let hand = printed.split("\nKuhn poker: 2 seats").next().unwrap().trim_end();
-    assert!(readme.contains(&format!("```\n{hand}\n```")), "{hand}");
-    let blocks = blocks(&readme, "rust");
+    assert!(api.contains(&format!("```\n{hand}\n```")), "{hand}");
+    let blocks = blocks(&api, "rattle");
     let source = document("crates/sample/src/reply.rt");
     let words = |text: &str| text.split_whitespace().collect::<String>();
     for call in ["worths::worths(Game::KUHN", "best_reply::best_reply(Game::KUHN"] {
