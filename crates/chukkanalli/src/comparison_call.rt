@@ -10,7 +10,7 @@ pub extern "C" fn chukkanalli_compare(
     other_nash_conv: u64,
     other_units: u64,
 ) -> i64
-    ensures { λ r. ⌜ r ≡ numberOf (comparedQuotients nash_conv units other_nash_conv other_units) ⌝ }
+    ensures { λ r. ⌜ r ≡ numberOf (comparedQuotients «nash_conv» units «other_nash_conv» «other_units») ⌝ }
 {
     comparison::number(comparison::compare(nash_conv, units, other_nash_conv, other_units))
 }

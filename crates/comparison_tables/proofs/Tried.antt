@@ -9,11 +9,10 @@ use Rattle.game_tree.specs.Table.{addUp, tableWorth, tableBest, nashConv}
 use Rattle.kuhn_rules.specs.Rules.{bet-made, after-bet, ended, bets, stands, left, remaining, legal, contribution, wins, paid-by-others, payoff}
 use Rattle.kuhn_tree.specs.Tree as Kuhn
 use Rattle.games.specs.Games.{treeOf}
-use Rattle.table_refusals.specs.Checks.{tree-checks, table-checks}
 use Rattle.comparison_tables.specs.Tried.{Answered, Compared}
 
 pub answers : Answered
-unfolding tree-checks table-checks size addUp nashConv tableBest tableWorth best sum withKey value highest _·_ sets sumℕ before entriesOf treeOf Kuhn.C Kuhn.kuhnTree Kuhn.below Kuhn.next Kuhn.each and or some those has bet-made after-bet ended left remaining legal every Finite.sum bets stands contribution wins paid-by-others payoff
+unfolding size addUp nashConv tableBest tableWorth best sum withKey value highest _·_ sets sumℕ before entriesOf treeOf Kuhn.C Kuhn.kuhnTree Kuhn.below Kuhn.next Kuhn.each and or some those has bet-made after-bet ended left remaining legal every Finite.sum bets stands contribution wins paid-by-others payoff
 answers = (refl, refl, refl)
 
 pub comparisons : Compared

@@ -6,7 +6,7 @@ use std::fs;
 use std::path::{Path, PathBuf};
 use std::process::Command;
 
-use common::{folder, root, Run};
+use common::{root, Run};
 
 /// An rt that marks crates as proved as the real one does: those that are named, and what they depend on.
 const RT: &str = r#"#!/bin/sh
@@ -24,9 +24,11 @@ ci) for crate in $(sed -n 's/^\([a-z]*\):.*/\1/p' crates.txt); do prove "$crate"
 esac
 "#;
 
-/// A repository of three crates and one that nothing needs.
+/// A repository of three crates and one that nothing needs. It stands outside ours, where rt takes every file of Rattle for one of a crate.
 fn repository(name: &str) -> PathBuf {
-    let own = folder(name);
+    let own = std::env::temp_dir().join(format!("chukkanalli-{name}-{}", std::process::id()));
+    let _ = fs::remove_dir_all(&own);
+    fs::create_dir_all(&own).unwrap();
     fs::write(own.join("crates.txt"), "# Each crate.\nlow:\nother:\nmiddle: low std\ntop: low middle\n").unwrap();
     for crate_name in ["low", "other", "middle", "top"] {
         fs::create_dir_all(own.join("crates").join(crate_name).join("src")).unwrap();
