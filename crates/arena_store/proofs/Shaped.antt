@@ -6,7 +6,7 @@ use lib.Dec.{eqb}
 use borrow.Author.Tests.{eq-eqb, ne-eqb, eqb-true, eqb-false}
 use Rattle.prelude.proofs.Tests.{Tested, holds, fails, tested}
 use Rattle.game_tree.specs.Tree.{Key, Tree, Every}
-use Rattle.game_tree.specs.Sets.{size, sets, entries, firstEntry, Levels, SameActions}
+use Rattle.game_tree.specs.Sets.{size, sets, entries, firstEntry, Levels, SameActions, SameHeights}
 use Rattle.game_tree.proofs.Against.{every-both}
 use Rattle.game_tree.proofs.Sets.{Stands, sets-stand}
 use Rattle.game_tree.proofs.Tables.{seats-at}
@@ -101,6 +101,15 @@ games-shaped g a = at (tested (eqb (g .number) 0))
 -- every decision has an action
 pub some-actions : (g : Game) → Known g → Every (λ j k n. 1 ≤ n) (treeOf g)
 some-actions g k = let f = games-shaped g k .actions in every-both (λ j k n. (2 ≤ n) × (n ≤ 3)) (λ j k n. (2 ≤ n) × (n ≤ 3)) (λ j k n. 1 ≤ n) (λ j k n e f. omega (arith, e .0)) (treeOf g) f f
+
+-- decisions of one seat with equal keys have the same remaining depth
+pub same-heights : (g : Game) → SameHeights (treeOf g)
+unfolding treeOf
+same-heights g = at (tested (eqb (g .number) 0))
+  where
+    at : Tested (eqb (g .number) 0) → SameHeights (treeOf g)
+    at (holds t) = rw t (Kuhn-proofs.depth-by-key 1 1 (g .seats))
+    at (fails t) = rw t (Leduc-proofs.depth-by-key 1 2 4)
 
 pub games-legible : Games-legible
 games-legible g w E a s e =

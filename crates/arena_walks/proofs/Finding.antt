@@ -2,7 +2,7 @@
 use mathlib.Core.Path.{_≡_, refl, sym, ap, ap₂, _∙_}
 use mathlib.Core.Logic.{inl, inr}
 use mathlib.Core.Bool.{Bool, true, false, cond}
-use mathlib.Core.List.{List, [], _∷_, _++_, map}
+use mathlib.Core.List.{List, [], _∷_, _++_, map, map-append}
 use Prim.Native.Nat.{ℕ, suc, _+_, _≤_, _<_}
 use native.Mathlib.Nat as NatL
 use native.Mathlib.Omega.{arith}
@@ -14,10 +14,6 @@ use Rattle.game_tree.specs.Sets.{size, preorder, preorderAll, decides, numbers}
 use Rattle.game_tree.proofs.Sets.{preorder-length}
 use Rattle.game_tree.proofs.Counting.{In}
 use Rattle.arena_walks.specs.Found.{Member, found, foundAll}
-
-pub map-append : {A B : Type 0} (f : A → B) (xs ys : List A) → map f (xs ++ ys) ≡ map f xs ++ map f ys
-map-append f [] ys = refl
-map-append f (x ∷ xs) ys = ap (λ l. f x ∷ l) (map-append f xs ys)
 
 numbers-append : (j : ℕ) (k : Key) (ts us : List Tree) (a : ℕ) → numbers j k a (ts ++ us) ≡ numbers j k a ts ++ numbers j k (a + length ts) us
 unfolding numbers

@@ -1,7 +1,7 @@
 -- The members of a set with their places and reaches: those that the values add up. Assumes nothing.
 use mathlib.Core.Path.{_≡_, refl, ap, ap₂, _∙_}
 use mathlib.Core.Bool.{Bool, true, false, cond}
-use mathlib.Core.List.{List, [], _∷_, _++_, map}
+use mathlib.Core.List.{List, [], _∷_, _++_, map, map-append}
 use Prim.Native.Nat.{ℕ, suc, _+_}
 use lib.Dec.{eqb}
 use lib.Ieee.{Float}
@@ -11,7 +11,6 @@ use Rattle.game_tree.specs.Sets.{size}
 use Rattle.game_tree_f64.specs.Values as values
 use Rattle.game_tree_f64.specs.Values.{Profile, times, weight, passed}
 use Rattle.arena_walks.specs.Found.{Member, found, foundAll}
-use Rattle.arena_walks.proofs.Finding.{map-append}
 
 -- what a chance node with n children passes on of reach r
 abbrev pub dealt : Float → ℕ → Float

@@ -5,16 +5,12 @@ use mathlib.Core.List.{List}
 use Prim.Native.Nat.{ℕ, _+_, _*_, _≤_, _<_}
 use native.Mathlib.Nat as NatL
 use native.Mathlib.Omega.{arith}
-use lib.Dec.{eqb}
 use lib.Ieee.{Float}
 use lib.ListN.{length, getD}
-use Rattle.prelude.proofs.Tests.{Tested, holds, fails, tested}
 use Rattle.game_tree.specs.Tree.{Tree, Every}
 use Rattle.game_tree.specs.Reply.{Choice}
-use Rattle.game_tree.specs.Sets.{size, entries, firstEntry, SameHeights}
+use Rattle.game_tree.specs.Sets.{size, entries, firstEntry}
 use Rattle.game_tree.proofs.Against.{every-both}
-use Rattle.kuhn_tree.proofs.Facts as Kuhn
-use Rattle.leduc_tree_facts.proofs.Facts as Leduc
 use Rattle.games.specs.declared.Game.{Game}
 use Rattle.games.specs.Games.{treeOf}
 use Rattle.games.specs.Facts.{nodesOf, entriesOf}
@@ -32,20 +28,11 @@ use Rattle.arena_store.specs.Stored.{headsOf, Stored}
 use Rattle.arena_store.specs.Places.{reachAt, keptAt, placesOf}
 use Rattle.arena_store.specs.declared.Places.{Places}
 use Rattle.arena_store.specs.Shaped.{Shaped}
-use Rattle.arena_store.proofs.Shaped.{games-shaped, games-legible, some-actions}
+use Rattle.arena_store.proofs.Shaped.{games-shaped, games-legible, some-actions, same-heights}
 use Rattle.arena_store.proofs.Room.{Roomy, roomy}
 use Rattle.arena_store.proofs.Staging as behind
 use Rattle.tree_refusals.specs.Accepted.{AcceptedProfile}
 use Rattle.f64_games.specs.Values.{bestOf}
-
--- decisions of one seat with equal keys have the same remaining depth
-same-heights : (g : Game) → SameHeights (treeOf g)
-unfolding treeOf
-same-heights g = at (tested (eqb (g .number) 0))
-  where
-    at : Tested (eqb (g .number) 0) → SameHeights (treeOf g)
-    at (holds t) = rw t (Kuhn.depth-by-key 1 1 (g .seats))
-    at (fails t) = rw t (Leduc.depth-by-key 1 2 4)
 
 module _ (g : Game) (i : ℕ) (P : List Float) (a : AcceptedProfile g P) (l : i < g .seats) where
   abbrev T : Tree

@@ -90,14 +90,15 @@ pub ≤ℤ-<ℤ-trans : (a b c : ℤ) → a ≤ℤ b → b <ℤ c → a <ℤ c
     at (is e) = ltZ-yes (T-of e)
     at (isn't e) = clashℤ k (≤ℤ-trans c a b (ltZ-no (rw e tt)) h)
 
+-- the inner two of four change places
+pub +ℤ-four : (a b c d : ℤ) → a +ℤ b +ℤ (c +ℤ d) ≡ a +ℤ c +ℤ (b +ℤ d)
++ℤ-four a b c d = simp sums
+
 pub +ℤ-mono : (a b c d : ℤ) → a ≤ℤ b → c ≤ℤ d → (a +ℤ c) ≤ℤ (b +ℤ d)
 +ℤ-mono a b c d h k =
     let (m, p) = below a b h in
     let (n, q) = below c d k in
-    above (a +ℤ c) (b +ℤ d) (m + n) (ap (λ x. x +ℤ d) p ∙ ap (λ x. a +ℤ pos m +ℤ x) q ∙ four a (pos m) c (pos n))
-  where
-    four : (a m c n : ℤ) → a +ℤ m +ℤ (c +ℤ n) ≡ a +ℤ c +ℤ (m +ℤ n)
-    four a m c n = simp sums
+    above (a +ℤ c) (b +ℤ d) (m + n) (ap (λ x. x +ℤ d) p ∙ ap (λ x. a +ℤ pos m +ℤ x) q ∙ +ℤ-four a (pos m) c (pos n))
 
 pub ·-mono : (n : ℕ) (a b : ℤ) → a ≤ℤ b → (n · a) ≤ℤ (n · b)
 ·-mono zero a b h = rw (·-none a, ·-none b) (≤ℤ-refl (pos 0))

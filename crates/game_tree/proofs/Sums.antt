@@ -8,7 +8,7 @@ use lib.IntN.{ℤ, pos, _+ℤ_, +ℤ-idl, +ℤ-assoc}
 use lib.Signed.{_≤ℤ_, ≤ℤ-refl}
 use lib.ListN.{take}
 use Rattle.game_tree.specs.Sums.{_·_, sum, sumℕ, parts}
-use Rattle.game_tree.proofs.Integers.{sums, ·-none, ·-zero, ·-sum, ·-plus, ·-mono, +ℤ-mono}
+use Rattle.game_tree.proofs.Integers.{·-none, ·-zero, ·-sum, ·-plus, ·-mono, +ℤ-mono, +ℤ-four}
 
 -- ---- over a list
 pub sum-append : {A : Type 0} (h : A → ℤ) (xs ys : List A) → sum h (xs ++ ys) ≡ sum h xs +ℤ sum h ys
@@ -52,10 +52,7 @@ unfolding upto
 upto-sum zero p h g = refl
 upto-sum (suc n) p h g =
     ap₂ _+ℤ_ (·-sum (p 0) (h 0) (g 0)) (upto-sum n (λ a. p (suc a)) (λ a. h (suc a)) (λ a. g (suc a)))
-    ∙ four (p 0 · h 0) (p 0 · g 0) (upto n (λ a. p (suc a) · h (suc a))) (upto n (λ a. p (suc a) · g (suc a)))
-  where
-    four : (a b c d : ℤ) → a +ℤ b +ℤ (c +ℤ d) ≡ a +ℤ c +ℤ (b +ℤ d)
-    four a b c d = simp sums
+    ∙ +ℤ-four (p 0 · h 0) (p 0 · g 0) (upto n (λ a. p (suc a) · h (suc a))) (upto n (λ a. p (suc a) · g (suc a)))
 
 -- a mean is at most the greatest
 pub upto-mono : (n : ℕ) (p : ℕ → ℕ) (h : ℕ → ℤ) (z : ℤ) → ((a : ℕ) → a < n → h a ≤ℤ z) → upto n (λ a. p a · h a) ≤ℤ (parts n p · z)

@@ -17,17 +17,14 @@ use Rattle.game_tree.specs.Reply.{Reply, leaf, split, own, Replies, none
 use Rattle.game_tree.specs.Reply.{setSum, depth, depthAll, EveryOwn, Optimal, scaled, scaledAll, scaledKids}
 use Rattle.game_tree.specs.Recall.{Path, Recalled, RecalledAll, RecalledKids}
 use Rattle.game_tree.specs.Theorem.{OptimalUnbeaten}
-use Rattle.game_tree.proofs.Integers.{sums, ·-zero, ·-one, ·-sum, ·-mul, ·-swap, +ℤ-mono, +ℤ-cancel, +ℤ-left-comm}
+use Rattle.game_tree.proofs.Integers.{·-zero, ·-one, ·-sum, ·-mul, ·-swap, +ℤ-mono, +ℤ-cancel, +ℤ-left-comm, +ℤ-four}
 use Rattle.game_tree.proofs.Sums.{upto, upto-ext, upto-mono, sum-upto, sum-append, sum-scale}
 use Rattle.game_tree.proofs.Members.{weigh, weigh-mono}
 use Rattle.game_tree.proofs.Own.{own-both, of-set}
 
 -- two balances, added
 balances : (x₁ n₁ y₁ p₁ x₂ n₂ y₂ p₂ : ℤ) → x₁ +ℤ n₁ ≡ y₁ +ℤ p₁ → x₂ +ℤ n₂ ≡ y₂ +ℤ p₂ → x₁ +ℤ x₂ +ℤ (n₁ +ℤ n₂) ≡ y₁ +ℤ y₂ +ℤ (p₁ +ℤ p₂)
-balances x₁ n₁ y₁ p₁ x₂ n₂ y₂ p₂ e₁ e₂ = four x₁ x₂ n₁ n₂ ∙ ap₂ _+ℤ_ e₁ e₂ ∙ four y₁ p₁ y₂ p₂
-  where
-    four : (a b c d : ℤ) → a +ℤ b +ℤ (c +ℤ d) ≡ a +ℤ c +ℤ (b +ℤ d)
-    four a b c d = simp sums
+balances x₁ n₁ y₁ p₁ x₂ n₂ y₂ p₂ e₁ e₂ = +ℤ-four x₁ x₂ n₁ n₂ ∙ ap₂ _+ℤ_ e₁ e₂ ∙ +ℤ-four y₁ p₁ y₂ p₂
 
 -- how much of the parts comes along a path
 unfoldable reach : (Key → ℕ → ℕ) → Path → ℕ

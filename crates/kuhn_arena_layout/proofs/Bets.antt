@@ -11,7 +11,7 @@ use lib.ListN.{length, getD, length-append}
 use lib.Seq.{take-append-seam, getD-at}
 use borrow.Author.Tests.{eq-eqb, ne-eqb, eqb-true, eqb-false, ltb-true, ltb-false, leb-true, le-leb}
 use Rattle.prelude.specs.Finite.{and, or, some, sum}
-use Rattle.prelude.proofs.Tests.{Tested, holds, fails, tested, true≢false, both, and-left, and-right, and-right-fails, or-left, or-right, or-rest, or-cases, or-false-left, or-false-right, neither, none, every-at, all}
+use Rattle.prelude.proofs.Tests.{Tested, holds, fails, tested, true≢false, both, and-left, and-right, and-right-fails, or-left, or-right, or-none, or-assoc, and-all, or-rest, or-cases, or-false-left, or-false-right, neither, none, every-at, all}
 use Rattle.prelude.proofs.Lists.{sum-same, sum-without}
 use Rattle.kuhn_rules.specs.Rules.{PASS, BET, turn, bet-made, after-bet, bets, stands, wins, contribution}
 use Rattle.kuhn_rules.specs.Stakes.{ante, stake}
@@ -24,16 +24,8 @@ module _ (h : List ℕ) (a : ℕ) where
 
 pub bet-made-more : (h : List ℕ) (a : ℕ) → bet-made (h ++ (a ∷ [])) ≡ or (bet-made h) (eqb a BET)
 unfolding bet-made or
-bet-made-more [] a = at (eqb a BET)
-  where
-    at : (b : Bool) → or b false ≡ b
-    at true = refl
-    at false = refl
-bet-made-more (x ∷ h) a = rw (bet-made-more h a) (at (eqb x BET))
-  where
-    at : (b : Bool) → or b (or (bet-made h) (eqb a BET)) ≡ or (or b (bet-made h)) (eqb a BET)
-    at true = refl
-    at false = refl
+bet-made-more [] a = or-none (eqb a BET)
+bet-made-more (x ∷ h) a = rw (bet-made-more h a) (or-assoc (eqb x BET) (bet-made h) (eqb a BET))
 
 -- the actions after the first bet
 pub after-bet-more : (h : List ℕ) (a : ℕ) → bet-made h ≡ true → length (after-bet (h ++ (a ∷ []))) ≡ suc (length (after-bet h))
@@ -80,18 +72,10 @@ module _ (n : ℕ) (h : List ℕ) where
   pub bets-pass : (p : ℕ) → bets n (h ++ (PASS ∷ [])) p ≡ bets n h p
   unfolding or
   bets-pass p = bets-more PASS p ∙ ap (or (bets n h p)) (and-right-fails (eqb (turn n h) p) refl) ∙ or-none (bets n h p)
-    where
-      or-none : (b : Bool) → or b false ≡ b
-      or-none true = refl
-      or-none false = refl
 
   pub bets-bet : (p : ℕ) → bets n (h ++ (BET ∷ [])) p ≡ or (bets n h p) (eqb (turn n h) p)
   unfolding and
   bets-bet p = bets-more BET p ∙ ap (or (bets n h p)) (and-all (eqb (turn n h) p))
-    where
-      and-all : (b : Bool) → and b true ≡ b
-      and-all true = refl
-      and-all false = refl
 
 -- ---- what the seats have paid
 module _ (n : ℕ) (h : List ℕ) where

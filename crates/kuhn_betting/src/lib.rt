@@ -10,12 +10,6 @@ pub const PASS: u8 = 0;
 
 pub const BET: u8 = 1;
 
-pub fn wide(x: u8) -> usize
-    ensures { λ r. ⌜ r ≡ x ⌝ }
-{
-    x as usize
-}
-
 // The place of the first bet, or acted where there is none.
 pub fn first_bet(history: &[u8], acted: usize) -> usize
     requires { ⌜ acted ≤ length (now history) ⌝ }
@@ -66,14 +60,7 @@ pub fn unknown_action(history: &[u8], acted: usize) -> bool
     requires { ⌜ acted ≤ length (now history) ⌝ }
     ensures { λ r. ⌜ r ≡ unknown (take acted (now (history .entry))) ⌝ }
 {
-    let mut i = 0;
-    while i < acted {
-        if BET < history[i] {
-            return true;
-        }
-        i += 1;
-    }
-    false
+    prelude::any_above(history, acted, BET as usize)
 }
 
 // Whether a seat has bet: its turns are n places apart.

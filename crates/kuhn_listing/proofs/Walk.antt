@@ -2,7 +2,7 @@
 use mathlib.Core.Path.{_≡_, refl, sym, ap, ap₂, subst, subst₂, _∙_}
 use mathlib.Core.Logic.{inl, inr}
 use mathlib.Core.Bool.{Bool, true, false, not, cond}
-use mathlib.Core.List.{List, [], _∷_, _++_, map}
+use mathlib.Core.List.{List, [], _∷_, _++_, map, map-append}
 use Prim.Native.Nat.{ℕ, zero, suc, _+_, _≤_, _<_}
 use native.Mathlib.Nat as NatL
 use native.Mathlib.Omega.{arith}
@@ -24,7 +24,7 @@ use Rattle.kuhn_tree.proofs.Cards.{in-of-left, remaining-less, remaining-all}
 use Rattle.kuhn_tree.proofs.Growth.{legal-acts}
 use Rattle.kuhn_tree.proofs.Shape.{hand, deals, kuhn-deals}
 use Rattle.kuhn_tree.proofs.Sets.{turns-once}
-use Rattle.kuhn_tree.proofs.Order.{map-append, other-history, Meets, under, meets-more}
+use Rattle.kuhn_tree.proofs.Order.{other-history, Meets, under, meets-more}
 use Rattle.listing_records.specs.Listing.{listing, bytesOf}
 use Rattle.listing_records.specs.Written.{joined}
 use Rattle.listing_records.proofs.Bytes.{joined-last}

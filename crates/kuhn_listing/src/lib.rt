@@ -2,8 +2,8 @@
 use kuhn_betting::BET;
 use kuhn_betting::PASS;
 use kuhn_betting::is_terminal;
-use kuhn_betting::wide;
-use kuhn_cards::contains;
+use prelude::contains;
+use prelude::wide;
 ghost use mathlib.Core.Path.{_≡_};
 ghost use mathlib.Core.Bool.{not};
 ghost use mathlib.Core.List.{[], _∷_};

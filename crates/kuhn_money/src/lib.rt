@@ -1,7 +1,7 @@
 // The money: who stands, who wins, and what each seat pays or gains.
 use kuhn_betting::bet_by;
 use kuhn_betting::first_bet;
-use kuhn_betting::wide;
+use prelude::wide;
 ghost use mathlib.Core.Path.{_≡_};
 ghost use mathlib.Core.Bool.{not, cond};
 ghost use mathlib.Core.Logic.{_⊎_};

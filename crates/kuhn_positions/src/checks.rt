@@ -98,17 +98,25 @@ pub fn position_refusal(n: usize, state: KuhnState) -> u64
     refusals::ACCEPTED
 }
 
+// Whether the actions end the hand.
+fn has_ended(n: usize, state: KuhnState) -> bool
+    requires { ⌜ (1 ≤ n) × (n ≤ 10) × (state .acted ≤ 19) ⌝ }
+    ensures { λ r. ⌜ r ≡ ended n (historyOf state) ⌝ }
+{
+    let acted = state.acted;
+    let history = state.history;
+    is_terminal(&history, acted, n)
+}
+
 // Whether a seat acts: all cards are dealt and the hand has not ended.
 pub fn is_live(n: usize, state: KuhnState) -> bool
     requires { ⌜ (1 ≤ n) × (n ≤ 10) × (state .dealt ≤ 10) × (state .acted ≤ 19) ⌝ }
     ensures { λ r. ⌜ r ≡ live n (cardsOf state) (historyOf state) ⌝ }
 {
-    let acted = state.acted;
     if state.dealt != n {
         return false;
     }
-    let history = state.history;
-    !is_terminal(&history, acted, n)
+    !has_ended(n, state)
 }
 
 // Whether the hand is over.
@@ -116,12 +124,10 @@ pub fn is_over(n: usize, state: KuhnState) -> bool
     requires { ⌜ (1 ≤ n) × (n ≤ 10) × (state .dealt ≤ 10) × (state .acted ≤ 19) ⌝ }
     ensures { λ r. ⌜ r ≡ over n (cardsOf state) (historyOf state) ⌝ }
 {
-    let acted = state.acted;
     if state.dealt != n {
         return false;
     }
-    let history = state.history;
-    is_terminal(&history, acted, n)
+    has_ended(n, state)
 }
 
 // What is wrong with a saved position, whatever its end mark says.
@@ -161,11 +167,5 @@ pub fn end_mark(n: usize, state: KuhnState) -> u64
     requires { ⌜ (1 ≤ n) × (n ≤ 10) × (state .acted ≤ 19) ⌝ }
     ensures { λ r. ⌜ r ≡ mark (ended n (historyOf state)) ⌝ }
 {
-    let acted = state.acted;
-    let history = state.history;
-    if is_terminal(&history, acted, n) {
-        1
-    } else {
-        0
-    }
+    if has_ended(n, state) { 1 } else { 0 }
 }

@@ -11,7 +11,7 @@ use lib.Dec.{eqb, leb}
 use lib.ListN.{length, length-append}
 use borrow.Author.Tests.{eqb-true, eqb-false, eq-eqb, ne-eqb, leb-true, le-leb}
 use Rattle.prelude.specs.Finite.{and, or, those, has}
-use Rattle.prelude.proofs.Tests.{Tested, holds, fails, tested, true≢false, both, and-left, and-right-fails, or-right}
+use Rattle.prelude.proofs.Tests.{Tested, holds, fails, tested, true≢false, both, and-left, and-right-fails, or-right, or-none}
 use Rattle.prelude.proofs.Lists.{has-append, those-kept, those-passed}
 use Rattle.game_tree.proofs.Counting.{In, in-left, in-right, in-append, Once, once-append}
 use Rattle.game_tree.proofs.Numbers.{in-those, those-in}
@@ -59,11 +59,6 @@ has-self c = rw (eq-eqb c c refl)
 has-other : (c x : ℕ) → (x ≡ c → ⊥) → has x (c ∷ []) ≡ false
 unfolding has or
 has-other c x d = rw (ne-eqb c x (λ e. d (sym e)))
-
-or-none : (b : Bool) → or b false ≡ b
-unfolding or
-or-none true = refl
-or-none false = refl
 
 module _ (n : ℕ) (cs : List ℕ) (c : ℕ) where
   -- once c is dealt, every other card is left as before, and c is not

@@ -2,7 +2,7 @@
 use mathlib.Core.Path.{_≡_, refl, sym, ap, ap₂, _∙_}
 use mathlib.Core.Logic.{inl, inr}
 use mathlib.Core.Bool.{Bool, true, false, not, cond}
-use mathlib.Core.List.{List, [], _∷_, _++_, append-nil, append-assoc, map}
+use mathlib.Core.List.{List, [], _∷_, _++_, append-nil, append-assoc, map, map-append}
 use Prim.Native.Nat.{ℕ, zero, suc, _+_, _≤_, _<_}
 use native.Mathlib.Nat as NatL
 use native.Mathlib.Numerals.{add-one}
@@ -27,11 +27,6 @@ use Rattle.kuhn_tree.specs.Facts.{SetsInOrder}
 use Rattle.kuhn_tree.proofs.Cards.{left-of-in, in-of-left, left-other, left-itself, remaining-less, remaining-all}
 use Rattle.kuhn_tree.proofs.Shape.{hand, deals, kuhn-deals}
 use Rattle.kuhn_tree.proofs.Sets.{turns-once, has-hand, each-has, has-each, May, grid-deals}
-
--- ---- below a full deal
-pub map-append : {A B : Type 0} (f : A → B) (xs ys : List A) → map f (xs ++ ys) ≡ map f xs ++ map f ys
-map-append f [] ys = refl
-map-append f (x ∷ xs) ys = ap (λ l. f x ∷ l) (map-append f xs ys)
 
 module _ (ante bet n : ℕ) where
   hand-decisions : (cs : List ℕ) (r : ℕ) (b : Bool) (h : List ℕ) → decisions (hand ante bet n cs r b h) ≡ map (decisionAt n cs) (turns n r b h)

@@ -9,6 +9,7 @@ use lib.ListN.{length, getD}
 use borrow.Author.Tests.{eqb-true, not-false, ltb-true, lt-ltb, le-ltb, le-leb, lt-leb, eq-eqb, ne-eqb}
 use Rattle.refusals.specs.Refusals.{first, _refuses_}
 use Rattle.prelude.specs.Finite.{and}
+use Rattle.prelude.proofs.Lists.{getD-within}
 use Rattle.leduc_betting.specs.Betting.{ended}
 use Rattle.leduc_rules.specs.Rules.{due, live}
 use Rattle.leduc_betting.specs.Cards.{left, remaining}
@@ -19,11 +20,6 @@ use Rattle.leduc.specs.Calls.{key-of, deal-refusal, step-refusal, legal-
 use Rattle.leduc_positions.specs.declared.LeducState.{LeducState}
 use Rattle.refusals.proofs.Order.{fails-first}
 use Rattle.leduc_positions.proofs.Order.{saved-firm, passes-front}
-
-any-default : (l : List ℕ) (k a b : ℕ) → k < length l → getD l k a ≡ getD l k b
-any-default [] k a b h = absurd (omega arith)
-any-default (x ∷ l) zero a b h = refl
-any-default (x ∷ l) (suc k) a b h = any-default l k a b (omega arith)
 
 module _ (s : LeducState) where
   -- number 19 comes first
@@ -107,7 +103,7 @@ module _ (s : LeducState) where
   pub outcome-card : (k : ℕ) → getD (remaining (seenOf s)) k 6 < 6 → getD (remaining (seenOf s)) k 6 % 256 ≡ getD (remaining (seenOf s)) k 0
   outcome-card k h =
       let q : getD (remaining (seenOf s)) k 6 % 256 ≡ getD (remaining (seenOf s)) k 6 = omega arith in
-      q ∙ any-default (remaining (seenOf s)) k 6 0 (ltb-true k (length (remaining (seenOf s))) (outcome-fits k ∙ lt-ltb (getD (remaining (seenOf s)) k 6) 6 h))
+      q ∙ getD-within (remaining (seenOf s)) k 6 0 (ltb-true k (length (remaining (seenOf s))) (outcome-fits k ∙ lt-ltb (getD (remaining (seenOf s)) k 6) 6 h))
 
   -- a saved position: 10 to 17, then 18
   pub saved-stops : (m : ℕ) → (first (saved-checks s) ≡ 0 → ⊥) → saved-refusal s m ≡ first (saved-checks s)

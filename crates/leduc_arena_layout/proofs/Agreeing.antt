@@ -19,7 +19,7 @@ use Rattle.arena.specs.Built.{Built, Room}
 use Rattle.arena.proofs.Building.{join}
 use Rattle.leduc_betting.specs.Betting.{ends-with, folded, closes, behind, raises, may, options, in-play, turn, ended}
 use Rattle.leduc_betting.specs.Cards.{left, remaining}
-use Rattle.leduc_rules.specs.Rules.{public-due, due, key, matched, bet, seated, after-round, contribution, folds, pairs, beats, wins, payoff}
+use Rattle.leduc_rules.specs.Rules.{public-due, due, key, after-action, put-in, contribution, folds, pairs, beats, wins, payoff}
 use Rattle.leduc_rules.specs.Stakes.{ante, raise₁, raise₂}
 use Rattle.leduc_tree.specs.Tree.{next, each, below, leducTree}
 use Rattle.leduc_tree_facts.proofs.Facts.{counts}
@@ -87,9 +87,7 @@ unfoldable mutual
   agreesAll (cons t f) (cons u g) = and (agrees t u) (agreesAll f g)
 
 all-agree : agrees (leducTree ante raise₁ raise₂) dealsTree ≡ true
-unfolding agrees equal told same keyOf historyOf fan codeOf codeFrom numberFrom leducTree below next each and or some those has ends-with folded
-    closes behind raises may options in-play turn ended left remaining public-due due key matched bet seated after-round contribution folds pairs
-    beats wins payoff byteFor endTree raisedTree calledTree roundTree only rowTo join showdownFor secondTree publicTree firstTree dealTree
+unfolding agrees equal told same keyOf historyOf fan codeOf codeFrom numberFrom leducTree below next each and or some those has ends-with folded closes behind raises may options in-play turn ended left remaining public-due due key after-action put-in contribution folds pairs beats wins payoff byteFor endTree raisedTree calledTree roundTree only rowTo join showdownFor secondTree publicTree firstTree dealTree
 all-agree = refl
 
 -- ---- what holds the one holds the other

@@ -14,10 +14,6 @@ use Rattle.prelude.specs.Finite.{some, those, has}
 use Rattle.prelude.proofs.Tests.{Tested, holds, fails, tested}
 use Rattle.prelude.proofs.Lists.{has-take, length-those-kept, length-those-passed, those-at, those-below}
 
--- a card stands in a list if it stands at one of its places
-pub has-places : (c : ℕ) (l : List ℕ) → has c l ≡ some (length l) (λ i. eqb (getD l i 0) c)
-has-places c l = ap (has c) (sym (take-length l)) ∙ has-take c (length l) l (NatL.le-refl (length l))
-
 -- a front part of two cards, and with one card more behind it
 pub two-of : (l : List ℕ) → length l ≡ 2 → l ≡ getD l 0 0 ∷ getD l 1 0 ∷ []
 two-of [] e = absurd (omega arith)

@@ -1,7 +1,7 @@
 -- Laws of the betting in one round. Assumes nothing.
 use mathlib.Core.Path.{_≡_, refl, sym, ap, _∙_}
 use mathlib.Core.Bool.{Bool, true, false, not, cond}
-use mathlib.Core.List.{List, [], _∷_, _++_}
+use mathlib.Core.List.{List, [], _∷_, _++_, append-nil}
 use Prim.Native.Nat.{ℕ, zero, suc, _+_, _-_, _≤_, _<_}
 use native.Mathlib.Omega.{arith}
 use native.Mathlib.Numerals.{add-one}
@@ -11,7 +11,8 @@ use lib.Seq.{drop-cons}
 use Rattle.prelude.specs.Finite.{and, or, those}
 use Rattle.prelude.proofs.Lists.{those-kept, those-passed}
 use borrow.Author.Tests.{ne-eqb, ltb-true, ltb-false, lt-ltb}
-use Rattle.prelude.proofs.Tests.{Tested, holds, fails, tested, true≢false}
+use Rattle.prelude.proofs.Tests.{Tested, holds, fails, tested, or-none, true≢false}
+use Rattle.leduc_betting.proofs.Deals.{at-most-one}
 use Rattle.leduc_betting.specs.Betting.{FOLD, CALL, RAISE, ends-with, behind, raises, may, options}
 
 -- what a place adds to the raises, as a loop counts
@@ -24,21 +25,13 @@ unfolding raises
 raises-end h i w = ap raises (drop-of-length-le h w)
 
 pub raise-at-most-one : (a : ℕ) → cond (eqb a RAISE) 1 0 ≤ 1
-raise-at-most-one a = go (eqb a RAISE)
-  where
-    go : (b : Bool) → cond b 1 0 ≤ 1
-    go true = omega arith
-    go false = omega arith
+raise-at-most-one a = at-most-one (eqb a RAISE)
 
 -- ---- what is legal, action by action
 
 pub may-fold : (h : List ℕ) → may h FOLD ≡ ends-with RAISE h
 unfolding may behind and or
-may-fold h = go (ends-with RAISE h)
-  where
-    go : (b : Bool) → or b false ≡ b
-    go true = refl
-    go false = refl
+may-fold h = or-none (ends-with RAISE h)
 
 pub may-call : (h : List ℕ) → may h CALL ≡ true
 unfolding may and or
@@ -50,11 +43,7 @@ may-raise h = refl
 
 pub may-other : (h : List ℕ) (a : ℕ) → (a ≡ FOLD → ⊥) → (a ≡ RAISE → ⊥) → may h a ≡ eqb a CALL
 unfolding may and or
-may-other h a f r = rw (ne-eqb a 0 f, ne-eqb a 2 r) (go (eqb a 1))
-  where
-    go : (b : Bool) → or b false ≡ b
-    go true = refl
-    go false = refl
+may-other h a f r = rw (ne-eqb a 0 f, ne-eqb a 2 r) (or-none (eqb a 1))
 
 -- a legal action is one of the three
 pub may-small : (h : List ℕ) (a : ℕ) → may h a ≡ true → a ≤ 2
@@ -70,11 +59,6 @@ pub positive : (n : ℕ) → ltb 0 n ≡ not (eqb n 0)
 positive zero = refl
 positive (suc n) = lt-ltb 0 (suc n) (omega arith) ∙ ap not (sym (ne-eqb (suc n) 0 (omega arith)))
 
-pub and-true : (b : Bool) → and b true ≡ b
-unfolding and
-and-true true = refl
-and-true false = refl
-
 -- ---- the legal actions
 
 those-none : (p : ℕ → Bool) → those 0 p ≡ []
@@ -86,14 +70,10 @@ module _ (h : List ℕ) (x y : Bool) (f : ends-with RAISE h ≡ x) (r : ltb (rai
   unfolding options
   options-as = third y r ∙ ap (λ l. l ++ cond y (RAISE ∷ []) []) (those-kept (may h) 1 (may-call h) ∙ ap (λ l. l ++ (CALL ∷ [])) (first x f))
     where
-      none : (l : List ℕ) → l ≡ l ++ []
-      none [] = refl
-      none (a ∷ l) = ap (λ t. a ∷ t) (none l)
-
       first : (b : Bool) → ends-with RAISE h ≡ b → those 1 (may h) ≡ cond b (FOLD ∷ []) []
       first true e = those-kept (may h) 0 (may-fold h ∙ e) ∙ ap (λ l. l ++ (FOLD ∷ [])) (those-none (may h))
       first false e = those-passed (may h) 0 (may-fold h ∙ e) ∙ those-none (may h)
 
       third : (b : Bool) → ltb (raises h) 2 ≡ b → those 3 (may h) ≡ those 2 (may h) ++ cond b (RAISE ∷ []) []
       third true e = those-kept (may h) 2 (may-raise h ∙ e)
-      third false e = those-passed (may h) 2 (may-raise h ∙ e) ∙ none (those 2 (may h))
+      third false e = those-passed (may h) 2 (may-raise h ∙ e) ∙ sym (append-nil (those 2 (may h)))

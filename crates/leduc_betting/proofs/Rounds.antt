@@ -1,7 +1,7 @@
 -- The fifteen histories of a round that the rules allow, and a rule that turns a computed test of them into a fact of each. Assumes nothing.
 use mathlib.Core.Path.{_≡_, refl, sym, ap, _∙_}
 use mathlib.Core.Bool.{Bool, true, false, not}
-use mathlib.Core.List.{List, [], _∷_, _++_, append-assoc}
+use mathlib.Core.List.{List, [], _∷_, _++_, append-assoc, append-nil}
 use Prim.Native.Nat.{ℕ, _+_, _-_, _≤_}
 use native.Mathlib.Omega.{arith}
 use lib.Dec.{eqb, leb}
@@ -80,13 +80,9 @@ grow h a m e =
     (λ q. true≢false (and (open-round h) (may h a)) e (not-true _ q))
     (λ q. q)
 
-append-none : (h : List ℕ) → h ++ [] ≡ h
-append-none [] = refl
-append-none (a ∷ h) = ap (λ t. a ∷ t) (append-none h)
-
 played-among : (before h : List ℕ) → among before rounds ≡ true → played before h ≡ true → among (before ++ h) rounds ≡ true
 unfolding played
-played-among before [] m e = ap (λ t. among t rounds) (append-none before) ∙ m
+played-among before [] m e = ap (λ t. among t rounds) (append-nil before) ∙ m
 played-among before (a ∷ h) m e =
     ap (λ t. among t rounds) (sym (append-assoc before (a ∷ []) h))
     ∙ played-among (before ++ (a ∷ [])) h

@@ -1,4 +1,5 @@
 // The betting: what depends on the histories alone. A history is the part of the array that holds one round.
+use prelude::wide;
 ghost use mathlib.Core.Path.{_≡_};
 ghost use mathlib.Core.Bool.{cond};
 ghost use mathlib.Core.List.{[], _∷_};
@@ -6,12 +7,6 @@ ghost use lib.Dec.{eqb};
 ghost use Rattle.refusals.specs.Refusals.{first};
 ghost use Rattle.leduc_betting.specs.Betting.{ends-with, folded, closes, open-round, raises, may, counted, ended, unknown};
 ghost use Rattle.leduc_betting.specs.Checks.{action-checks};
-
-pub fn wide(x: u8) -> usize
-    ensures { λ r. ⌜ r ≡ x ⌝ }
-{
-    x as usize
-}
 
 // Whether the round's last action is a.
 pub fn last_is(h: &[u8], a: u8) -> bool
@@ -28,14 +23,7 @@ pub fn last_is(h: &[u8], a: u8) -> bool
 pub fn has_fold(h: &[u8]) -> bool
     ensures { λ r. ⌜ r ≡ folded (now (h .entry)) ⌝ }
 {
-    let mut i = 0;
-    while i < h.len() {
-        if h[i] == crate::FOLD {
-            return true;
-        }
-        i += 1;
-    }
-    false
+    prelude::contains(h, h.len(), crate::FOLD as usize)
 }
 
 // Whether the round has closed: at a CALL that is its second or later action.
@@ -107,14 +95,7 @@ pub fn action_made(h: &[u8], a: usize) -> u8
 pub fn unknown_action(h: &[u8]) -> bool
     ensures { λ r. ⌜ r ≡ unknown (now (h .entry)) ⌝ }
 {
-    let mut i = 0;
-    while i < h.len() {
-        if crate::RAISE < h[i] {
-            return true;
-        }
-        i += 1;
-    }
-    false
+    prelude::any_above(h, h.len(), crate::RAISE as usize)
 }
 
 // The refusal number of a round's actions: the first that stands after the round closed, or was not legal when made.

@@ -1,6 +1,5 @@
 // The cards: 0 to 5, two of each rank.
 use crate::Public;
-use crate::betting::wide;
 ghost use mathlib.Core.Path.{_≡_};
 ghost use mathlib.Core.Bool.{cond};
 ghost use Prim.Native.Nat.{_≤_};
@@ -39,42 +38,21 @@ pub fn all_seen(cards: [u8; 2], dealt: usize, public: Public) -> Seen
 pub fn contains(cards: &[u8], c: usize) -> bool
     ensures { λ r. ⌜ r ≡ has c (now (cards .entry)) ⌝ }
 {
-    let mut i = 0;
-    while i < cards.len() {
-        if wide(cards[i]) == c {
-            return true;
-        }
-        i += 1;
-    }
-    false
+    prelude::contains(cards, cards.len(), c)
 }
 
 // Whether a card is not in the deck.
 pub fn card_outside(cards: &[u8]) -> bool
     ensures { λ r. ⌜ r ≡ strange (now (cards .entry)) ⌝ }
 {
-    let mut i = 0;
-    while i < cards.len() {
-        if crate::DECK <= cards[i] {
-            return true;
-        }
-        i += 1;
-    }
-    false
+    prelude::any_above(cards, cards.len(), crate::DECK as usize - 1)
 }
 
 // Whether a card appears twice.
 pub fn card_twice(cards: &[u8]) -> bool
     ensures { λ r. ⌜ r ≡ twice (now (cards .entry)) ⌝ }
 {
-    let mut i = 0;
-    while i < cards.len() {
-        if contains(&cards[..i], wide(cards[i])) {
-            return true;
-        }
-        i += 1;
-    }
-    false
+    prelude::repeats(cards, cards.len())
 }
 
 // The card of an outcome among those left, ascending; 6 where there are not so many.

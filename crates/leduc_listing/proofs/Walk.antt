@@ -1,7 +1,7 @@
 -- The walk over Leduc's cards and actions writes the listing of its tree. Assumes nothing.
 use mathlib.Core.Path.{_≡_, refl, sym, ap, subst, subst₂, _∙_}
 use mathlib.Core.Bool.{true, cond}
-use mathlib.Core.List.{List, [], _∷_, _++_, map}
+use mathlib.Core.List.{List, [], _∷_, _++_, map, map-append}
 use Prim.Native.Nat.{ℕ, zero, suc}
 use lib.IntN.{ℤ}
 use borrow.Author.Tests.{eq-eqb}
@@ -15,7 +15,7 @@ use Rattle.leduc_tree.specs.Tree as Tree
 use Rattle.leduc_tree.specs.Follows.{dealt, acted, positions, positionsAll}
 use Rattle.leduc_tree.specs.Turns.{joined, turns, isFirst, decisionAt}
 use Rattle.leduc_tree.proofs.Growth.{Case, is-action, case}
-use Rattle.leduc_tree.proofs.Firsts.{map-append, fan-each}
+use Rattle.leduc_tree.proofs.Firsts.{fan-each}
 use Rattle.leduc_tree.proofs.Firsts as Firsts
 use Rattle.leduc_tree.proofs.Computed.{turns-told}
 use Rattle.listing_records.specs.Listing.{listing, bytesOf}

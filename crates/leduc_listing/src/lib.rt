@@ -1,6 +1,5 @@
 // The listing of Leduc's sets: a walk over cards and actions, which writes a record at each node that is the first of its set.
 use leduc_betting::Public;
-use leduc_betting::betting::wide;
 use leduc_listing_positions::Spot;
 use leduc_listing_positions::action_legal;
 use leduc_listing_positions::card_due;
@@ -14,6 +13,7 @@ use leduc_listing_positions::seat_acts;
 use leduc_listing_positions::seat_to_act;
 use leduc_listing_positions::with_action;
 use leduc_listing_positions::with_card;
+use prelude::wide;
 ghost use mathlib.Core.Path.{_≡_};
 ghost use Prim.Native.Nat.{_+_, _≤_, _<_};
 ghost use lib.ListN.{length};

@@ -3,13 +3,12 @@ use leduc_betting::Public;
 use leduc_betting::betting::is_legal;
 use leduc_betting::betting::is_terminal;
 use leduc_betting::betting::round_over;
-use leduc_betting::betting::wide;
 use leduc_betting::cards::all_seen;
 use leduc_betting::cards::contains;
 use leduc_betting::cards::nth_remaining;
 use leduc_betting::options::legal_in;
 use leduc_rules::play::is_due;
-use leduc_rules::play::is_live;
+use prelude::wide;
 ghost use mathlib.Core.Path.{_≡_};
 ghost use Prim.Native.Nat.{_+_, _≤_, _<_};
 ghost use lib.ListN.{length};
@@ -62,14 +61,10 @@ pub fn seat_acts(s: Spot) -> bool
     requires { ⌜ Room s 0 ⌝ }
     ensures { λ r. ⌜ r ≡ acts (placed s) ⌝ }
 {
-    let cards = s.cards;
-    let dealt = s.dealt;
-    let first = s.first;
-    let acted1 = s.acted1;
-    let second = s.second;
-    let acted2 = s.acted2;
-    let public = s.public;
-    is_live(&cards[..dealt], public, &first[..acted1], &second[..acted2])
+    if card_due(s) {
+        return false;
+    }
+    !hand_over(s)
 }
 
 // Whether the hand has ended.

@@ -12,7 +12,8 @@ ghost use Rattle.prelude.specs.Finite.{or};
 ghost use Prim.Native.Nat.{_+_, _-_, _≤_};
 ghost use lib.ListN.{length};
 ghost use Rattle.leduc_rules.specs.Stakes.{ante, raise₁, raise₂};
-ghost use Rattle.leduc_rules.specs.Rules.{matched, seated, after-round, folds, pairs, beats, wins, payoff};
+ghost use Rattle.leduc_rules.specs.Rules.{folds, pairs, beats, wins, payoff};
+ghost use Rattle.leduc_rules.proofs.Pots.{matched, seated, after-round, pot, Begins-level};
 
 // What the seat to act has paid after an action.
 fn paid_after(acting: usize, other: usize, size: usize, action: u8) -> usize
@@ -61,7 +62,7 @@ pub fn round_pot(pot: Pot, size: usize, h: &[u8]) -> Pot
 // What both seats have paid, seat 0 first.
 pub fn contributions(round1: &[u8], round2: &[u8]) -> Pot
     requires { ⌜ (length (now round1) ≤ 4) × (length (now round2) ≤ 4) ⌝ }
-    ensures { λ r. ⌜ r ≡ after-round raise₂ (after-round raise₁ (record { acting = ante; other = ante }) (now (round1 .entry))) (now (round2 .entry)) ⌝ }
+    ensures { λ r. ⌜ r ≡ pot ante raise₁ raise₂ (now (round1 .entry)) (now (round2 .entry)) ⌝ }
 {
     let start = Pot {
         acting: ANTE,
@@ -162,10 +163,10 @@ pub struct Gains {
     pub one: i64,
 }
 
+// At a position that legal moves reach round 2 begins with equal contributions, if it has begun.
 pub fn settled(cards: [u8; 2], public: Public, round1: &[u8], round2: &[u8]) -> Gains
-    requires { ⌜ (length (now round1) ≤ 4) × (length (now round2) ≤ 4) ⌝ }
-    ensures { λ r. ⌜ (r .zero ≡ payoff ante raise₁ raise₂ cards public (now (round1 .entry)) (now (round2 .entry)) 0)
-        × (r .one ≡ payoff ante raise₁ raise₂ cards public (now (round1 .entry)) (now (round2 .entry)) 1) ⌝ }
+    requires { ⌜ (length (now round1) ≤ 4) × (length (now round2) ≤ 4) × Begins-level (now round1) (now round2) ⌝ }
+    ensures { λ r. ⌜ (r .zero ≡ payoff ante raise₁ raise₂ cards public (now (round1 .entry)) (now (round2 .entry)) 0) × (r .one ≡ payoff ante raise₁ raise₂ cards public (now (round1 .entry)) (now (round2 .entry)) 1) ⌝ }
 {
     let pot = contributions(round1, round2);
     let first = is_winner(cards, public, round1, round2, 0, 1);

@@ -14,6 +14,8 @@ use Rattle.leduc_betting.specs.Betting.{closes, ended, played}
 use Rattle.leduc_rules.specs.Rules.{live}
 use Rattle.leduc_betting.specs.Cards.{hidden, strange, twice}
 use Rattle.leduc_rules.proofs.Reaching.{Possible, possible-parts, live-open, ended-dealt}
+use Rattle.leduc_rules.proofs.Moves.{closed-or-none}
+use Rattle.leduc_rules.proofs.Pots.{Begins-level}
 use Rattle.leduc_rules.specs.Reached.{possible}
 use Rattle.leduc_positions.specs.Positions.{cardsOf, seenOf, roundOne, roundTwo, reachable}
 use Rattle.leduc_positions.specs.declared.LeducState.{LeducState}
@@ -95,6 +97,9 @@ module _ (s : LeducState) (two : length (s .cards) ≡ 2) (eight : length (s .hi
 
   pub room-to-act : live (cardsOf s) (s .public) (roundOne s) (roundTwo s) ≡ true → s .acted2 < 4
   room-to-act l = omega (arith, live-open parts l, second-counted)
+
+  pub begins-level : Begins-level (roundOne s) (roundTwo s)
+  begins-level = closed-or-none parts
 
   pub dealt-in-full : ended (roundOne s) (roundTwo s) ≡ true → s .dealt ≡ 2
   dealt-in-full l = sym cards-counted ∙ ended-dealt parts l

@@ -13,7 +13,6 @@ use leduc_money::settled;
 use leduc_rules::play::cards_fit;
 use leduc_rules::play::is_due;
 use leduc_rules::play::is_hidden;
-use leduc_rules::play::is_live;
 use leduc_rules::play::rounds_fit;
 ghost use mathlib.Core.Path.{_≡_};
 ghost use Prim.Native.Nat.{_≤_, _<_};
@@ -21,8 +20,8 @@ ghost use lib.ListN.{getD, take};
 ghost use Rattle.leduc_betting.specs.Betting.{closes, ended, counted};
 ghost use Rattle.leduc_betting.specs.Cards.{remaining};
 ghost use Rattle.leduc_rules.specs.Rules.{due, live};
-ghost use Rattle.leduc_positions.specs.Positions.{reachable, cardsOf, seenOf, roundOne, roundTwo, in-playOf};
-ghost use Rattle.leduc_positions.specs.Positions.{legal-of, with-card, with-action, payoff-of, mark};
+ghost use Rattle.leduc_rules.proofs.Pots.{Begins-level};
+ghost use Rattle.leduc_positions.specs.Positions.{reachable, cardsOf, seenOf, roundOne, roundTwo, in-playOf, legal-of, with-card, with-action, payoff-of, mark};
 
 // Whether a position can be reached from the start by legal moves.
 pub fn is_reachable(state: LeducState) -> bool
@@ -75,14 +74,10 @@ pub fn seat_acts(state: LeducState) -> bool
     requires { ⌜ (state .dealt ≤ 2) × (state .acted1 ≤ 4) × (state .acted2 ≤ 4) ⌝ }
     ensures { λ r. ⌜ r ≡ live (cardsOf state) (state .public) (roundOne state) (roundTwo state) ⌝ }
 {
-    let dealt = state.dealt;
-    let acted1 = state.acted1;
-    let acted2 = state.acted2;
-    let public = state.public;
-    let cards = state.cards;
-    let history = state.history;
-    let all = &history[..];
-    is_live(&cards[..dealt], public, &all[..acted1], &all[4..4 + acted2])
+    if card_due(state) {
+        return false;
+    }
+    !hand_over(state)
 }
 
 // Whether the hand has ended.
@@ -204,7 +199,7 @@ pub fn end_mark(state: LeducState) -> u64
 
 // What each seat gains.
 pub fn state_gains(state: LeducState) -> Gains
-    requires { ⌜ (state .dealt ≡ 2) × (state .acted1 ≤ 4) × (state .acted2 ≤ 4) ⌝ }
+    requires { ⌜ (state .dealt ≡ 2) × (state .acted1 ≤ 4) × (state .acted2 ≤ 4) × Begins-level (roundOne state) (roundTwo state) ⌝ }
     ensures { λ r. ⌜ (r .zero ≡ payoff-of state 0) × (r .one ≡ payoff-of state 1) ⌝ }
 {
     let acted1 = state.acted1;

@@ -1,5 +1,6 @@
 -- Laws of Leduc's rules.
 pub mod Gains
+pub mod Money
 pub mod Pots
 pub mod Reaching
 pub mod Moves

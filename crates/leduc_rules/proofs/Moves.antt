@@ -1,7 +1,8 @@
 -- The test of number 19 holds of what legal moves reach, and of nothing else. Assumes nothing.
 use mathlib.Core.Path.{_≡_, refl, sym, ap, ap₂, subst, _∙_}
+use mathlib.Core.Logic.{_⊎_, inl, inr}
 use mathlib.Core.Bool.{Bool, true, false, not}
-use mathlib.Core.List.{List, [], _∷_, _++_, append-assoc}
+use mathlib.Core.List.{List, [], _∷_, _++_, append-assoc, append-nil}
 use Prim.Native.Nat.{ℕ, suc, _+_, _≤_, _<_}
 use native.Mathlib.Omega.{arith}
 use lib.Dec.{eqb, leb, ltb}
@@ -57,14 +58,10 @@ module _ (xs : List ℕ) (x : ℕ) where
   pub front-fits : strange (xs ++ (x ∷ [])) ≡ false → twice (xs ++ (x ∷ [])) ≡ false → (strange xs ≡ false) × (twice xs ≡ false)
   front-fits s t = (or-false-left (strange xs) (leb 6 x) (sym strange-more ∙ s), or-false-left (twice xs) (has x xs) (sym twice-more ∙ t))
 
-append-none : (h : List ℕ) → h ++ [] ≡ h
-append-none [] = refl
-append-none (a ∷ h) = ap (λ t. a ∷ t) (append-none h)
-
 -- one action more of a round
 pub played-more : (before h : List ℕ) (a : ℕ) → played before h ≡ true → open-round (before ++ h) ≡ true → may (before ++ h) a ≡ true → played before (h ++ (a ∷ [])) ≡ true
 unfolding played and
-played-more before [] a e o m = both (both (ap open-round (sym (append-none before)) ∙ o) (ap (λ t. may t a) (sym (append-none before)) ∙ m)) refl
+played-more before [] a e o m = both (both (ap open-round (sym (append-nil before)) ∙ o) (ap (λ t. may t a) (sym (append-nil before)) ∙ m)) refl
 played-more before (b ∷ h) a e o m =
     both (and-left (and (open-round before) (may before b)) (played (before ++ (b ∷ [])) h) e)
     (played-more (before ++ (b ∷ [])) h a (and-right (and (open-round before) (may before b)) (played (before ++ (b ∷ [])) h) e)
@@ -103,6 +100,10 @@ module _ {cs : List ℕ} {p : Public} {h₁ h₂ : List ℕ} (w : Possible cs p 
 
   pub hidden-none : hidden p ≡ true → h₂ ≡ []
   hidden-none e = or-cases (not (hidden p)) (eqb (length h₂) 0) (w .blind-early) (λ q. true≢false (hidden p) e (not-true _ q)) (λ q. no-actions h₂ q)
+
+  -- round 2 begins once round 1 has closed
+  pub closed-or-none : (closes h₁ ≡ true) ⊎ (h₂ ≡ [])
+  closed-or-none = or-cases (hidden p) (closes h₁) (w .shown-late) (λ q. inr (hidden-none q)) (λ q. inl q)
 
 deal-possible : (cs : List ℕ) (p : Public) (h₁ h₂ : List ℕ) (c : ℕ) → Possible cs p h₁ h₂ → length cs < 2 → left (seen cs p) c ≡ true → Possible (cs ++ (c ∷ [])) p h₁ h₂
 deal-possible cs (Card x) h₁ h₂ c w l e = true≢false false (still-hidden w (ap closes (none-acted w l) ∙ nothing-closed)) refl
@@ -227,7 +228,7 @@ live-second cs h₁ h₂ x two f o =
 
 play-first : (cs : List ℕ) → length cs ≡ 2 → (before h : List ℕ) → played before h ≡ true → Reached cs Hidden before [] → Reached cs Hidden (before ++ h) []
 unfolding played
-play-first cs two before [] e r = subst (λ t. Reached cs Hidden t []) (sym (append-none before)) r
+play-first cs two before [] e r = subst (λ t. Reached cs Hidden t []) (sym (append-nil before)) r
 play-first cs two before (a ∷ h) e r =
     let now = and-left (and (open-round before) (may before a)) (played (before ++ (a ∷ [])) h) e in
     let o = and-left (open-round before) (may before a) now in
@@ -237,7 +238,7 @@ play-first cs two before (a ∷ h) e r =
 
 play-second : (cs : List ℕ) (x : ℕ) (h₁ : List ℕ) → length cs ≡ 2 → closes h₁ ≡ true → folded h₁ ≡ false → (before h : List ℕ) → played before h ≡ true → Reached cs (Card x) h₁ before → Reached cs (Card x) h₁ (before ++ h)
 unfolding played
-play-second cs x h₁ two c f before [] e r = subst (λ t. Reached cs (Card x) h₁ t) (sym (append-none before)) r
+play-second cs x h₁ two c f before [] e r = subst (λ t. Reached cs (Card x) h₁ t) (sym (append-nil before)) r
 play-second cs x h₁ two c f before (a ∷ h) e r =
     let now = and-left (and (open-round before) (may before a)) (played (before ++ (a ∷ [])) h) e in
     let o = and-left (open-round before) (may before a) now in

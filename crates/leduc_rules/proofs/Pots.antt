@@ -1,18 +1,38 @@
--- Laws of the pot. Assumes nothing.
-use mathlib.Core.Path.{_≡_, ap, _∙_}
+-- What both seats have paid as the code's loop counts it, turn by turn, and that it is what they have contributed. Assumes nothing.
+use mathlib.Core.Path.{_≡_, refl, sym, ap, ap₂, _∙_}
+use mathlib.Core.Logic.{_⊎_, ⊎-elim}
 use mathlib.Core.Bool.{Bool, true, false, cond}
 use mathlib.Core.List.{List, [], _∷_}
 use Prim.Native.Nat.{ℕ, zero, suc, _+_, _*_, _-_, _%_, _≤_, _<_}
+use native.Mathlib.Nat as NatL
 use native.Mathlib.Omega.{arith}
 use native.Mathlib.Numerals.{add-one}
 use lib.Dec.{eqb}
 use lib.ListN.{length, getD, drop, drop-of-length-le}
 use lib.Seq.{drop-cons}
-use Rattle.leduc_betting.specs.Betting.{CALL, RAISE}
-use Rattle.leduc_rules.specs.Rules.{matched, bet, seated, after-round, contribution, wins, payoff}
+use Rattle.prelude.proofs.Tests.{Tested, holds, fails, tested}
+use Rattle.leduc_betting.specs.Betting.{CALL, RAISE, closes}
+use Rattle.leduc_rules.specs.Rules.{after-action, put-in, added, contribution, wins, payoff}
 use Rattle.leduc_betting.specs.declared.Public.{Public}
 use Rattle.leduc_rules.specs.declared.Pot.{Pot}
 use Rattle.leduc_rules.proofs.Gains.{gained}
+use Rattle.leduc_rules.proofs.Money.{acting, other, acting-more, other-more, even-turn, odd-turn, closed-level}
+
+-- ---- the loop: what the seat to act has paid after an action, what both have after a round, and that with seat 0 first
+
+unfoldable pub matched : (size : ℕ) → Pot → ℕ → ℕ
+matched size q a = cond (eqb a CALL) (q .other) (cond (eqb a RAISE) (q .other + size) (q .acting))
+
+unfoldable pub bet : (size : ℕ) → Pot → List ℕ → Pot
+bet size q [] = q
+bet size q (a ∷ h) = bet size (record { acting = q .other; other = matched size q a }) h
+
+-- seat 0 begins the round, so after an odd number of actions it is the other
+unfoldable pub seated : ℕ → Pot → Pot
+seated n q = cond (eqb (n % 2) 0) q (record { acting = q .other; other = q .acting })
+
+unfoldable pub after-round : (size : ℕ) → Pot → List ℕ → Pot
+after-round size q h = seated (length h) (bet size q h)
 
 abbrev pub pot-of : ℕ → ℕ → Pot
 pot-of a o = record { acting = a; other = o }
@@ -75,19 +95,89 @@ paid-bound h₁ h₂ l m =
     round-bound 4 17 (after-round 2 (pot-of 1 1) h₁) h₂ (omega arith) m
     (round-bound 2 1 (pot-of 1 1) h₁ (omega arith) l (record { acting-within = omega arith; other-within = omega arith }))
 
+-- ---- the pot holds what the seats have contributed
+
+module _ (size u : ℕ) where
+  matched-from : (x y a : ℕ) → matched size (pot-of (u + x) (u + y)) a ≡ u + after-action size a x y
+  unfolding matched after-action
+  matched-from x y a = go (eqb a CALL) (eqb a RAISE)
+    where
+      go : (b c : Bool) → cond b (u + y) (cond c (u + y + size) (u + x)) ≡ u + cond b y (cond c (y + size) x)
+      go true c = refl
+      go false true = omega arith
+      go false false = refl
+
+  -- after i actions of a round that both began with u
+  bet-from : (h : List ℕ) (i : ℕ) → i ≤ length h → bet size (pot-of (u + acting size h i) (u + other size h i)) (drop i h) ≡ bet size (pot-of u u) h
+  unfolding put-in
+  bet-from h zero l = ap (λ x. bet size (pot-of x x) h) (NatL.add-zero u)
+  bet-from h (suc i) l =
+      ap₂ (λ x y. bet size (pot-of x y) (drop (suc i) h)) (ap (λ x. u + x) (acting-more size h i))
+      (ap (λ x. u + x) (other-more size h i) ∙ sym (matched-from (acting size h i) (other size h i) (getD h i 0)))
+      ∙ ap (λ k. bet size (pot-of (u + other size h i) (matched size (pot-of (u + acting size h i) (u + other size h i)) (getD h i 0))) (drop k h)) (sym (add-one i))
+      ∙ sym (bet-step size (u + acting size h i) (u + other size h i) h i l)
+      ∙ bet-from h i (omega arith)
+
+  by-seat : (h : List ℕ) (n : ℕ) → seated n (pot-of (u + acting size h n) (u + other size h n)) ≡ pot-of (u + put-in size h n 0) (u + put-in size h n 1)
+  unfolding seated
+  by-seat h n = go (tested (eqb (n % 2) 0))
+    where
+      x : ℕ
+      x = u + acting size h n
+
+      y : ℕ
+      y = u + other size h n
+
+      go : Tested (eqb (n % 2) 0) → cond (eqb (n % 2) 0) (pot-of x y) (pot-of y x) ≡ pot-of (u + put-in size h n 0) (u + put-in size h n 1)
+      go (holds t) = let (e, f) = even-turn size h n t in ap (λ b. cond b (pot-of x y) (pot-of y x)) t ∙ ap₂ (λ v w. pot-of (u + v) (u + w)) e f
+      go (fails t) = let (e, f) = odd-turn size h n t in ap (λ b. cond b (pot-of x y) (pot-of y x)) t ∙ ap₂ (λ v w. pot-of (u + w) (u + v)) e f
+
+  round-adds : (h : List ℕ) → after-round size (pot-of u u) h ≡ pot-of (u + added size h 0) (u + added size h 1)
+  unfolding after-round
+  round-adds h =
+      ap (seated (length h)) (sym (bet-from h (length h) (omega arith)) ∙ bet-end size (u + acting size h (length h)) (u + other size h (length h)) h (length h) (omega arith))
+      ∙ by-seat h (length h)
+
+-- round 2 begins with both seats level, or has not begun
+abbrev pub Begins-level : List ℕ → List ℕ → Type 0
+Begins-level h₁ h₂ = (closes h₁ ≡ true) ⊎ (h₂ ≡ [])
+
+module _ (ante raise₁ raise₂ : ℕ) (h₁ h₂ : List ℕ) where
+  abbrev pub pot : Pot
+  pot = after-round raise₂ (after-round raise₁ (pot-of ante ante) h₁) h₂
+
+  -- what seat s has paid before round 2
+  abbrev before : ℕ → ℕ
+  before s = ante + added raise₁ h₁ s
+
+  -- a round that has not begun adds nothing
+  none-added : h₂ ≡ [] → after-round raise₂ (pot-of (before 0) (before 1)) h₂ ≡ pot-of (before 0 + added raise₂ h₂ 0) (before 1 + added raise₂ h₂ 1)
+  unfolding after-round bet seated put-in
+  none-added e = rw e (ap₂ pot-of (sym (NatL.add-zero (before 0))) (sym (NatL.add-zero (before 1))))
+
+  level-added : closes h₁ ≡ true → after-round raise₂ (pot-of (before 0) (before 1)) h₂ ≡ pot-of (before 0 + added raise₂ h₂ 0) (before 1 + added raise₂ h₂ 1)
+  level-added c =
+      let e : before 0 ≡ before 1 = ap (λ x. ante + x) (closed-level raise₁ h₁ c) in
+      ap (λ x. after-round raise₂ (pot-of (before 0) x) h₂) (sym e) ∙ round-adds raise₂ (before 0) h₂ ∙ ap (λ x. pot-of (before 0 + added raise₂ h₂ 0) (x + added raise₂ h₂ 1)) e
+
+  pub pot-paid : Begins-level h₁ h₂ → pot ≡ pot-of (contribution ante raise₁ raise₂ h₁ h₂ 0) (contribution ante raise₁ raise₂ h₁ h₂ 1)
+  unfolding contribution
+  pot-paid w = ap (λ q. after-round raise₂ q h₂) (round-adds raise₁ ante h₁) ∙ ⊎-elim level-added none-added w
+
 -- ---- the payoffs at today's stakes, from who wins and the pot
 
-module _ (cs : List ℕ) (p : Public) (h₁ h₂ : List ℕ) (x y : Bool) (q : Pot) (e : x ≡ wins cs p h₁ h₂ 0 1) (f : y ≡ wins cs p h₁ h₂ 1 0) (g : q ≡ after-round 4 (after-round 2 (pot-of 1 1) h₁) h₂) where
+module _ (cs : List ℕ) (p : Public) (h₁ h₂ : List ℕ) (w : Begins-level h₁ h₂) (x y : Bool) (q : Pot) (e : x ≡ wins cs p h₁ h₂ 0 1) (f : y ≡ wins cs p h₁ h₂ 1 0) (g : q ≡ pot 1 2 4 h₁ h₂) where
+  paid-is : q ≡ pot-of (contribution 1 2 4 h₁ h₂ 0) (contribution 1 2 4 h₁ h₂ 1)
+  paid-is = g ∙ pot-paid 1 2 4 h₁ h₂ w
+
   pub payoff-zero : gained x y (q .acting) (q .other) ≡ payoff 1 2 4 cs p h₁ h₂ 0
-  unfolding payoff contribution
+  unfolding payoff
   payoff-zero =
-      ap (λ b. gained b y (q .acting) (q .other)) e
-      ∙ ap (λ b. gained (wins cs p h₁ h₂ 0 1) b (q .acting) (q .other)) f
-      ∙ ap (λ r. gained (wins cs p h₁ h₂ 0 1) (wins cs p h₁ h₂ 1 0) (r .acting) (r .other)) g
+      ap₂ (λ b c. gained b c (q .acting) (q .other)) e f
+      ∙ ap (λ r. gained (wins cs p h₁ h₂ 0 1) (wins cs p h₁ h₂ 1 0) (r .acting) (r .other)) paid-is
 
   pub payoff-one : gained y x (q .other) (q .acting) ≡ payoff 1 2 4 cs p h₁ h₂ 1
-  unfolding payoff contribution
+  unfolding payoff
   payoff-one =
-      ap (λ b. gained b x (q .other) (q .acting)) f
-      ∙ ap (λ b. gained (wins cs p h₁ h₂ 1 0) b (q .other) (q .acting)) e
-      ∙ ap (λ r. gained (wins cs p h₁ h₂ 1 0) (wins cs p h₁ h₂ 0 1) (r .other) (r .acting)) g
+      ap₂ (λ b c. gained b c (q .other) (q .acting)) f e
+      ∙ ap (λ r. gained (wins cs p h₁ h₂ 1 0) (wins cs p h₁ h₂ 0 1) (r .other) (r .acting)) paid-is

@@ -1,9 +1,8 @@
--- What holds of Leduc's rules, proved in proofs/Facts.antt.
--- cs are the seats' cards, p the public card, h₁ and h₂ the histories of the rounds.
+-- What holds of Leduc's rules, proved in proofs/. cs are the seats' cards, p the public card, h₁ and h₂ the histories of the rounds.
 use mathlib.Core.Path.{_≡_}
 use mathlib.Core.Bool.{Bool, true, false, cond, _&&_}
 use mathlib.Core.List.{List, [], _∷_}
-use Prim.Native.Nat.{ℕ, _-_, _≤_, _<_}
+use Prim.Native.Nat.{ℕ, _+_, _*_, _-_, _≤_, _<_}
 use lib.Dec.{ltb}
 use lib.IntN.{pos, _+ℤ_}
 use lib.ListN.{length, getD, take}
@@ -12,7 +11,7 @@ use Rattle.refusals.specs.Refusals as Refusals
 use Rattle.prelude.specs.Finite.{has}
 use Rattle.leduc_betting.specs.Betting.{closes, behind, may, in-play, turn, ended}
 use Rattle.leduc_betting.specs.Cards.{hidden, left, remaining}
-use Rattle.leduc_rules.specs.Rules.{due, live, legal, shown-public, key, contribution, payoff}
+use Rattle.leduc_rules.specs.Rules.{due, live, legal, shown-public, key, added, contribution, payoff}
 use Rattle.leduc_rules.specs.Reached.{Reached}
 use Rattle.leduc_betting.specs.Checks.{action-checks, barred-by}
 use Rattle.leduc_betting.specs.declared.Public.{Public}
@@ -30,10 +29,25 @@ Zero-sum = (ante raise₁ raise₂ : ℕ) (cs : List ℕ) (p : Public) (h₁ h�
 
 -- the seat to act is behind exactly when it has paid less than the other, at all positive stakes
 abbrev pub Behind-pays-less : Type 0
-Behind-pays-less = (ante raise₁ raise₂ : ℕ) → 0 < raise₁ → 0 < raise₂ → (cs : List ℕ) (p : Public) (h₁ h₂ : List ℕ)
-    → Reached cs p h₁ h₂ → live cs p h₁ h₂ ≡ true
-    → behind (in-play h₁ h₂) ≡ ltb (contribution ante raise₁ raise₂ h₁ h₂ (turn h₁ h₂))
-    (contribution ante raise₁ raise₂ h₁ h₂ (1 - turn h₁ h₂))
+Behind-pays-less = (ante raise₁ raise₂ : ℕ) → 0 < raise₁ → 0 < raise₂
+    → (cs : List ℕ) (p : Public) (h₁ h₂ : List ℕ) → Reached cs p h₁ h₂ → live cs p h₁ h₂ ≡ true
+    → behind (in-play h₁ h₂)
+    ≡ ltb (contribution ante raise₁ raise₂ h₁ h₂ (turn h₁ h₂)) (contribution ante raise₁ raise₂ h₁ h₂ (1 - turn h₁ h₂))
+
+-- the seat to act has never paid more than the other, and has paid as much unless it is behind, at all stakes
+abbrev pub Never-ahead : Type 0
+Never-ahead = (ante raise₁ raise₂ : ℕ) (cs : List ℕ) (p : Public) (h₁ h₂ : List ℕ) → Reached cs p h₁ h₂ → live cs p h₁ h₂ ≡ true
+    → (contribution ante raise₁ raise₂ h₁ h₂ (turn h₁ h₂) ≤ contribution ante raise₁ raise₂ h₁ h₂ (1 - turn h₁ h₂))
+    × (behind (in-play h₁ h₂) ≡ false
+    → contribution ante raise₁ raise₂ h₁ h₂ (turn h₁ h₂) ≡ contribution ante raise₁ raise₂ h₁ h₂ (1 - turn h₁ h₂))
+
+-- a contribution is the ante and each round's raise times a count: how many raises of the round the seat has paid
+abbrev pub raises-paid : List ℕ → ℕ → ℕ
+raises-paid h s = added 1 h s
+
+abbrev pub Linear-in-stakes : Type 0
+Linear-in-stakes = (ante raise₁ raise₂ : ℕ) (h₁ h₂ : List ℕ) (s : ℕ)
+    → contribution ante raise₁ raise₂ h₁ h₂ s ≡ ante + raise₁ * raises-paid h₁ s + raise₂ * raises-paid h₂ s
 
 -- the cards left are listed in ascending order,
 abbrev pub Ascending : Type 0

@@ -2,7 +2,7 @@
 -- the cards and the histories, the money on the stakes too. h₁ and h₂ are the histories of the two rounds.
 use mathlib.Core.Bool.{Bool, false, not, cond}
 use mathlib.Core.List.{List, [], _∷_, _++_}
-use Prim.Native.Nat.{ℕ, _+_, _-_, _%_}
+use Prim.Native.Nat.{ℕ, zero, suc, _+_, _-_, _%_}
 use lib.Dec.{eqb, ltb}
 use lib.IntN.{ℤ, pos, negℤ}
 use lib.ListN.{length, getD}
@@ -11,7 +11,6 @@ use Rattle.leduc_betting.specs.Betting.{FOLD, CALL, RAISE, folded, closes, opti
 use Rattle.leduc_betting.specs.Cards.{rank, hidden}
 use Rattle.leduc_betting.specs.declared.Public.{Public}
 use Rattle.leduc_betting.specs.declared.Public.the-variants.{Hidden, Card}
-use Rattle.leduc_rules.specs.declared.Pot.{Pot}
 
 -- ---- the deal: a card for each seat, and the public one once round 1 has closed
 
@@ -46,28 +45,27 @@ key cs p h₁ h₂ s = s ∷ shown (getD cs s 0) ∷ shown-public p ∷ length h
 
 -- ---- money: an ante, then raises of one size in round 1 and another in round 2
 
--- what the seat to act has paid after action a: CALL matches the other seat; RAISE matches and adds
-unfoldable pub matched : (size : ℕ) → Pot → ℕ → ℕ
-matched size q a = cond (eqb a CALL) (q .other) (cond (eqb a RAISE) (q .other + size) (q .acting))
+-- a seat has put in own and the other seat other; what it has put in after its action: CALL matches the other seat; RAISE matches and adds
+unfoldable pub after-action : (size action own other : ℕ) → ℕ
+after-action size action own other = cond (eqb action CALL) other (cond (eqb action RAISE) (other + size) own)
 
--- what both have paid after the actions of a round; at each the turn passes to the other seat
-unfoldable pub bet : (size : ℕ) → Pot → List ℕ → Pot
-bet size q [] = q
-bet size q (a ∷ h) = bet size (record { acting = q .other; other = matched size q a }) h
+-- what seat s has put in by the first i actions of a round, which the seats make in turn from seat 0
+unfoldable pub put-in : (size : ℕ) → List ℕ → (i s : ℕ) → ℕ
+unfolding after-action
+put-in size h zero s = 0
+put-in size h (suc i) s =
+    let own : ℕ = put-in size h i s in
+    let other : ℕ = put-in size h i (1 - s) in
+    cond (eqb s (i % 2)) (after-action size (getD h i FOLD) own other) own
 
--- what both have paid, seat 0 first: it begins the round, so after an odd number of actions it is the other
-unfoldable pub seated : ℕ → Pot → Pot
-seated n q = cond (eqb (n % 2) 0) q (record { acting = q .other; other = q .acting })
+-- what the calls and raises of seat s have added in a round
+abbrev pub added : (size : ℕ) → List ℕ → ℕ → ℕ
+added size h s = put-in size h (length h) s
 
--- what both have paid after a round, seat 0 first
-unfoldable pub after-round : (size : ℕ) → Pot → List ℕ → Pot
-after-round size q h = seated (length h) (bet size q h)
-
--- what seat s has paid
+-- what seat s has paid: the ante, and what it added in each round
 unfoldable pub contribution : (ante raise₁ raise₂ : ℕ) → List ℕ → List ℕ → ℕ → ℕ
-contribution ante raise₁ raise₂ h₁ h₂ s =
-    let q : Pot = after-round raise₂ (after-round raise₁ (record { acting = ante; other = ante }) h₁) h₂ in
-    cond (eqb s 0) (q .acting) (q .other)
+unfolding put-in
+contribution ante raise₁ raise₂ h₁ h₂ s = ante + added raise₁ h₁ s + added raise₂ h₂ s
 
 -- seat s has folded: at a place of a history where the turn was its own
 unfoldable pub folds : List ℕ → ℕ → Bool

@@ -15,7 +15,7 @@ ghost use lib.ListN.{length, take};
 ghost use Rattle.prelude.specs.Finite.{and, or};
 ghost use Rattle.leduc_betting.specs.Betting.{closes, played};
 ghost use Rattle.leduc_betting.specs.Cards.{hidden, seen, strange, twice};
-ghost use Rattle.leduc_rules.specs.Rules.{public-due, due, live};
+ghost use Rattle.leduc_rules.specs.Rules.{public-due, due};
 
 // Whether no public card lies there.
 pub fn is_hidden(public: Public) -> bool
@@ -94,14 +94,4 @@ pub fn is_due(cards: &[u8], public: Public, round1: &[u8], round2: &[u8]) -> boo
         return true;
     }
     is_public_due(public, round1, round2)
-}
-
-// Whether a seat acts.
-pub fn is_live(cards: &[u8], public: Public, round1: &[u8], round2: &[u8]) -> bool
-    ensures { λ r. ⌜ r ≡ live (now (cards .entry)) public (now (round1 .entry)) (now (round2 .entry)) ⌝ }
-{
-    if is_due(cards, public, round1, round2) {
-        return false;
-    }
-    !is_terminal(round1, round2)
 }

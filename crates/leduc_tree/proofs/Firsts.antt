@@ -1,7 +1,7 @@
 -- The decisions of Leduc's tree are its turns, and the rule on the cards tells which of them is met for the first time: that can be computed. Assumes nothing.
 use mathlib.Core.Path.{_≡_, refl, sym, ap, ap₂, _∙_}
 use mathlib.Core.Bool.{Bool, true, false, not, cond}
-use mathlib.Core.List.{List, [], _∷_, _++_, map}
+use mathlib.Core.List.{List, [], _∷_, _++_, map, map-append}
 use Prim.Native.Nat.{ℕ, zero, suc}
 use lib.IntN.{ℤ}
 use lib.ListN.{length}
@@ -14,11 +14,6 @@ use Rattle.game_tree.proofs.Tests.{T-of, same→eq}
 use Rattle.game_tree.proofs.Tries.{Trie, finds, add, finds-add}
 use Rattle.leduc_tree.specs.Tree.{Position, acted, actor, choices, key, afterDeal, afterAction, Next, card, action, nothing, next, each, below}
 use Rattle.leduc_tree.specs.Turns.{joined, turns, isFirst, firstOnes, decisionAt}
-
--- ---- the decisions, in the order of their nodes
-pub map-append : {A B : Type 0} (f : A → B) (xs ys : List A) → map f (xs ++ ys) ≡ map f xs ++ map f ys
-map-append f [] ys = refl
-map-append f (x ∷ xs) ys = ap (λ l. f x ∷ l) (map-append f xs ys)
 
 pub fan-each : (f : ℕ → Position) (l : List ℕ) (g : Position → Tree) → fan (each (map f l) g) ≡ length l
 unfolding fan each

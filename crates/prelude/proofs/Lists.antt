@@ -1,7 +1,7 @@
 -- Laws of lists of numbers: their front part, what stands in them, and the numbers below a bound of which a test holds. Assumes nothing.
 use mathlib.Core.Path.{_≡_, refl, sym, ap, ap₂, _∙_}
 use mathlib.Core.Bool.{Bool, true, false, cond}
-use mathlib.Core.List.{List, [], _∷_, _++_}
+use mathlib.Core.List.{List, [], _∷_, _++_, append-nil}
 use Prim.Native.Nat.{ℕ, zero, suc, _+_, _≤_, _<_}
 use native.Mathlib.Nat as NatL
 use native.Mathlib.Numerals.{add-one}
@@ -11,7 +11,7 @@ use lib.ListN.{length, getD, take, set, replicate, length-append, length-set, le
 use lib.Seq.{length-take-le, getD-take, take-suc, getD-at, getD-set-same, getD-set-other, ext-getD}
 use borrow.Author.Tests.{eq-eqb, ne-eqb, eqb-true, eqb-false, lt-ltb, le-ltb, ltb-true}
 use Rattle.prelude.specs.Finite.{and, or, some, sum, those, has, places}
-use Rattle.prelude.proofs.Tests.{Tested, holds, fails, tested, iff, both, and-left-fails, and-right-fails, or-left, or-right, below-cases, some-same}
+use Rattle.prelude.proofs.Tests.{Tested, holds, fails, tested, iff, both, and-left-fails, and-right-fails, or-left, or-right, or-none, or-assoc, below-cases, some-same}
 
 -- ---- a front part
 
@@ -31,15 +31,6 @@ pub has-append : (c : ℕ) (xs ys : List ℕ) → has c (xs ++ ys) ≡ or (has c
 unfolding has or
 has-append c [] ys = refl
 has-append c (x ∷ xs) ys = ap (or (eqb x c)) (has-append c xs ys) ∙ or-assoc (eqb x c) (has c xs) (has c ys)
-  where
-    or-assoc : (a b d : Bool) → or a (or b d) ≡ or (or a b) d
-    or-assoc true b d = refl
-    or-assoc false b d = refl
-
-or-none : (b : Bool) → or b false ≡ b
-unfolding or
-or-none true = refl
-or-none false = refl
 
 -- c stands in a front part if it stands at one of its places
 pub has-take : (c a : ℕ) (l : List ℕ) → a ≤ length l → has c (take a l) ≡ some a (λ i. eqb (getD l i 0) c)
@@ -49,10 +40,6 @@ has-take c (suc a) l h = ap (has c) (take-suc l a 0 h) ∙ has-append c (take a 
 
 -- ---- the numbers below a bound of which a test holds
 
-append-none : (xs : List ℕ) → xs ++ [] ≡ xs
-append-none [] = refl
-append-none (x ∷ xs) = ap (λ l. x ∷ l) (append-none xs)
-
 module _ (p : ℕ → Bool) where
   pub those-kept : (n : ℕ) → p n ≡ true → those (suc n) p ≡ those n p ++ (n ∷ [])
   unfolding those
@@ -60,7 +47,7 @@ module _ (p : ℕ → Bool) where
 
   pub those-passed : (n : ℕ) → p n ≡ false → those (suc n) p ≡ those n p
   unfolding those
-  those-passed n e = rw e (append-none (those n p))
+  those-passed n e = rw e (append-nil (those n p))
 
   pub length-those-kept : (n : ℕ) → p n ≡ true → length (those (n + 1) p) ≡ length (those n p) + 1
   length-those-kept n e = rw (add-one, those-kept n e) (length-append (those n p) (n ∷ []))
@@ -74,7 +61,7 @@ module _ (p : ℕ → Bool) where
     where
       go : Tested (p m) → (xs : List ℕ) × (those (suc m) p ≡ those m p ++ xs)
       go (holds e) = (m ∷ [], those-kept m e)
-      go (fails e) = ([], those-passed m e ∙ sym (append-none (those m p)))
+      go (fails e) = ([], those-passed m e ∙ sym (append-nil (those m p)))
 
   pub those-grow : (n m : ℕ) → n ≤ m → length (those n p) ≤ length (those m p)
   those-grow n zero h = let q : n ≡ 0 = omega arith in rw q (NatL.le-refl (length (those 0 p)))

@@ -59,6 +59,11 @@ unfolding and
 and-right-fails true q = q
 and-right-fails false q = refl
 
+pub and-all : (b : Bool) → and b true ≡ b
+unfolding and
+and-all true = refl
+and-all false = refl
+
 -- the first test is settled, and the second decides
 pub and-rest : {a : Bool} (b : Bool) → a ≡ true → and a b ≡ b
 unfolding and
@@ -76,6 +81,16 @@ pub or-right : (a : Bool) {b : Bool} → b ≡ true → or a b ≡ true
 unfolding or
 or-right true q = refl
 or-right false q = q
+
+pub or-none : (b : Bool) → or b false ≡ b
+unfolding or
+or-none true = refl
+or-none false = refl
+
+pub or-assoc : (a b c : Bool) → or a (or b c) ≡ or (or a b) c
+unfolding or
+or-assoc true b c = refl
+or-assoc false b c = refl
 
 pub neither : {a b : Bool} → a ≡ false → b ≡ false → or a b ≡ false
 unfolding or

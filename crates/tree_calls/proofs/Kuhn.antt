@@ -29,7 +29,7 @@ use Rattle.kuhn_tree.specs.Follows.{Follows, FollowsAll}
 use Rattle.kuhn_tree.specs.Follows as Rule
 use Rattle.kuhn_tree.proofs.Growth.{legal-acts, kuhn-follows}
 use Rattle.kuhn_tree.proofs.Positions.{node-follows}
-use Rattle.tree_calls.specs.Kuhn.{Played, Dealt, Stepped, treeOf, NodesPlayed, TreePlayed}
+use Rattle.tree_calls.specs.Kuhn.{Played, Dealt, Stepped, tree, NodesPlayed, TreePlayed}
 use Rattle.tree_calls.proofs.Lists.{rest-none, rest-head}
 
 module _ (g : KuhnPoker) (least : 2 ≤ g .players) (most : g .players ≤ 10) where
@@ -133,10 +133,10 @@ module _ (g : KuhnPoker) (least : 2 ≤ g .players) (most : g .players ≤ 10) w
 
 pub nodes-played : NodesPlayed
 nodes-played g s a least most z l e =
-    played g least most (nodeOf (treeOf g) a) s z (subst (λ q. Follows 1 1 (g .players) (nodeOf (treeOf g) a) (q .0) (q .1)) e (node-follows 1 1 (g .players) (omega arith) a l))
+    played g least most (nodeOf (tree g) a) s z (subst (λ q. Follows 1 1 (g .players) (nodeOf (tree g) a) (q .0) (q .1)) e (node-follows 1 1 (g .players) (omega arith) a l))
 
 initial-fits : (n : ℕ) → Fit n initial
 initial-fits n = record { sized = record { cards-size = refl; history-size = refl }; within = (omega arith, omega arith); reached = start }
 
 pub tree-played : TreePlayed
-tree-played g least most = played g least most (treeOf g) initial (initial-fits (g .players)) (kuhn-follows (g .players) (omega arith) 1 1)
+tree-played g least most = played g least most (tree g) initial (initial-fits (g .players)) (kuhn-follows (g .players) (omega arith) 1 1)

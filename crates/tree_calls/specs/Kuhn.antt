@@ -44,14 +44,14 @@ module _ (g : KuhnPoker) where
     Stepped (cons t f) s (a ∷ l) = (stepped g s a .refusal ≡ accepted) × Played t (stepped g s a .state) × Stepped f s l
 
 -- the tree of a game
-abbrev pub treeOf : KuhnPoker → Tree
-treeOf g = kuhnTree ante stake (g .players)
+abbrev pub tree : KuhnPoker → Tree
+tree g = kuhnTree ante stake (g .players)
 
 -- at the node that a reached position stands for, the tree is the one that the calls play from it
 abbrev pub NodesPlayed : Type 0
-NodesPlayed = (g : KuhnPoker) (s : KuhnState) (a : ℕ) → 2 ≤ g .players → g .players ≤ 10 → Fit (g .players) s → a < size (treeOf g)
-    → positionOf (treeOf g) (g .players) a ≡ (cardsOf s, historyOf s) → Played g (nodeOf (treeOf g) a) s
+NodesPlayed = (g : KuhnPoker) (s : KuhnState) (a : ℕ) → 2 ≤ g .players → g .players ≤ 10 → Fit (g .players) s → a < size (tree g)
+    → positionOf (tree g) (g .players) a ≡ (cardsOf s, historyOf s) → Played g (nodeOf (tree g) a) s
 
 -- and so it is from the start
 abbrev pub TreePlayed : Type 0
-TreePlayed = (g : KuhnPoker) → 2 ≤ g .players → g .players ≤ 10 → Played g (treeOf g) (started g .state)
+TreePlayed = (g : KuhnPoker) → 2 ≤ g .players → g .players ≤ 10 → Played g (tree g) (started g .state)

@@ -1,7 +1,7 @@
 -- Where the members of a seat's set stand, and that they are those of its reply tree. Assumes nothing.
 use mathlib.Core.Path.{_≡_, refl, sym, ap, ap₂, _∙_}
 use mathlib.Core.Bool.{Bool, true, false, cond}
-use mathlib.Core.List.{List, _∷_, _++_, map}
+use mathlib.Core.List.{List, _∷_, _++_, map, map-append}
 use Prim.Native.Nat.{ℕ, suc, _+_, _/_}
 use lib.Dec.{eqb}
 use Rattle.game_tree.specs.Tree.{Key, Tree, end, chance, decide, Trees, nil, cons, fan, Strategy}
@@ -11,7 +11,6 @@ use Rattle.game_tree.proofs.Tests.{Tested, is, isn't, tested, T-of, same→eq, 
 use Rattle.game_tree.proofs.Members.{withKey-append}
 use Rattle.arena_walks.specs.Found as Walks
 use Rattle.arena_walks.proofs.Finding as Finding
-use Rattle.arena_walks.proofs.Finding.{map-append}
 use Rattle.units.specs.Gain.{Member, given, found, foundAll}
 use Rattle.units.specs.Gains.{PlacesFound, MembersFound}
 

@@ -22,17 +22,17 @@ use Rattle.f64_collect.proofs.+collect+divide+one+spread.Lts-one as one
 use Rattle.f64_collect.proofs.spread.Reads as spread
 use Rattle.f64_collect.proofs.spread.Kinds as spread-kinds
 use Rattle.f64_collect.proofs.+collect+divide+one+spread.Lts-spread as spread-lts
-use Rattle.arena.proofs.walk.behind.Reads as behind-reads
-use Rattle.arena.proofs.walk.fan.Reads as fan-reads
-use Rattle.arena.proofs.words.actions.Reads as actions-reads
-use Rattle.arena.proofs.words.actor.Reads as actor-reads
-use Rattle.arena.proofs.words.kind.Reads as kind-reads
-use Rattle.arena.proofs.words.next.Reads as next-reads
-use Rattle.arena.proofs.words.set.Reads as set-reads
-use Rattle.arena.proofs.words.word.Reads as word-reads
-use Rattle.f64_numbers.proofs.entry.Reads as entry-reads
-use Rattle.f64_numbers.proofs.put_float.Reads as put-float-reads
-use Rattle.f64_numbers.proofs.weight.Reads as weight-reads
+use Rattle.arena.proofs.walk.behind.Reads as behind
+use Rattle.arena.proofs.walk.fan.Reads as fan
+use Rattle.arena.proofs.words.actions.Reads as actions
+use Rattle.arena.proofs.words.actor.Reads as actor
+use Rattle.arena.proofs.words.kind.Reads as kind
+use Rattle.arena.proofs.words.next.Reads as next
+use Rattle.arena.proofs.words.set.Reads as set
+use Rattle.arena.proofs.words.word.Reads as word
+use Rattle.f64_numbers.proofs.entry.Reads as entry
+use Rattle.f64_numbers.proofs.put_float.Reads as put-float
+use Rattle.f64_numbers.proofs.weight.Reads as weight
 use Rattle.f64_collect.proofs.+collect+divide+one+spread.{statement}
 use Rattle.f64_collect.proofs.+collect+divide+one+spread.Tie.{close}
 
@@ -73,16 +73,16 @@ abbrev spread-below : ℕ → In 2 spread-kinds.ps
 spread-below t = and 2 spread-kinds.ps (falls 2 spread-kinds.ps _<_ μ-spread t) spread.Pre
 
 abbrev collect-callees : ℕ → collect-lts.Claims
-collect-callees t = (word-reads.Asked, word-reads.Learnt, kind-reads.Asked, kind-reads.Learnt, next-reads.Asked, next-reads.Learnt, fan-reads.Asked, fan-reads.Learnt, weight-reads.Asked, weight-reads.Learnt, spread-below t, spread.Post, actor-reads.Asked, actor-reads.Learnt, put-float-reads.Asked, put-float-reads.Learnt, set-reads.Asked, set-reads.Learnt, actions-reads.Asked, actions-reads.Learnt, divide-below t, divide.Post)
+collect-callees t = (word.Asked, word.Learnt, kind.Asked, kind.Learnt, next.Asked, next.Learnt, fan.Asked, fan.Learnt, weight.Asked, weight.Learnt, spread-below t, spread.Post, actor.Asked, actor.Learnt, put-float.Asked, put-float.Learnt, set.Asked, set.Learnt, actions.Asked, actions.Learnt, divide-below t, divide.Post)
 
 abbrev divide-callees : ℕ → divide-lts.Claims
-divide-callees t = (entry-reads.Asked, entry-reads.Learnt, one-below t, one.Post, behind-reads.Asked, behind-reads.Learnt)
+divide-callees t = (entry.Asked, entry.Learnt, one-below t, one.Post, behind.Asked, behind.Learnt)
 
 abbrev one-callees : ℕ → one-lts.Claims
-one-callees t = (word-reads.Asked, word-reads.Learnt, kind-reads.Asked, kind-reads.Learnt, collect-below t, collect.Post)
+one-callees t = (word.Asked, word.Learnt, kind.Asked, kind.Learnt, collect-below t, collect.Post)
 
 abbrev spread-callees : ℕ → spread-lts.Claims
-spread-callees t = (one-below t, one.Post, behind-reads.Asked, behind-reads.Learnt)
+spread-callees t = (one-below t, one.Post, behind.Asked, behind.Learnt)
 
 collect-returns : (t : ℕ) → collect-lts.Need-returns (collect-callees t) (collect-at t) collect.Post
 collect-returns t c = storing.node-none _ _ _ _ _ _ _ c.if1.taken
@@ -313,6 +313,6 @@ pub +collect+divide+one+spread-spec : {M : Type 1} → statement M
     (divide-behind-requires t) (divide-add-action t) (divide-loop-less t) (divide-loop-again t) (divide-same-length t) (divide-returns t))
     (λ t. one-lts.spec (one-callees t) (one-at t) one.Post (one-word-requires t) (one-kind-requires t) (one-same-length t) (one-returns t)
     (one-collect-requires t) (one-same-length-2 t) (one-returns-2 t))
-    λ t. spread-lts.spec (one-below t, one.Post, behind-reads.Asked, behind-reads.Learnt) (spread-at t) spread.Post spread-Inv-loop spread-μ-loop
+    λ t. spread-lts.spec (one-below t, one.Post, behind.Asked, behind.Learnt) (spread-at t) spread.Post spread-Inv-loop spread-μ-loop
     (spread-loop-holds t) (spread-one-requires t) (spread-behind-requires t) (spread-same-length t) (spread-returns t) (spread-loop-less t)
     (spread-loop-again t) (spread-same-length-2 t) (spread-returns-2 t)

@@ -40,9 +40,6 @@ returns-3 c = let s1 = c .before .before .before in let s0 = s1 .before in let a
     (s0.loop.i + a.n) a.acted (apart.next-turn (now a.history) a.n a.player s0.loop.i s0.loop.inv.1 s0.loop.inv.0 (ne-eqb _ _ c.before.if2.left))
     (omega (arith, c.if3.taken, s1.loop-test.taken)))
 
-add-i : tie.Need-add-i Inv-loop μ-loop
-add-i c = search needs
-
 loop-less : tie.Need-loop-less Inv-loop μ-loop
 loop-less c = omega (arith, c.before.before.before.loop-test.taken, c.if3.left, c.before.before.before.before.loop.inv.1)
 
@@ -56,5 +53,6 @@ returns-4 c = let a = c .before .before .before .args in
     a.acted c.before.loop.inv.0 (omega (arith, c.loop-test.left)))
 
 pub bet-by-spec : {M : Type 1} → statement M
-bet-by-spec =
-    tie.close (tie.spec Inv-loop μ-loop returns loop-holds shared-slice-read-if2 returns-2 sub-if3 returns-3 add-i loop-less loop-again returns-4)
+bet-by-spec = tie.close (tie.spec
+    Inv-loop μ-loop returns loop-holds shared-slice-read-if2 returns-2 sub-if3 returns-3 (λ c. search needs) loop-less loop-again
+    returns-4)

@@ -6,9 +6,6 @@ use Rattle.kuhn_rules.proofs.Histories.{overrun-quiet, overrun-late, overrun-be
 use Rattle.kuhn_betting.proofs.past_the_end.Statement.{statement}
 use Rattle.kuhn_betting.proofs.past_the_end.Tie as tie
 
-first-bet-requires : tie.Need-first-bet-requires
-first-bet-requires c κs = search needs
-
 returns : tie.Need-returns
 returns c = let s0 = c .before .before .before in sym (overrun-quiet _ _ _ s0.pre.1 s0.pre.0 (λ k w. c.before.first-bet.ensures.1.0 k (omega arith)))
 
@@ -17,13 +14,10 @@ returns-2 c = let s0 = c .before .before in
     sym (overrun-late _ _ _ s0.before.before.pre.1 s0.before.before.pre.0 _ s0.first-bet.ensures.1.0 c.before.if1.left
     (s0.first-bet.ensures.1.1 c.before.if1.left) c.if2.taken)
 
-add-result : tie.Need-add-result
-add-result c = search needs
-
 returns-3 : tie.Need-returns-3
 returns-3 c = let s0 = c .before .before in
     sym (overrun-bet _ _ _ s0.before.before.pre.1 s0.before.before.pre.0 _ s0.first-bet.ensures.1.0 c.before.if1.left
     (s0.first-bet.ensures.1.1 c.before.if1.left) c.if2.left)
 
 pub past-the-end-spec : {M : Type 1} → statement M
-past-the-end-spec = tie.close (tie.spec first-bet-requires returns returns-2 add-result returns-3)
+past-the-end-spec = tie.close (tie.spec (λ c κs. search needs) returns returns-2 (λ c. search needs) returns-3)

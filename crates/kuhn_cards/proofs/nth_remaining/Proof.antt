@@ -19,24 +19,9 @@ abbrev μ-loop : tie.MeasureT-loop
 loop-holds : tie.Need-loop-holds Inv-loop μ-loop
 loop-holds c = (search needs, none-below _, search needs, search needs)
 
-left-requires : tie.Need-left-requires Inv-loop μ-loop
-left-requires c κs = search needs
-
-add-if1 : tie.Need-add-if1 Inv-loop μ-loop
-add-if1 c = search needs
-
 returns : tie.Need-returns Inv-loop μ-loop
 returns c = let s0 = c .before .before .before in
     sym (card-found _ _ _ _ _ _ s0.loop.inv.1 s0.loop.inv.2 (search needs) c.before.left.ensures.0 c.if1.taken)
-
-add-passed : tie.Need-add-passed Inv-loop μ-loop
-add-passed c = search needs
-
-add-c : tie.Need-add-c Inv-loop μ-loop
-add-c c = search needs
-
-loop-less : tie.Need-loop-less Inv-loop μ-loop
-loop-less c = search needs
 
 loop-again : tie.Need-loop-again Inv-loop μ-loop
 loop-again c = let s0 = c .before .before .before in (
@@ -50,4 +35,6 @@ returns-2 : tie.Need-returns-2 Inv-loop μ-loop
 returns-2 c = sym (no-card-found _ _ _ _ _ 0 c.before.loop.inv.1 c.before.loop.inv.2 c.loop-test.left c.before.loop.inv.0)
 
 pub nth-remaining-spec : {M : Type 1} → statement M
-nth-remaining-spec = tie.close (tie.spec Inv-loop μ-loop loop-holds left-requires add-if1 returns add-passed add-c loop-less loop-again returns-2)
+nth-remaining-spec = tie.close (tie.spec
+    Inv-loop μ-loop loop-holds (λ c κs. search needs) (λ c. search needs) returns (λ c. search needs) (λ c. search needs)
+    (λ c. search needs) loop-again returns-2)

@@ -13,7 +13,7 @@ use Rattle.kuhn_listing.proofs.list_deals.Kinds as list-deals-kinds
 use Rattle.kuhn_listing.proofs.+list_deals.Lts-list_deals as list-deals-lts
 use Rattle.kuhn_listing.proofs.list_deal.Reads as list-deal-reads
 use Rattle.kuhn_listing.proofs.with_card.Reads as with-card-reads
-use Rattle.kuhn_cards.proofs.contains.Reads as contains-reads
+use Rattle.prelude.proofs.contains.Reads as contains-reads
 use Rattle.kuhn_listing.proofs.+list_deals.{statement}
 use Rattle.kuhn_listing.proofs.+list_deals.Tie.{close}
 

@@ -12,25 +12,46 @@ evaluation-refusal-requires c κs = search needs
 
 returns : tie.Need-returns
 returns c =
-    let s = c .before .before .before .before in
-    (not-valued _ _ (gameOf (c .before .before .before .before .args .number) (c .before .before .before .before .args .seats)) (s .args .d) (s .args .table .now) (c .before .evaluation-refusal .ensures .number) (c .if1 .taken), ((λ z. absurd (c .if1 .taken z)), memory-kept _ (gameOf (c .before .before .before .before .args .number) (c .before .before .before .before .args .seats)) (s .args .work .now) (c .if1 .taken)))
+    let start = c .before .before .before .before in
+    let at-evaluation-refusal = c .before in
+    let then1 = c in
+    (not-valued _ _ (gameOf (start .args .number) (start .args .seats)) (start .args .d) (start .args .table .now) (at-evaluation-refusal .evaluation-refusal .ensures .number) (then1 .if1 .taken), ((λ z. absurd (then1 .if1 .taken z)), memory-kept _ (gameOf (start .args .number) (start .args .seats)) (start .args .work .now) (then1 .if1 .taken)))
 
 nodes-requires : tie.Need-nodes-requires
 nodes-requires c κs = c .before .evaluation-refusal .ensures .passed (c .if1 .left) .0 .game .seats
 
 mul-length : tie.Need-mul-length
-mul-length c = omega (arith, front-fits (gameOf (c .before .before .before .before .before .args .number) (c .before .before .before .before .before .args .seats)) (c .before .before .before .before .before .args .work .now) _ (c .nodes .ensures) (c .before .before .evaluation-refusal .ensures .passed (c .before .if1 .left) .1))
+mul-length c =
+    let start = c .before .before .before .before .before in
+    let at-nodes = c in
+    let at-evaluation-refusal = c .before .before in
+    let else1 = c .before in
+    omega (arith, front-fits (gameOf (start .args .number) (start .args .seats)) (start .args .work .now) _ (at-nodes .nodes .ensures) (at-evaluation-refusal .evaluation-refusal .ensures .passed (else1 .if1 .left) .1))
 
 slice-relend-prefix-evaluate : tie.Need-slice-relend-prefix-evaluate
-slice-relend-prefix-evaluate c = front-fits (gameOf (c .before .before .before .before .before .args .number) (c .before .before .before .before .before .args .seats)) (c .before .before .before .before .before .args .work .now) _ (c .nodes .ensures) (c .before .before .evaluation-refusal .ensures .passed (c .before .if1 .left) .1)
+slice-relend-prefix-evaluate c =
+    let start = c .before .before .before .before .before in
+    let at-nodes = c in
+    let at-evaluation-refusal = c .before .before in
+    let else1 = c .before in
+    front-fits (gameOf (start .args .number) (start .args .seats)) (start .args .work .now) _ (at-nodes .nodes .ensures) (at-evaluation-refusal .evaluation-refusal .ensures .passed (else1 .if1 .left) .1)
 
 slice-aggregate-evaluate : tie.Need-slice-aggregate-evaluate
-slice-aggregate-evaluate c = front-length (gameOf (c .before .before .before .before .before .before .args .number) (c .before .before .before .before .before .before .args .seats)) (c .before .before .before .before .before .before .args .work .now) _ (c .before .nodes .ensures) (c .before .before .before .evaluation-refusal .ensures .passed (c .before .before .if1 .left) .1)
+slice-aggregate-evaluate c =
+    let start = c .before .before .before .before .before .before in
+    let at-nodes = c .before in
+    let at-evaluation-refusal = c .before .before .before in
+    let else1 = c .before .before in
+    front-length (gameOf (start .args .number) (start .args .seats)) (start .args .work .now) _ (at-nodes .nodes .ensures) (at-evaluation-refusal .evaluation-refusal .ensures .passed (else1 .if1 .left) .1)
 
 evaluate-requires : tie.Need-evaluate-requires
 evaluate-requires c κs =
-    let a = c .before .before .before .evaluation-refusal .ensures .passed (c .before .before .if1 .left) in
-    (a .0, front-long (gameOf (c .before .before .before .before .before .before .args .number) (c .before .before .before .before .before .before .args .seats)) (c .before .before .before .before .before .before .args .work .now) _ (c .before .nodes .ensures) (a .1))
+    let at-evaluation-refusal = c .before .before .before in
+    let else1 = c .before .before in
+    let start = c .before .before .before .before .before .before in
+    let at-nodes = c .before in
+    let a = at-evaluation-refusal .evaluation-refusal .ensures .passed (else1 .if1 .left) in
+    (a .0, front-long (gameOf (start .args .number) (start .args .seats)) (start .args .work .now) _ (at-nodes .nodes .ensures) (a .1))
 
 root-units-requires : tie.Need-root-units-requires
 root-units-requires c κs = let a = c .before .before .before .before .before .before .evaluation-refusal .ensures .passed (c .before .before .before .before .before .if1 .left) .0 in (a .game, a .least, a .most)
@@ -40,12 +61,17 @@ same-length c = search needs
 
 returns-2 : tie.Need-returns-2
 returns-2 c =
-    let s = c .before .before .before .before .before .before .before .before .before .before in
-    let g = gameOf (s .args .number) (s .args .seats) in
-    let z = c .before .before .before .before .before .before .if1 .left in
-    let a = c .before .before .before .before .before .before .before .evaluation-refusal .ensures .passed z in (
-      valued _ _ g (s .args .d) (s .args .table .now) (c .before .before .before .before .before .before .before .evaluation-refusal .ensures .number) _ _ z (c .before .before .before .evaluate .ensures) (c .root-units .ensures .0),
-      ((λ z. c .before .before .before .evaluate .ensures), rest-kept g (s .args .work .now) _ (c .before .before .before .before .before .nodes .ensures) (a .1) _ z (a .0 .game .seats) (c .before .before .before .evaluate .last .1 .0) (c .before .before .before .evaluate .kept .1 .0)),
+    let start = c .before .before .before .before .before .before .before .before .before .before in
+    let else1 = c .before .before .before .before .before .before in
+    let at-evaluation-refusal = c .before .before .before .before .before .before .before in
+    let at-evaluate = c .before .before .before in
+    let at-root-units = c in
+    let at-nodes = c .before .before .before .before .before in
+    let g = gameOf (start .args .number) (start .args .seats) in
+    let z = else1 .if1 .left in
+    let a = at-evaluation-refusal .evaluation-refusal .ensures .passed z in (
+      valued _ _ g (start .args .d) (start .args .table .now) (at-evaluation-refusal .evaluation-refusal .ensures .number) _ _ z (at-evaluate .evaluate .ensures) (at-root-units .root-units .ensures .0),
+      ((λ z. at-evaluate .evaluate .ensures), rest-kept g (start .args .work .now) _ (at-nodes .nodes .ensures) (a .1) _ z (a .0 .game .seats) (at-evaluate .evaluate .last .1 .0) (at-evaluate .evaluate .kept .1 .0)),
     )
 
 pub nash-conv-units-spec : {M : Type 1} → statement M

@@ -18,21 +18,9 @@ abbrev μ-loop : tie.MeasureT-loop
 loop-holds : tie.Need-loop-holds Inv-loop μ-loop
 loop-holds c = (search needs, paste-zero c.args.out.now c.args.at c.args.source.now)
 
-shared-slice-read-out : tie.Need-shared-slice-read-out Inv-loop μ-loop
-shared-slice-read-out c = search needs
-
-add-out : tie.Need-add-out Inv-loop μ-loop
-add-out c = search needs
-
 slice-write-out : tie.Need-slice-write-out Inv-loop μ-loop
 slice-write-out c = let s0 = c .before .before in let a = s0 .before .args in
     let long = ap length s0.loop.inv.1 ∙ length-paste a.out.now a.at a.source.now s0.loop.i (search needs) (search needs) in omega arith
-
-add-i : tie.Need-add-i Inv-loop μ-loop
-add-i c = search needs
-
-loop-less : tie.Need-loop-less Inv-loop μ-loop
-loop-less c = search needs
 
 loop-again : tie.Need-loop-again Inv-loop μ-loop
 loop-again c = let s0 = c .before .before in let a = s0 .before .args in (
@@ -50,5 +38,6 @@ returns c = let a = c .before .before .args in
     let all : c.before.loop.i ≡ a.count = omega arith in c.before.loop.inv.1 ∙ ap (paste a.out.now a.at a.source.now) all
 
 pub copy-at-spec : {M : Type 1} → statement M
-copy-at-spec =
-    tie.close (tie.spec Inv-loop μ-loop loop-holds shared-slice-read-out add-out slice-write-out add-i loop-less loop-again same-length returns)
+copy-at-spec = tie.close (tie.spec
+    Inv-loop μ-loop loop-holds (λ c. search needs) (λ c. search needs) slice-write-out (λ c. search needs) (λ c. search needs)
+    loop-again same-length returns)

@@ -13,11 +13,13 @@ sets-requires c κs = c .before .before .before .before .before .before .pre .1 
 
 write-reply-requires : tie.Need-write-reply-requires
 write-reply-requires c κs =
-    let s = c .before .before .before .before .before .before .before in
-    let p = c .before .before .before .places-of .ensures in (
-      staging.walks (s .args .g) (s .args .d) (s .args .seat) (now (s .args .table)) (s .pre .1) (s .pre .2) _ p,
-      staging.parts-few (s .args .g) (s .args .d) (s .args .seat) (now (s .args .table)) (s .pre .1) (s .pre .2),
-      staging.few-sets (s .args .g) (s .args .d) (s .args .seat) (now (s .args .table)) (s .pre .1) (s .pre .2) (now (s .args .words)) (s .pre .0) _ p _ (c .sets .ensures),
+    let at-places-of = c .before .before .before in
+    let start = c .before .before .before .before .before .before .before in
+    let at-sets = c in
+    let p = at-places-of .places-of .ensures in (
+      staging.walks (start .args .g) (start .args .d) (start .args .seat) (now (start .args .table)) (start .pre .1) (start .pre .2) _ p,
+      staging.parts-few (start .args .g) (start .args .d) (start .args .seat) (now (start .args .table)) (start .pre .1) (start .pre .2),
+      staging.few-sets (start .args .g) (start .args .d) (start .args .seat) (now (start .args .table)) (start .pre .1) (start .pre .2) (now (start .args .words)) (start .pre .0) _ p _ (at-sets .sets .ensures),
     )
 
 same-length : tie.Need-same-length
@@ -28,9 +30,12 @@ same-length-2 c = search needs
 
 returns : tie.Need-returns
 returns c =
-    let s = c .before .before .before .before .before .before .before .before .before .before .before .before in (
-      staging.is-reply (s .args .g) (s .args .d) (s .args .seat) (now (s .args .table)) (s .pre .1) (s .pre .2) (now (s .args .words)) (s .pre .0) _ (c .before .before .before .before .before .before .before .before .places-of .ensures) _ (c .before .before .before .before .before .sets .ensures) (c .before .before .before .before .write-reply .last .0) (now (s .args .out)) (c .before .before .before .before .write-reply .last .1 .1 .0) (c .before .before .before .before .write-reply .ensures),
-      staging.best-reply (s .args .g) (s .args .d) (s .args .seat) (now (s .args .table)) (s .pre .1) (s .pre .2),
+    let start = c .before .before .before .before .before .before .before .before .before .before .before .before in
+    let at-places-of = c .before .before .before .before .before .before .before .before in
+    let at-sets = c .before .before .before .before .before in
+    let at-write-reply = c .before .before .before .before in (
+      staging.is-reply (start .args .g) (start .args .d) (start .args .seat) (now (start .args .table)) (start .pre .1) (start .pre .2) (now (start .args .words)) (start .pre .0) _ (at-places-of .places-of .ensures) _ (at-sets .sets .ensures) (at-write-reply .write-reply .last .0) (now (start .args .out)) (at-write-reply .write-reply .last .1 .1 .0) (at-write-reply .write-reply .ensures),
+      staging.best-reply (start .args .g) (start .args .d) (start .args .seat) (now (start .args .table)) (start .pre .1) (start .pre .2),
     )
 
 pub best-table-spec : {M : Type 1} → statement M

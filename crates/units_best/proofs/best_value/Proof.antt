@@ -17,49 +17,67 @@ root-units-requires c κs = let a = c .before .before .before .pre .1 in (a .gam
 
 collect-requires : tie.Need-collect-requires
 collect-requires c κs =
-    let s = c .before .before .before .before .before in
-    staging.storable (s .args .g) (s .args .d) (s .args .seat) (now (s .args .table)) (s .pre .1) (s .pre .2) _ (c .before .before .places-of .ensures) _ (c .before .root-units .ensures)
+    let start = c .before .before .before .before .before in
+    let at-places-of = c .before .before in
+    let at-root-units = c .before in
+    staging.storable (start .args .g) (start .args .d) (start .args .seat) (now (start .args .table)) (start .pre .1) (start .pre .2) _ (at-places-of .places-of .ensures) _ (at-root-units .root-units .ensures)
 
 entries-requires : tie.Need-entries-requires
 entries-requires c κs = c .before .before .before .before .before .before .before .before .before .pre .1 .game .seats
 
 add-clear : tie.Need-add-clear
 add-clear c =
-    let s = c .before .before .before .before .before .before .before .before .before .before .before in
-    omega (arith, staging.near (s .args .g) (s .args .d) (s .args .seat) (now (s .args .table)) (s .pre .1) (s .pre .2) _ (c .before .before .before .before .before .before .before .before .places-of .ensures) _ (c .before .entries .ensures))
+    let start = c .before .before .before .before .before .before .before .before .before .before .before in
+    let at-places-of = c .before .before .before .before .before .before .before .before in
+    let at-entries = c .before in
+    omega (arith, staging.near (start .args .g) (start .args .d) (start .args .seat) (now (start .args .table)) (start .pre .1) (start .pre .2) _ (at-places-of .places-of .ensures) _ (at-entries .entries .ensures))
 
 clear-requires : tie.Need-clear-requires
 clear-requires c κs = omega arith
 
 value-requires : tie.Need-value-requires
 value-requires c κs =
-    let s = c .before .before .before .before .before .before .before .before .before .before .before .before .before .before .before in
-    staging.walks (s .args .g) (s .args .d) (s .args .seat) (now (s .args .table)) (s .pre .1) (s .pre .2) _ (c .before .before .before .before .before .before .before .before .before .before .before .before .places-of .ensures)
+    let start = c .before .before .before .before .before .before .before .before .before .before .before .before .before .before .before in
+    let at-places-of = c .before .before .before .before .before .before .before .before .before .before .before .before in
+    staging.walks (start .args .g) (start .args .d) (start .args .seat) (now (start .args .table)) (start .pre .1) (start .pre .2) _ (at-places-of .places-of .ensures)
 
 lowered-requires : tie.Need-lowered-requires
 lowered-requires c κs =
-    let s = c .before .before .before .before .before .before .before .before .before .before .before .before .before .before .before .before .before .before in
-    let u = c .before .before .before .before .before .before .before .before .before .before .before .before .before .before .root-units .ensures in
-    (u .1, staging.few-sum (s .args .g) (s .args .d) (s .args .seat) (now (s .args .table)) (s .pre .1) (s .pre .2) _ (c .before .before .before .before .before .before .before .before .before .before .before .before .before .before .before .places-of .ensures) _ u _ (c .before .before .before .before .before .before .before .before .entries .ensures) _ _ _ _ (s .pre .0) (s .pre .3) (c .before .before .before .before .before .before .before .before .before .before .before .before .collect .ensures) (c .before .before .before .before .before .before .clear .ensures) _ (c .before .before .value .ensures))
+    let at-root-units = c .before .before .before .before .before .before .before .before .before .before .before .before .before .before in
+    let start = c .before .before .before .before .before .before .before .before .before .before .before .before .before .before .before .before .before .before in
+    let at-places-of = c .before .before .before .before .before .before .before .before .before .before .before .before .before .before .before in
+    let at-entries = c .before .before .before .before .before .before .before .before in
+    let at-collect = c .before .before .before .before .before .before .before .before .before .before .before .before in
+    let at-clear = c .before .before .before .before .before .before in
+    let at-value = c .before .before in
+    let u = at-root-units .root-units .ensures in
+    (u .1, staging.few-sum (start .args .g) (start .args .d) (start .args .seat) (now (start .args .table)) (start .pre .1) (start .pre .2) _ (at-places-of .places-of .ensures) _ u _ (at-entries .entries .ensures) _ _ _ _ (start .pre .0) (start .pre .3) (at-collect .collect .ensures) (at-clear .clear .ensures) _ (at-value .value .ensures))
 
 same-length : tie.Need-same-length
 same-length c = search needs
 
 returns : tie.Need-returns
 returns c =
-    let s = c .before .before .before .before .before .before .before .before .before .before .before .before .before .before .before .before .before .before .before in
-    let p = c .before .before .before .before .before .before .before .before .before .before .before .before .before .before .before .before .places-of .ensures in
-    let u = c .before .before .before .before .before .before .before .before .before .before .before .before .before .before .before .root-units .ensures in
-    let E = c .before .before .before .before .before .before .before .before .before .entries .ensures in
-    let o = c .before .before .before .before .before .before .before .before .before .before .before .before .before .collect .ensures in
-    let r = c .before .before .before .before .before .before .before .clear .ensures in
-    let v = c .before .before .before .value .ensures in
-    let whole : toZ w64 (ofZ w64 (c .lowered .result)) ≡ c .lowered .result = search needs in
-    let best = staging.is-best (s .args .g) (s .args .d) (s .args .seat) (now (s .args .table)) (s .pre .1) (s .pre .2) _ p _ u _ E _ _ _ _ (s .pre .0) (s .pre .3) o r _ v _ (whole ∙ c .lowered .ensures) in (
+    let at-places-of = c .before .before .before .before .before .before .before .before .before .before .before .before .before .before .before .before in
+    let at-root-units = c .before .before .before .before .before .before .before .before .before .before .before .before .before .before .before in
+    let at-entries = c .before .before .before .before .before .before .before .before .before in
+    let at-collect = c .before .before .before .before .before .before .before .before .before .before .before .before .before in
+    let at-clear = c .before .before .before .before .before .before .before in
+    let at-value = c .before .before .before in
+    let at-lowered = c in
+    let start = c .before .before .before .before .before .before .before .before .before .before .before .before .before .before .before .before .before .before .before in
+    let p = at-places-of .places-of .ensures in
+    let u = at-root-units .root-units .ensures in
+    let E = at-entries .entries .ensures in
+    let o = at-collect .collect .ensures in
+    let r = at-clear .clear .ensures in
+    let v = at-value .value .ensures in
+    let whole : toZ w64 (ofZ w64 (at-lowered .lowered .result)) ≡ at-lowered .lowered .result = search needs in
+    let best = staging.is-best (start .args .g) (start .args .d) (start .args .seat) (now (start .args .table)) (start .pre .1) (start .pre .2) _ p _ u _ E _ _ _ _ (start .pre .0) (start .pre .3) o r _ v _ (whole ∙ at-lowered .lowered .ensures) in (
       best,
-      staging.unbeaten (s .args .g) (s .args .d) (s .args .seat) (now (s .args .table)) (s .pre .1) (s .pre .2) _ best,
-      staging.is-staged (s .args .g) (s .args .d) (s .args .seat) (now (s .args .table)) (s .pre .1) (s .pre .2) _ p _ u _ E _ _ _ _ (s .pre .0) (s .pre .3) o r _ v,
-      staging.is-stored (s .args .g) (s .args .d) (s .args .seat) (now (s .args .table)) (s .pre .1) (s .pre .2) _ p _ u _ E _ _ _ _ (s .pre .0) (s .pre .3) o r _ v,
+      staging.unbeaten (start .args .g) (start .args .d) (start .args .seat) (now (start .args .table)) (start .pre .1) (start .pre .2) _ best,
+      staging.is-staged (start .args .g) (start .args .d) (start .args .seat) (now (start .args .table)) (start .pre .1) (start .pre .2) _ p _ u _ E _ _ _ _ (start .pre .0) (start .pre .3) o r _ v,
+      staging.is-stored (start .args .g) (start .args .d) (start .args .seat) (now (start .args .table)) (start .pre .1) (start .pre .2) _ p _ u _ E _ _ _ _ (start .pre .0) (start .pre .3) o r _ v,
     )
 
 pub best-value-spec : {M : Type 1} → statement M

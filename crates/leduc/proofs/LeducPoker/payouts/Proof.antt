@@ -6,7 +6,7 @@ use lib.ListN.{replicate}
 use mir.Syntax.{w64}
 use mir.Val.{toZ, ofZ}
 use borrow.Author.Tests.{not-true, not-false}
-use Rattle.leduc_positions.proofs.Positions.{reachable-short, dealt-in-full}
+use Rattle.leduc_positions.proofs.Positions.{reachable-short, begins-level, dealt-in-full}
 use Rattle.leduc.proofs.Answers.{payoff-unreachable, payoff-early, payoff-accepted}
 use borrow.Author.Needs.{needs}
 use Rattle.leduc.proofs.LeducPoker.payouts.Statement.{statement}
@@ -34,9 +34,14 @@ returns-2 c = rw (payoff-early c.before.before.before.before.before.args.state (
     c.before.before.before.if1.left) (sym c.before.before.hand-over.ensures ∙ not-true _ c.before.if2.taken)) c.no-payoffs2.ensures
 
 state-gains-requires : tie.Need-state-gains-requires
-state-gains-requires c κs = let s0 = c .before .before .before .before in
-    let e = sym c.before.before.before.is-reachable.ensures ∙ not-false _ c.before.before.if1.left in let w = reachable-short s0.args.state e in
-    (dealt-in-full s0.args.state (search needs) (search needs) e (sym c.before.hand-over.ensures ∙ not-false _ c.if2.left), w.first-short, w.second-short)
+state-gains-requires c κs =
+    let e = sym (c .before .before .before .is-reachable .ensures) ∙ not-false _ (c .before .before .if1 .left) in
+    let w = reachable-short (c .before .before .before .before .args .state) e in (
+      dealt-in-full (c .before .before .before .before .args .state) (search needs) (search needs) e (sym (c .before .hand-over .ensures) ∙ not-false _ (c .if2 .left)),
+      w .first-short,
+      w .second-short,
+      begins-level (c .before .before .before .before .args .state) (search needs) (search needs) e,
+    )
 
 returns-3 : tie.Need-returns-3
 returns-3 c = let s2 = c .before in let s1 = s2 .before .before in let s0 = s1 .before .before in

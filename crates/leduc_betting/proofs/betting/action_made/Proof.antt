@@ -7,23 +7,11 @@ use borrow.Author.Needs.{needs}
 use Rattle.leduc_betting.proofs.betting.action_made.Statement.{statement}
 use Rattle.leduc_betting.proofs.betting.action_made.Tie as tie
 
-is-legal-requires : tie.Need-is-legal-requires
-is-legal-requires c κs = search needs
-
-cast-result : tie.Need-cast-result
-cast-result c = search needs
-
 returns : tie.Need-returns
 unfolding counted
 returns c =
     let q = sym (c .before .is-legal .ensures) ∙ c .if1 .taken in
     rw q (omega (arith, may-small _ _ q))
-
-wide-requires : tie.Need-wide-requires
-wide-requires c κs = search needs
-
-is-legal-requires-2 : tie.Need-is-legal-requires-2
-is-legal-requires-2 c κs = search needs
 
 returns-2 : tie.Need-returns-2
 unfolding counted
@@ -34,13 +22,5 @@ unfolding counted
 returns-3 c = rw (sym (c .before .before .before .before .is-legal .ensures) ∙ c .before .before .before .if1 .left, ap (may _) (sym (c .before .before .wide .ensures)) ∙ sym (c .before .is-legal2 .ensures) ∙ c .if2 .left)
 
 pub action-made-spec : {M : Type 1} → statement M
-action-made-spec =
-    tie.close
-    (tie.spec
-    is-legal-requires
-    cast-result
-    returns
-    wide-requires
-    is-legal-requires-2
-    returns-2
-    returns-3)
+action-made-spec = tie.close (tie.spec
+    (λ c κs. search needs) (λ c. search needs) returns (λ c κs. search needs) (λ c κs. search needs) returns-2 returns-3)

@@ -10,17 +10,11 @@ use Rattle.leduc_betting.proofs.betting.action_refusal.Tie as tie
 returns : tie.Need-returns
 returns c = late-first _ _ _ _ (or-left _ (c .if1 .taken))
 
-is-open-requires : tie.Need-is-open-requires
-is-open-requires c κs = search needs
-
 returns-2 : tie.Need-returns-2
 returns-2 c = late-first _ _ _ _ (or-right _ (ap not (sym (c .before .is-open .ensures)) ∙ c .if2 .taken))
 
 returns-3 : tie.Need-returns-3
 returns-3 c = illegal-first _ _ _ _ (neither (c .before .before .before .if1 .left) (ap not (sym (c .before .before .is-open .ensures)) ∙ c .before .if2 .left)) (or-left _ (c .if3 .taken))
-
-is-legal-requires : tie.Need-is-legal-requires
-is-legal-requires c κs = search needs
 
 returns-4 : tie.Need-returns-4
 returns-4 c = illegal-first _ _ _ _ (neither (c .before .before .before .before .before .if1 .left) (ap not (sym (c .before .before .before .before .is-open .ensures)) ∙ c .before .before .before .if2 .left)) (or-right _ (ap not (sym (c .before .is-legal .ensures)) ∙ c .if4 .taken))
@@ -29,6 +23,4 @@ returns-5 : tie.Need-returns-5
 returns-5 c = lawful-first _ _ _ _ (neither (c .before .before .before .before .before .if1 .left) (ap not (sym (c .before .before .before .before .is-open .ensures)) ∙ c .before .before .before .if2 .left)) (neither (c .before .before .if3 .left) (ap not (sym (c .before .is-legal .ensures)) ∙ c .if4 .left))
 
 pub action-refusal-spec : {M : Type 1} → statement M
-action-refusal-spec =
-    tie.close
-    (tie.spec returns is-open-requires returns-2 returns-3 is-legal-requires returns-4 returns-5)
+action-refusal-spec = tie.close (tie.spec returns (λ c κs. search needs) returns-2 returns-3 (λ c κs. search needs) returns-4 returns-5)

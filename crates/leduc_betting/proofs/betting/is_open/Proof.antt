@@ -6,19 +6,13 @@ use borrow.Author.Needs.{needs}
 use Rattle.leduc_betting.proofs.betting.is_open.Statement.{statement}
 use Rattle.leduc_betting.proofs.betting.is_open.Tie as tie
 
-has-fold-requires : tie.Need-has-fold-requires
-has-fold-requires c κs = search needs
-
 returns : tie.Need-returns
 unfolding open-round or
 returns c = rw (sym (c .before .has-fold .ensures) ∙ c .if1 .taken)
-
-round-over-requires : tie.Need-round-over-requires
-round-over-requires c κs = search needs
 
 returns-2 : tie.Need-returns-2
 unfolding open-round or
 returns-2 c = rw (sym (c .before .before .has-fold .ensures) ∙ c .before .if1 .left, c .round-over .ensures)
 
 pub is-open-spec : {M : Type 1} → statement M
-is-open-spec = tie.close (tie.spec has-fold-requires returns round-over-requires returns-2)
+is-open-spec = tie.close (tie.spec (λ c κs. search needs) returns (λ c κs. search needs) returns-2)

@@ -12,15 +12,9 @@ returns : tie.Need-returns
 unfolding ends-with and
 returns c = rw (le-ltb 0 (length (c .before .args .h .now)) (omega arith))
 
-sub-result : tie.Need-sub-result
-sub-result c = search needs
-
-shared-slice-read-result : tie.Need-shared-slice-read-result
-shared-slice-read-result c = search needs
-
 returns-2 : tie.Need-returns-2
 unfolding ends-with and
 returns-2 c = rw (lt-ltb 0 (length (c .before .before .args .h .now)) (omega arith))
 
 pub last-is-spec : {M : Type 1} → statement M
-last-is-spec = tie.close (tie.spec returns sub-result shared-slice-read-result returns-2)
+last-is-spec = tie.close (tie.spec returns (λ c. search needs) (λ c. search needs) returns-2)

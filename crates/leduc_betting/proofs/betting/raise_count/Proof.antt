@@ -21,9 +21,6 @@ loop-holds c = (omega arith, omega arith, omega arith)
 shared-slice-read-one-if-raise : tie.Need-shared-slice-read-one-if-raise Inv-loop μ-loop
 shared-slice-read-one-if-raise c = omega arith
 
-one-if-raise-requires : tie.Need-one-if-raise-requires Inv-loop μ-loop
-one-if-raise-requires c κs = search needs
-
 add-n : tie.Need-add-n Inv-loop μ-loop
 add-n c = omega (arith, c .one-if-raise .ensures, raise-at-most-one (getD (c .before .before .before .before .before .args .h .now) (c .before .before .before .loop .i) 0))
 
@@ -43,16 +40,5 @@ returns : tie.Need-returns Inv-loop μ-loop
 returns c = omega (arith, raises-end (c .before .before .before .args .h .now) (c .before .loop .i) (omega arith))
 
 pub raise-count-spec : {M : Type 1} → statement M
-raise-count-spec =
-    tie.close
-    (tie.spec
-    Inv-loop
-    μ-loop
-    loop-holds
-    shared-slice-read-one-if-raise
-    one-if-raise-requires
-    add-n
-    add-i
-    loop-less
-    loop-again
-    returns)
+raise-count-spec = tie.close (tie.spec
+    Inv-loop μ-loop loop-holds shared-slice-read-one-if-raise (λ c κs. search needs) add-n add-i loop-less loop-again returns)

@@ -12,12 +12,9 @@ returns : tie.Need-returns
 unfolding closes and
 returns c = rw (lt-leb 2 (length (c .before .before .args .h .now)) (omega arith))
 
-last-is-requires : tie.Need-last-is-requires
-last-is-requires c κs = search needs
-
 returns-2 : tie.Need-returns-2
 unfolding closes and
 returns-2 c = rw (le-leb 2 (length (c .before .before .before .args .h .now)) (omega arith)) (c .last-is .ensures)
 
 pub round-over-spec : {M : Type 1} → statement M
-round-over-spec = tie.close (tie.spec returns last-is-requires returns-2)
+round-over-spec = tie.close (tie.spec returns (λ c κs. search needs) returns-2)

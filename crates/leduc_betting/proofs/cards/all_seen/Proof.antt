@@ -8,23 +8,8 @@ use borrow.Author.Needs.{needs}
 use Rattle.leduc_betting.proofs.cards.all_seen.Statement.{statement}
 use Rattle.leduc_betting.proofs.cards.all_seen.Tie as tie
 
-array-read-t9 : tie.Need-array-read-t9
-array-read-t9 c = search needs
-
-array-read-t12 : tie.Need-array-read-t12
-array-read-t12 c = search needs
-
 enum-told : tie.Need-enum-told
 enum-told c = search needs
-
-enum-known-public : tie.Need-enum-known-public
-enum-known-public c = search needs
-
-array-write-all : tie.Need-array-write-all
-array-write-all c = search needs
-
-add-t18 : tie.Need-add-t18
-add-t18 c = search needs
 
 returns : tie.Need-returns
 returns c = (search needs, front-kept (c .before .before .args .t1) (c .before .before .args .dealt) (search needs) (omega arith) ∙ sym (ap (seen (take (c .before .before .args .dealt) (c .before .before .args .t1))) (c .enum-told .given .1)))
@@ -33,14 +18,5 @@ returns-2 : tie.Need-returns-2
 returns-2 c = (search needs, front-more (c .before .before .before .args .t1) (c .before .before .before .args .dealt) (c .before .public .given .0 .0) (search needs) (omega arith) ∙ sym (ap (seen (take (c .before .before .before .args .dealt) (c .before .before .before .args .t1))) (c .before .public .given .1)))
 
 pub all-seen-spec : {M : Type 1} → statement M
-all-seen-spec =
-    tie.close
-    (tie.spec
-    array-read-t9
-    array-read-t12
-    enum-told
-    enum-known-public
-    array-write-all
-    add-t18
-    returns
-    returns-2)
+all-seen-spec = tie.close (tie.spec
+    (λ c. search needs) (λ c. search needs) enum-told (λ c. search needs) (λ c. search needs) (λ c. search needs) returns returns-2)

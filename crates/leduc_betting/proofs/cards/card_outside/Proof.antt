@@ -1,57 +1,12 @@
--- Whether a card is not in the deck: none of those passed is. Assumes nothing.
-use borrow.Author.Tests.{le-leb, lt-leb}
-use Rattle.leduc_betting.specs.Cards.{strange}
-use Prim.Native.Nat.{_≤_, _-_}
-use native.Mathlib.Omega.{arith}
-use mathlib.Core.Path.{_≡_, sym}
-use mathlib.Core.Bool.{false}
+-- Whether a card is not in the deck: one is above the last. Assumes nothing.
 use borrow.Author.Needs.{needs}
-use lib.Dec.{leb}
-use lib.ListN.{length, getD}
-use Rattle.prelude.specs.Finite.{some}
-use Rattle.prelude.proofs.Tests.{some-none, none-more, none-passed, some-here}
+use Rattle.leduc_betting.specs.Cards.{strange}
 use Rattle.leduc_betting.proofs.cards.card_outside.Statement.{statement}
 use Rattle.leduc_betting.proofs.cards.card_outside.Tie as tie
 
-abbrev Inv-loop : tie.InvT-loop
-Inv-loop cards i₀ i = (i ≤ length cards) × (some i (λ k. leb 6 (getD cards k 0)) ≡ false)
-
-abbrev μ-loop : tie.MeasureT-loop
-μ-loop cards i₀ i = length cards - i
-
-loop-holds : tie.Need-loop-holds Inv-loop μ-loop
-loop-holds c = (search needs, some-none _)
-
-shared-slice-read-if1 : tie.Need-shared-slice-read-if1 Inv-loop μ-loop
-shared-slice-read-if1 c = search needs
-
-returns : tie.Need-returns Inv-loop μ-loop
+returns : tie.Need-returns
 unfolding strange
-returns c = sym (some-here _ _ (c .before .before .before .loop .i) (search needs) (le-leb _ _ (c .if1 .taken)))
-
-add-i : tie.Need-add-i Inv-loop μ-loop
-add-i c = search needs
-
-loop-less : tie.Need-loop-less Inv-loop μ-loop
-loop-less c = search needs
-
-loop-again : tie.Need-loop-again Inv-loop μ-loop
-loop-again c = (search needs, none-more _ _ (c .before .before .before .loop .inv .1) (lt-leb _ _ (c .if1 .left)))
-
-returns-2 : tie.Need-returns-2 Inv-loop μ-loop
-unfolding strange
-returns-2 c = sym (none-passed (c .before .loop .i) _ _ (c .before .loop .inv .0) (omega arith) (c .before .loop .inv .1))
+returns c = c.any-above.ensures
 
 pub card-outside-spec : {M : Type 1} → statement M
-card-outside-spec =
-    tie.close
-    (tie.spec
-    Inv-loop
-    μ-loop
-    loop-holds
-    shared-slice-read-if1
-    returns
-    add-i
-    loop-less
-    loop-again
-    returns-2)
+card-outside-spec = tie.close (tie.spec (search needs) (search needs) (search needs) returns)

@@ -1,59 +1,13 @@
--- Whether a card is among cards: it is none of those passed. Assumes nothing.
-use borrow.Author.Tests.{eq-eqb, ne-eqb}
-use Rattle.leduc_betting.proofs.Deals.{has-places}
-use Prim.Native.Nat.{_≤_, _-_}
-use native.Mathlib.Omega.{arith}
-use mathlib.Core.Path.{_≡_, sym, _∙_}
-use mathlib.Core.Bool.{false}
+-- Whether a card is among cards. Assumes nothing.
+use mathlib.Core.Path.{ap, _∙_}
 use borrow.Author.Needs.{needs}
-use lib.Dec.{eqb}
-use lib.ListN.{length, getD}
-use Rattle.prelude.specs.Finite.{some}
-use Rattle.prelude.proofs.Tests.{some-none, none-more, none-passed, some-here}
+use lib.Seq.{take-length}
+use Rattle.prelude.specs.Finite.{has}
 use Rattle.leduc_betting.proofs.cards.contains.Statement.{statement}
 use Rattle.leduc_betting.proofs.cards.contains.Tie as tie
 
-abbrev Inv-loop : tie.InvT-loop
-Inv-loop cards c i₀ i = (i ≤ length cards) × (some i (λ k. eqb (getD cards k 0) c) ≡ false)
-
-abbrev μ-loop : tie.MeasureT-loop
-μ-loop cards c i₀ i = length cards - i
-
-loop-holds : tie.Need-loop-holds Inv-loop μ-loop
-loop-holds c = (search needs, some-none _)
-
-shared-slice-read-wide : tie.Need-shared-slice-read-wide Inv-loop μ-loop
-shared-slice-read-wide c = search needs
-
-wide-requires : tie.Need-wide-requires Inv-loop μ-loop
-wide-requires c κs = search needs
-
-returns : tie.Need-returns Inv-loop μ-loop
-returns c = sym (has-places _ _ ∙ some-here _ _ (c .before .before .before .before .loop .i) (omega arith) (eq-eqb _ _ (sym (c .before .wide .ensures) ∙ c .if1 .taken)))
-
-add-i : tie.Need-add-i Inv-loop μ-loop
-add-i c = search needs
-
-loop-less : tie.Need-loop-less Inv-loop μ-loop
-loop-less c = search needs
-
-loop-again : tie.Need-loop-again Inv-loop μ-loop
-loop-again c = (search needs, none-more _ _ (c .before .before .before .before .loop .inv .1) (ne-eqb _ _ (λ e. c .if1 .left (c .before .wide .ensures ∙ e))))
-
-returns-2 : tie.Need-returns-2 Inv-loop μ-loop
-returns-2 c = sym (has-places _ _ ∙ none-passed (c .before .loop .i) _ _ (c .before .loop .inv .0) (omega arith) (c .before .loop .inv .1))
+returns : tie.Need-returns
+returns c = c.contains.ensures ∙ ap (has _) (take-length _)
 
 pub contains-spec : {M : Type 1} → statement M
-contains-spec =
-    tie.close
-    (tie.spec
-    Inv-loop
-    μ-loop
-    loop-holds
-    shared-slice-read-wide
-    wide-requires
-    returns
-    add-i
-    loop-less
-    loop-again
-    returns-2)
+contains-spec = tie.close (tie.spec (search needs) returns)

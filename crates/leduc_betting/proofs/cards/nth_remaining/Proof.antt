@@ -20,9 +20,6 @@ loop-holds : tie.Need-loop-holds Inv-loop μ-loop
 unfolding those
 loop-holds c = (omega arith, omega arith, omega arith, refl)
 
-one-if-left-requires : tie.Need-one-if-left-requires Inv-loop μ-loop
-one-if-left-requires c κs = search needs
-
 add-if1 : tie.Need-add-if1 Inv-loop μ-loop
 add-if1 c = omega (arith, c .one-if-left .ensures, at-most-one (left (c .before .before .before .before .args .cards .now) (c .before .before .loop .c)))
 
@@ -53,17 +50,5 @@ returns-2 c =
     six ∙ sym (nth-none (left (c .before .before .before .args .cards .now)) 6 (c .before .before .before .args .outcome) 6 (rw six at all))
 
 pub nth-remaining-spec : {M : Type 1} → statement M
-nth-remaining-spec =
-    tie.close
-    (tie.spec
-    Inv-loop
-    μ-loop
-    loop-holds
-    one-if-left-requires
-    add-if1
-    returns
-    add-passed
-    add-c
-    loop-less
-    loop-again
-    returns-2)
+nth-remaining-spec = tie.close (tie.spec
+    Inv-loop μ-loop loop-holds (λ c κs. search needs) add-if1 returns add-passed add-c loop-less loop-again returns-2)

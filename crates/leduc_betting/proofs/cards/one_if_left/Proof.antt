@@ -11,9 +11,6 @@ returns : tie.Need-returns
 unfolding left and
 returns c = rw (le-ltb _ 6 (c .if1 .taken))
 
-contains-requires : tie.Need-contains-requires
-contains-requires c κs = search needs
-
 returns-2 : tie.Need-returns-2
 unfolding left and
 returns-2 c = rw (lt-ltb _ 6 (c .before .before .if1 .left), sym (c .before .contains .ensures) ∙ c .if2 .taken)
@@ -23,4 +20,4 @@ unfolding left and
 returns-3 c = rw (lt-ltb _ 6 (c .before .before .if1 .left), sym (c .before .contains .ensures) ∙ c .if2 .left)
 
 pub one-if-left-spec : {M : Type 1} → statement M
-one-if-left-spec = tie.close (tie.spec returns contains-requires returns-2 returns-3)
+one-if-left-spec = tie.close (tie.spec returns (λ c κs. search needs) returns-2 returns-3)

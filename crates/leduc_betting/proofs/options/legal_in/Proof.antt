@@ -12,30 +12,13 @@ returns : tie.Need-returns
 unfolding and
 returns c = (omega arith, rw (not-true (c .before .before .before .args .live) (c .if1 .taken)))
 
-round-over-requires : tie.Need-round-over-requires
-round-over-requires c κs = search needs
-
-options-at-requires : tie.Need-options-at-requires
-options-at-requires c κs = search needs
-
 returns-2 : tie.Need-returns-2
 unfolding and in-play turn
 returns-2 c = (c .options-at .ensures .0, rw (not-false (c .before .before .before .before .before .before .args .live) (c .before .before .before .if1 .left), sym (c .before .before .round-over .ensures) ∙ c .before .if2 .taken) (c .options-at .ensures .1))
-
-options-at-requires-2 : tie.Need-options-at-requires-2
-options-at-requires-2 c κs = search needs
 
 returns-3 : tie.Need-returns-3
 unfolding and in-play turn
 returns-3 c = (c .options-at2 .ensures .0, rw (not-false (c .before .before .before .before .before .before .args .live) (c .before .before .before .if1 .left), sym (c .before .before .round-over .ensures) ∙ c .before .if2 .left) (c .options-at2 .ensures .1))
 
 pub legal-in-spec : {M : Type 1} → statement M
-legal-in-spec =
-    tie.close
-    (tie.spec
-    returns
-    round-over-requires
-    options-at-requires
-    returns-2
-    options-at-requires-2
-    returns-3)
+legal-in-spec = tie.close (tie.spec returns (λ c κs. search needs) (λ c κs. search needs) returns-2 (λ c κs. search needs) returns-3)

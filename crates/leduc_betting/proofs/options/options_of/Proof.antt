@@ -8,12 +8,6 @@ use borrow.Author.Needs.{needs}
 use Rattle.leduc_betting.proofs.options.options_of.Statement.{statement}
 use Rattle.leduc_betting.proofs.options.options_of.Tie as tie
 
-last-is-requires : tie.Need-last-is-requires
-last-is-requires c κs = search needs
-
-raise-count-requires : tie.Need-raise-count-requires
-raise-count-requires c κs = search needs
-
 returns : tie.Need-returns
 returns c = (omega arith, sym (options-as (c .before .before .before .before .before .args .h .now) true true (sym (c .before .before .before .last-is .ensures) ∙ c .before .if1 .taken) (ap (λ n. ltb n 2) (sym (c .before .before .raise-count .ensures)) ∙ c .if2 .taken)))
 
@@ -27,6 +21,4 @@ returns-4 : tie.Need-returns-4
 returns-4 c = (omega arith, sym (options-as (c .before .before .before .before .before .args .h .now) false false (sym (c .before .before .before .last-is .ensures) ∙ c .before .if1 .left) (ap (λ n. ltb n 2) (sym (c .before .before .raise-count .ensures)) ∙ c .if3 .left)))
 
 pub options-of-spec : {M : Type 1} → statement M
-options-of-spec =
-    tie.close
-    (tie.spec last-is-requires raise-count-requires returns returns-2 returns-3 returns-4)
+options-of-spec = tie.close (tie.spec (λ c κs. search needs) (λ c κs. search needs) returns returns-2 returns-3 returns-4)

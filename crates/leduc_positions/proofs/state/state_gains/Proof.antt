@@ -1,10 +1,11 @@
 -- What each seat gains at a position. Assumes nothing.
-use mathlib.Core.Path.{_≡_, sym, ap, ap₂, _∙_}
+use mathlib.Core.Path.{_≡_, sym, ap, ap₂, subst, _∙_}
 use native.Mathlib.Omega.{arith}
 use Prim.Native.Nat.{_-_}
 use lib.ListN.{length}
 use lib.Seq.{length-take-le, take-all}
 use Rattle.leduc_rules.specs.Rules.{payoff}
+use Rattle.leduc_rules.proofs.Pots.{Begins-level}
 use Rattle.leduc_betting.proofs.Deals.{front-length}
 use Rattle.leduc_positions.specs.Positions.{cardsOf, roundOne}
 use Rattle.leduc_positions.proofs.Positions.{second-part, second-length}
@@ -31,10 +32,12 @@ part-settled-end : tie.Need-part-settled-end
 part-settled-end c = let len : length c.before.before.before.before.args.state.history ≡ 8 = search needs in omega arith
 
 settled-requires : tie.Need-settled-requires
-settled-requires c κs = let a = c .before .before .before .before .before .args in
-    let len : length a.state.history ≡ 8 = search needs in let one = length-take-le a.state.acted1 a.state.history (omega arith) in
-    let two = ap length (second-part a.state.acted2 a.state.history) ∙ second-length a.state.history a.state.acted2 len (omega arith) in
-    (omega arith, omega arith)
+settled-requires c κs =
+    let len : length (c .before .before .before .before .before .args .state .history) ≡ 8 = search needs in
+    let one = length-take-le (c .before .before .before .before .before .args .state .acted1) (c .before .before .before .before .before .args .state .history) (omega arith) in
+    let two = ap length (second-part (c .before .before .before .before .before .args .state .acted2) (c .before .before .before .before .before .args .state .history)) ∙ second-length (c .before .before .before .before .before .args .state .history) (c .before .before .before .before .before .args .state .acted2) len (omega arith) in
+    let rest = second-part (c .before .before .before .before .before .args .state .acted2) (c .before .before .before .before .before .args .state .history) in
+    (omega arith, omega arith, subst (Begins-level (roundOne (c .before .before .before .before .before .args .state))) (sym rest) (c .before .before .before .before .before .pre .3))
 
 returns : tie.Need-returns
 returns c = let a = c .before .before .before .before .before .before .args in

@@ -8,7 +8,7 @@ use borrow.Author.Tests.{eq-eqb, ne-eqb, not-true, not-false}
 use Rattle.prelude.specs.Finite.{and, or}
 use Rattle.prelude.proofs.Tests.{and-left-fails, and-right-fails}
 use Rattle.leduc_betting.proofs.Checks.{played-first}
-use Rattle.leduc_betting.proofs.Histories.{and-true}
+use Rattle.prelude.proofs.Tests.{and-all}
 use borrow.Author.Needs.{needs}
 use Rattle.leduc_rules.proofs.play.rounds_fit.Statement.{statement}
 use Rattle.leduc_rules.proofs.play.rounds_fit.Tie as tie
@@ -56,7 +56,7 @@ returns-5 c = let s2 = c .before .before in let s1 = s2 .before .before in let s
       sym (played-first [] a.round1.now) ∙ eq-eqb _ _ (sym s1.before.round-refusal.ensures ∙ s1.if2.left),
       sym (played-first [] a.round2.now) ∙ eq-eqb _ _ (sym s2.before.round-refusal2.ensures ∙ s2.if3.left),
       c.before.if4.left,
-    ) (c.round-over.ensures ∙ sym (and-true _))
+    ) (c.round-over.ensures ∙ sym (and-all _))
 
 pub rounds-fit-spec : {M : Type 1} → statement M
 rounds-fit-spec =

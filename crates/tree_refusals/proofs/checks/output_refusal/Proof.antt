@@ -5,10 +5,10 @@ use Rattle.tree_refusals.proofs.checks.output_refusal.Statement.{statem
 use Rattle.tree_refusals.proofs.checks.output_refusal.Tie as tie
 
 returns : tie.Need-returns
-returns c = one-refuses (lt-ltb _ _ (c .if1 .taken))
+returns c = one-refuses (lt-ltb _ _ c.if1.taken)
 
 returns-2 : tie.Need-returns-2
-returns-2 c = one-passes (le-ltb _ _ (c .if1 .left)) (c .if1 .left)
+returns-2 c = one-passes (le-ltb _ _ c.if1.left) c.if1.left
 
 pub output-refusal-spec : {M : Type 1} → statement M
 output-refusal-spec = tie.close (tie.spec returns returns-2)

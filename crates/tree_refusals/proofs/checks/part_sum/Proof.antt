@@ -22,10 +22,10 @@ shared-slice-read-sum : tie.Need-shared-slice-read-sum Inv-loop μ-loop
 shared-slice-read-sum c = search needs
 
 cast-sum : tie.Need-cast-sum Inv-loop μ-loop
-cast-sum c = omega (arith, c .shared-slice-known .given (c .before .before .loop .a))
+cast-sum c = omega (arith, c.shared-slice-known.given c.before.before.loop.a)
 
 add-sum : tie.Need-add-sum Inv-loop μ-loop
-add-sum c = omega (arith, c .shared-slice-known .given (c .before .before .loop .a))
+add-sum c = omega (arith, c.shared-slice-known.given c.before.before.loop.a)
 
 add-a : tie.Need-add-a Inv-loop μ-loop
 add-a c = search needs
@@ -34,22 +34,10 @@ loop-less : tie.Need-loop-less Inv-loop μ-loop
 loop-less c = search needs
 
 loop-again : tie.Need-loop-again Inv-loop μ-loop
-loop-again c = (search needs, ap₂ _+_ (c .before .before .loop .inv .1) refl ∙ sym (parts-more _ _), omega (arith, c .shared-slice-known .given (c .before .before .loop .a)))
+loop-again c = (search needs, ap₂ _+_ c.before.before.loop.inv.1 refl ∙ sym (parts-more _ _), omega (arith, c.shared-slice-known.given c.before.before.loop.a))
 
 returns : tie.Need-returns Inv-loop μ-loop
-returns c = c .before .loop .inv .1 ∙ parts-all _ _ _ (c .before .loop .inv .0) (search needs)
+returns c = c.before.loop.inv.1 ∙ parts-all _ _ _ c.before.loop.inv.0 (search needs)
 
 pub part-sum-spec : {M : Type 1} → statement M
-part-sum-spec =
-    tie.close
-    (tie.spec
-    Inv-loop
-    μ-loop
-    loop-holds
-    shared-slice-read-sum
-    cast-sum
-    add-sum
-    add-a
-    loop-less
-    loop-again
-    returns)
+part-sum-spec = tie.close (tie.spec Inv-loop μ-loop loop-holds shared-slice-read-sum cast-sum add-sum add-a loop-less loop-again returns)

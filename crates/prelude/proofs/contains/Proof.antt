@@ -1,4 +1,4 @@
--- Whether a card is among the first: it is none of those passed. Assumes nothing.
+-- Whether a byte is among the first: it is none of those passed. Assumes nothing.
 use Prim.Native.Nat.{_≤_, _-_}
 use mathlib.Core.Path.{_≡_, sym, _∙_}
 use mathlib.Core.Bool.{false}
@@ -6,36 +6,24 @@ use borrow.Author.Needs.{needs}
 use borrow.Author.Tests.{eq-eqb, ne-eqb}
 use lib.Dec.{eqb}
 use lib.ListN.{getD}
 use Rattle.prelude.specs.Finite.{some}
 use Rattle.prelude.proofs.Tests.{some-none, none-more, none-passed, some-here}
 use Rattle.prelude.proofs.Lists.{has-take}
-use Rattle.kuhn_cards.proofs.contains.Statement.{statement}
-use Rattle.kuhn_cards.proofs.contains.Tie as tie
+use Rattle.prelude.proofs.contains.Statement.{statement}
+use Rattle.prelude.proofs.contains.Tie as tie
 
 abbrev Inv-loop : tie.InvT-loop
-Inv-loop cards count c i₀ i = (i ≤ count) × (some i (λ k. eqb (getD cards k 0) c) ≡ false)
+Inv-loop bytes count x i₀ i = (i ≤ count) × (some i (λ k. eqb (getD bytes k 0) x) ≡ false)
 
 abbrev μ-loop : tie.MeasureT-loop
-μ-loop cards count c i₀ i = count - i
+μ-loop bytes count x i₀ i = count - i
 
 loop-holds : tie.Need-loop-holds Inv-loop μ-loop
 loop-holds c = (search needs, some-none _)
 
-shared-slice-read-wide : tie.Need-shared-slice-read-wide Inv-loop μ-loop
-shared-slice-read-wide c = search needs
-
-wide-requires : tie.Need-wide-requires Inv-loop μ-loop
-wide-requires c κs = search needs
-
 returns : tie.Need-returns Inv-loop μ-loop
 returns c = let s0 = c .before .before .before .before in
     sym (has-take _ _ _ s0.before.before.pre ∙ some-here _ _ s0.loop.i (search needs) (eq-eqb _ _ (sym c.before.wide.ensures ∙ c.if1.taken)))
-
-add-i : tie.Need-add-i Inv-loop μ-loop
-add-i c = search needs
-
-loop-less : tie.Need-loop-less Inv-loop μ-loop
-loop-less c = search needs
 
 loop-again : tie.Need-loop-again Inv-loop μ-loop
 loop-again c = (search needs, none-more _ _ c.before.before.before.before.loop.inv.1 (ne-eqb _ _ (λ q. c.if1.left (c.before.wide.ensures ∙ q))))
@@ -44,4 +32,4 @@ returns-2 : tie.Need-returns-2 Inv-loop μ-loop
 returns-2 c = sym (has-take _ _ _ c.before.before.before.pre ∙ none-passed _ _ _ c.before.loop.inv.0 (search needs) c.before.loop.inv.1)
 
 pub contains-spec : {M : Type 1} → statement M
-contains-spec = tie.close (tie.spec Inv-loop μ-loop loop-holds shared-slice-read-wide wide-requires returns add-i loop-less loop-again returns-2)
+contains-spec = tie.close (tie.spec Inv-loop μ-loop loop-holds (search needs) (search needs) returns (search needs) (search needs) loop-again returns-2)
