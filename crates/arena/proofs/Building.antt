@@ -9,9 +9,9 @@ use lib.ListN.{length, getD, set, length-set}
 use lib.Seq.{getD-set-same, getD-set-other}
 use Rattle.game_tree.specs.Tree.{Key, Tree, end, chance, decide, Trees, nil, cons, fan}
 use Rattle.game_tree.specs.Sets.{size, sizes}
-use Rattle.arena.specs.Held.{Says, Held, HeldAll}
-use Rattle.arena.specs.Index.{unlinked, Kept}
-use Rattle.arena.specs.Built.{Built, Row}
+use Rattle.arena.specs.internal.Held.{Says, Held, HeldAll}
+use Rattle.arena.specs.internal.Index.{unlinked, Kept}
+use Rattle.arena.specs.internal.Built.{Built, Row}
 
 -- ---- what is kept
 pub kept-none : (a : ℕ) (w : List ℕ) → Kept a a w w

@@ -9,7 +9,7 @@ use mir.Val.{SFits, toZ, ofZ}
 use Rattle.prelude.proofs.Amounts.{amount}
 use Rattle.prelude.proofs.Tests.{Tested, holds, fails, tested}
 use mir.ValLaws.{toZ-ofZ}
-use Rattle.arena.specs.Words.{byteOf}
+use Rattle.arena.specs.internal.Words.{byteOf}
 
 -- a byte read back
 pub lowered-fits : (r : ℕ) → r < 128 → SFits w64 (toZ w64 r -ℤ pos 64)

@@ -9,7 +9,7 @@ use lib.ListN.{length, getD, set, length-set, List·getD-eq-default}
 use lib.Seq.{getD-set-same, getD-set-other}
 use borrow.Author.Tests.{ltb-true, ltb-false, eqb-true, eqb-false}
 use Rattle.prelude.proofs.Tests.{Tested, holds, fails, tested}
-use Rattle.arena.specs.Index.{Cleared}
+use Rattle.arena.specs.internal.Index.{Cleared}
 
 pub set-zero : (w : List ℕ) (i : ℕ) → getD (set w i 0) i 0 ≡ 0
 set-zero w i = at (tested (ltb i (length w)))

@@ -14,9 +14,9 @@ use Rattle.game_tree.specs.Reply.{same}
 use Rattle.game_tree.specs.Sets.{size, preorder, decides, numbers, firstEntry, setMembers}
 use Rattle.game_tree.proofs.Sets.{preorder-length, clash}
 use Rattle.game_tree.proofs.Tests.{T-of, same→eq, eqb-is}
-use Rattle.arena.specs.Words.{laterOf}
-use Rattle.arena.specs.Held.{Says}
-use Rattle.arena.specs.Index.{firstOf, laterIn, Indexed, Linked}
+use Rattle.arena.specs.internal.Words.{laterOf}
+use Rattle.arena.specs.internal.Held.{Says}
+use Rattle.arena.specs.internal.Index.{firstOf, laterIn, Indexed, Linked}
 use Rattle.arena.proofs.Nodes.{none, node, held-node}
 
 module _ (n h : ℕ) (w : List ℕ) (t : Tree) (x : Indexed n h w t) (j : ℕ) (k : Key) where

@@ -8,7 +8,7 @@ use lib.ListN.{length, getD}
 use Rattle.game_tree.specs.Tree.{Key, Tree, end, chance, decide, Trees, nil, cons}
 use Rattle.game_tree.specs.Sets.{size, preorder, preorderAll}
 use Rattle.game_tree.proofs.Sets.{preorder-length}
-use Rattle.arena.specs.Held.{Says, SaysAll, Held, HeldAll}
+use Rattle.arena.specs.internal.Held.{Says, SaysAll, Held, HeldAll}
 
 module _ (n : ℕ) (s : ℕ → Key → ℕ) (l : ℕ → ℕ → Key → ℕ) (w : List ℕ) where
   says-append : (a : ℕ) (ts us : List Tree) → SaysAll n s l w a ts → SaysAll n s l w (a + length ts) us → SaysAll n s l w a (ts ++ us)

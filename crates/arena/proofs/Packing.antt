@@ -2,7 +2,7 @@
 use mathlib.Core.Path.{_≡_}
 use Prim.Native.Nat.{ℕ, _<_}
 use native.Mathlib.Omega.{arith}
-use Rattle.arena.specs.Words.{DECISION, CHANCE, kindOf, actorOf, actionsOf, setOf, nextOf, laterOf, decisionWord, chanceWord}
+use Rattle.arena.specs.internal.Words.{DECISION, CHANCE, kindOf, actorOf, actionsOf, setOf, nextOf, laterOf, decisionWord, chanceWord}
 
 module _ (actor actions set next later : ℕ) (p : actor < 8) (q : actions < 4) (r : set < 16384) (s : next < 2097152) (t : later < 2097152) where
   pub kind-of : kindOf (decisionWord actor actions set next later) ≡ DECISION

@@ -4,10 +4,11 @@ use mathlib.Core.List.{List}
 use Prim.Native.Nat.{ℕ, _+_, _-_, _≤_, _<_}
 use native.Mathlib.Nat as NatL
 use native.Mathlib.Omega.{arith}
-use Rattle.game_tree.specs.Tree.{Key, Tree, end, chance, decide, Trees, cons, Every}
+use Rattle.game_tree.specs.Tree.{Key, Tree, end, chance, decide, Trees, cons}
+use Rattle.game_tree.specs.Conditions.{Every}
 use Rattle.game_tree.specs.Sets.{size, firstEntry}
-use Rattle.arena.specs.Held.{Held, HeldAll}
-use Rattle.arena.specs.Legible.{deep, deepAll, Legible, LegibleAll}
+use Rattle.arena.specs.internal.Held.{Held, HeldAll}
+use Rattle.arena.specs.internal.Legible.{deep, deepAll, Legible, LegibleAll}
 
 pub deep-some : (t : Tree) → 1 ≤ deep t
 unfolding deep

@@ -7,8 +7,8 @@ use native.Mathlib.Omega.{arith}
 use lib.ListN.{getD}
 use Rattle.game_tree.specs.Tree.{Key, Tree, Trees}
 use Rattle.game_tree.specs.Sets.{size, sizes, firstEntry}
-use Rattle.arena.specs.Held.{Held, HeldAll}
-use Rattle.arena.specs.Index.{Kept, Alike}
+use Rattle.arena.specs.internal.Held.{Held, HeldAll}
+use Rattle.arena.specs.internal.Index.{Kept, Alike}
 use Rattle.arena.proofs.Building.{held-same, held-same-all}
 
 -- the words from lo to hi are the same

@@ -7,9 +7,9 @@ use native.Mathlib.Omega.{arith}
 use lib.ListN.{getD}
 use Rattle.game_tree.specs.Tree.{Key, Tree, end, chance, decide, Trees, nil, cons, fan}
 use Rattle.game_tree.specs.Sets.{size, sizes}
-use Rattle.arena.specs.Words.{END, kindOf, nextOf}
-use Rattle.arena.specs.Held.{Says, Held, HeldAll}
-use Rattle.arena.specs.Walk.{Behind, Fan}
+use Rattle.arena.specs.internal.Words.{END, kindOf, nextOf}
+use Rattle.arena.specs.internal.Held.{Says, Held, HeldAll}
+use Rattle.arena.specs.internal.Walk.{Behind, Fan}
 use Rattle.arena.proofs.Building.{size-some}
 
 module _ (n : ℕ) (s : ℕ → Key → ℕ) (l : ℕ → ℕ → Key → ℕ) (w : List ℕ) (a : ℕ) where

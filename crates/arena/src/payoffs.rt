@@ -1,7 +1,7 @@
 // The payoffs of an end, a byte each: 64 is 0.
 ghost use mathlib.Core.Path.{_≡_};
 ghost use Prim.Native.Nat.{_<_};
-ghost use Rattle.arena.specs.Words.{byteOf, payoffOf};
+ghost use Rattle.arena.specs.internal.Words.{byteOf, payoffOf};
 
 // The payoff of a seat at an end.
 pub fn payoff(x: u64, seat: usize) -> i64

@@ -4,7 +4,7 @@ use crate::words::kind;
 use crate::words::next;
 use crate::words::word;
 ghost use Prim.Native.Nat.{_<_};
-ghost use Rattle.arena.specs.Walk.{Behind, Fan};
+ghost use Rattle.arena.specs.internal.Walk.{Behind, Fan};
 
 // Every place is below this number.
 pub const PLACES: usize = 4194304;

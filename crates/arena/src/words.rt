@@ -2,8 +2,8 @@
 ghost use mathlib.Core.Path.{_≡_};
 ghost use Prim.Native.Nat.{_+_, _*_, _<_, _≤_};
 ghost use lib.ListN.{getD, set};
-ghost use Rattle.arena.specs.Index.{Cleared};
-ghost use Rattle.arena.specs.Words.{kindOf, actorOf, actionsOf, setOf, nextOf, laterOf, decisionWord, chanceWord};
+ghost use Rattle.arena.specs.internal.Index.{Cleared};
+ghost use Rattle.arena.specs.internal.Words.{kindOf, actorOf, actionsOf, setOf, nextOf, laterOf, decisionWord, chanceWord};
 
 pub const END: u64 = 0;
 

@@ -12,14 +12,15 @@ use lib.Seq.{getD-set-same, getD-set-other, drop-cons, drop-length}
 use Rattle.prelude.proofs.Tests.{Tested, holds, fails, tested}
 use borrow.Author.Tests.{eqb-true, eqb-false}
 use Rattle.game_tree.specs.Tree.{Key, Tree, end, chance, decide, fan}
-use Rattle.game_tree.specs.Sets.{size, preorder, Decision, decisions, decisionOf, decisionsOf, isOf, decides, numbers, entries, firstEntry, setMembers}
+use Rattle.game_tree.specs.Sets.{size, preorder, Decision, decisions, isOf, decides, numbers, entries, firstEntry, setMembers}
+use Rattle.game_tree.specs.Shape.{decisionOf, decisionsOf}
 use Rattle.game_tree.proofs.Sets.{preorder-length, clash, isOf-seat, isOf-key, isOf-self}
 use Rattle.game_tree.proofs.Counting.{In, in-left, in-right, every-in, in-every}
 use Rattle.game_tree.proofs.Entries.{entry-inside, entry-apart}
-use Rattle.arena.specs.Words.{actorOf, actionsOf, setOf, nextOf}
-use Rattle.arena.specs.Held.{Says, SaysAll}
-use Rattle.arena.specs.Index.{firstOf, laterIn, unlinked, Coded, Indexed}
-use Rattle.arena_index.specs.Indexing.{Numbered, isKnown, entryOf, relinked, pushed, linked}
+use Rattle.arena.specs.internal.Words.{actorOf, actionsOf, setOf, nextOf}
+use Rattle.arena.specs.internal.Held.{Says, SaysAll}
+use Rattle.arena.specs.internal.Index.{firstOf, laterIn, unlinked, Coded, Indexed}
+use Rattle.arena_index.specs.internal.Indexing.{Numbered, isKnown, entryOf, relinked, pushed, linked}
 use Rattle.arena.proofs.Packing.{kind-of, actor-of, actions-of, set-of, next-of, later-of}
 use Rattle.arena_index.proofs.Steps.{linked-kind, linked-known}
 use Rattle.arena.proofs.Nodes.{says→held, none, node, held-node}

@@ -11,15 +11,17 @@ use lib.Seq.{getD-set-same, getD-set-other, take-suc, take-all, split-at}
 use Rattle.prelude.proofs.Tests.{Tested, holds, fails, tested, both, and-left-fails, and-right-fails}
 use borrow.Author.Tests.{eq-eqb, ne-eqb}
 use Rattle.game_tree.specs.Sums.{sumℕ}
-use Rattle.game_tree.specs.Tree.{Key, Tree, end, chance, decide, fan, Every}
-use Rattle.game_tree.specs.Sets.{size, preorder, Decision, decisions, decisionOf, decisionsOf, isOf, met, firsts, entriesOf, entries, firstEntry}
+use Rattle.game_tree.specs.Tree.{Key, Tree, end, chance, decide, fan}
+use Rattle.game_tree.specs.Conditions.{Every}
+use Rattle.game_tree.specs.Sets.{size, preorder, Decision, decisions, isOf, met, firsts, entriesOf, entries, firstEntry}
+use Rattle.game_tree.specs.Shape.{decisionOf, decisionsOf}
 use Rattle.game_tree.proofs.Sets.{preorder-length, decisionsOf-append, decisions-of-nodes, clash, isOf-seat, isOf-key, isOf-self}
 use Rattle.game_tree.proofs.Counting.{In, in-left, in-right, in-met, every-in, in-every}
 use Rattle.game_tree.proofs.Entries.{entriesOf-append, met-append, met-alike, firsts-again, firsts-new, entry-new}
-use Rattle.arena.specs.Words.{DECISION, kindOf, actionsOf, setOf}
-use Rattle.arena.specs.Held.{Says}
-use Rattle.arena.specs.Index.{unlinked, Kept, Coded}
-use Rattle.arena_index.specs.Indexing.{Numbered, isNew, Met}
+use Rattle.arena.specs.internal.Words.{DECISION, kindOf, actionsOf, setOf}
+use Rattle.arena.specs.internal.Held.{Says}
+use Rattle.arena.specs.internal.Index.{unlinked, Kept, Coded}
+use Rattle.arena_index.specs.internal.Indexing.{Numbered, isNew, Met}
 use Rattle.arena.proofs.Nodes.{node-inside, none, node, held-node}
 
 -- ---- the nodes of t: those before place a, that at place a, those behind it

@@ -7,8 +7,8 @@ use lib.ListN.{getD, set}
 use borrow.Author.Tests.{eq-eqb, ne-eqb}
 use Rattle.prelude.specs.Finite.{and}
 use Rattle.prelude.proofs.Tests.{both, and-left-fails, and-right-fails}
-use Rattle.arena.specs.Words.{DECISION, kindOf, actionsOf, setOf}
-use Rattle.arena_index.specs.Indexing.{isNew, Met, isKnown, entryOf, relinked, pushed, linked}
+use Rattle.arena.specs.internal.Words.{DECISION, kindOf, actionsOf, setOf}
+use Rattle.arena_index.specs.internal.Indexing.{isNew, Met, isKnown, entryOf, relinked, pushed, linked}
 
 -- ---- a set is entered, or not
 module _ (nodes x entry : ℕ) (old : List ℕ) where

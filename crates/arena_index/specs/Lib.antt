@@ -1,2 +1,2 @@
--- The index of a tree in work memory: what its functions do. No public call cites these definitions.
-pub mod Indexing
+-- The index of a tree in work memory: what its functions do.
+pub mod internal

@@ -10,7 +10,7 @@ use arena::words::set;
 use arena::words::word;
 ghost use mathlib.Core.Path.{_≡_};
 ghost use Prim.Native.Nat.{_≤_, _<_};
-ghost use Rattle.arena_index.specs.Indexing.{Numbers, Links, Indexes, Met, pushed, linked};
+ghost use Rattle.arena_index.specs.internal.Indexing.{Numbers, Links, Indexes, Met, pushed, linked};
 
 // Enters the set of word x, if it is a decision's and new, with the next entry; the entry after it.
 fn meet(w: &mut [u64], nodes: usize, x: u64, entry: usize) -> usize

@@ -4,8 +4,8 @@ use Prim.Native.Nat.{ℕ, pred, _+_, _≤_, _<_}
 use native.Mathlib.Nat as NatL
 use native.Mathlib.Omega.{arith}
 use Rattle.game_tree.specs.Tree.{Key, Tree, end, chance, decide, Trees, nil, cons}
-use Rattle.game_tree.specs.Sets.{Levels, LevelsAll}
-use Rattle.arena.specs.Legible.{deep, deepAll}
+use Rattle.game_tree.specs.Shape.{Levels, LevelsAll}
+use Rattle.arena.specs.internal.Legible.{deep, deepAll}
 
 module _ (v : ℕ → Key → ℕ) where
   mutual

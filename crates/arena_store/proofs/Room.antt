@@ -10,7 +10,7 @@ use Rattle.prelude.proofs.Tests.{Tested, holds, fails, tested}
 use Rattle.game_tree.specs.Tree.{Tree, end, chance, decide}
 use Rattle.kuhn_tree.specs.Counts.{dealNodes, kuhnNodes, kuhnEntries, kuhnSets}
 use Rattle.kuhn_tree.proofs.Shape.{deals, kuhn-deals}
-use Rattle.kuhn_arena_layout.specs.Layout.{codeCount}
+use Rattle.kuhn_arena_layout.specs.internal.Layout.{codeCount}
 use Rattle.leduc_tree_facts.proofs.Facts as Leduc-facts
 use Rattle.games.specs.declared.Game.{Game}
 use Rattle.games.specs.Games.{treeOf}
@@ -18,8 +18,8 @@ use Rattle.games.specs.Facts.{nodesOf, entriesOf, setsOf}
 use Rattle.games.specs.Known.{Known}
 use Rattle.games.proofs.Known.{kuhn-two, kuhn-six}
 use Rattle.kuhn_arena_layout.proofs.Start.{by-seats}
-use Rattle.arena_store.specs.Stored.{codesOf}
-use Rattle.arena_store.specs.Places.{keptAt, placesOf}
+use Rattle.arena_store.specs.internal.Stored.{codesOf}
+use Rattle.arena_store.specs.internal.Places.{keptAt, placesOf}
 
 -- a chance node
 unfoldable pub Deals : Tree → Type 0

@@ -5,10 +5,12 @@ use native.Mathlib.Omega.{arith}
 use lib.Dec.{eqb}
 use borrow.Author.Tests.{eq-eqb, ne-eqb, eqb-true, eqb-false}
 use Rattle.prelude.proofs.Tests.{Tested, holds, fails, tested}
-use Rattle.game_tree.specs.Tree.{Key, Tree, Every}
-use Rattle.game_tree.specs.Sets.{size, sets, entries, firstEntry, Levels, SameActions, SameHeights}
+use Rattle.game_tree.specs.Tree.{Key, Tree}
+use Rattle.game_tree.specs.Conditions.{Every}
+use Rattle.game_tree.specs.Sets.{size, sets, entries, firstEntry}
+use Rattle.game_tree.specs.Shape.{Levels, SameActions, SameHeights}
 use Rattle.game_tree.proofs.Against.{every-both}
-use Rattle.game_tree.proofs.Sets.{Stands, sets-stand}
+use Rattle.game_tree.proofs.Sets.{SubtreeAt, sets-stand}
 use Rattle.game_tree.proofs.Tables.{seats-at}
 use Rattle.kuhn_tree.specs.Tree as Kuhn
 use Rattle.kuhn_tree.specs.Counts.{kuhnNodes}
@@ -21,14 +23,14 @@ use Rattle.games.specs.Games.{treeOf}
 use Rattle.games.specs.Known.{Known}
 use Rattle.games.proofs.Facts.{nodes-are, games-fit}
 use Rattle.games.proofs.Known.{kuhn-two, kuhn-six, leduc-two}
-use Rattle.arena.specs.Legible.{Entered}
-use Rattle.arena_store.specs.Shaped.{Shaped, Games-shaped, Games-legible}
+use Rattle.arena.specs.internal.Legible.{Entered}
+use Rattle.arena_store.specs.internal.Shaped.{Shaped, Games-shaped, Games-legible}
 use Rattle.arena_store.proofs.Levels.{deep-levels, more-levels}
 
 -- ---- where the entries of a set stand
 module _ (t : Tree) (h : SameActions t) (f : Every (λ j k n. (2 ≤ n) × (n ≤ 3)) t) where
   entries-inside : Every (λ j k n. firstEntry t j k + n ≤ entries t) t
-  entries-inside = every-both (λ j k n. Stands j k n (sets t)) (λ j k n. (2 ≤ n) × (n ≤ 3)) (λ j k n. firstEntry t j k + n ≤ entries t)
+  entries-inside = every-both (λ j k n. SubtreeAt j k n (sets t)) (λ j k n. (2 ≤ n) × (n ≤ 3)) (λ j k n. firstEntry t j k + n ≤ entries t)
       (λ j k n s (a, b). let l = seats-at j k n (sets t) s (n - 1) (omega arith) .1 in omega arith) t (sets-stand t h) f
 
   all-entered : (E : ℕ) → E ≡ entries t → Every (Entered t E) t

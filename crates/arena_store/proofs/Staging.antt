@@ -5,22 +5,23 @@ use mathlib.Core.List.{List}
 use Prim.Native.Nat.{ℕ, _+_, _*_, _≤_, _<_}
 use native.Mathlib.Omega.{arith}
 use lib.ListN.{length, getD}
-use Rattle.game_tree.specs.Tree.{Tree, end, chance, decide, Every}
+use Rattle.game_tree.specs.Tree.{Tree, end, chance, decide}
+use Rattle.game_tree.specs.Conditions.{Every}
 use Rattle.game_tree.specs.Reply.{Choice}
 use Rattle.game_tree.specs.Sets.{size, entries, firstEntry}
 use Rattle.game_tree.proofs.Entries.{entry-inside}
-use Rattle.arena.specs.Words.{CHANCE, kindOf}
-use Rattle.arena.specs.Held.{Says, Held}
-use Rattle.arena.specs.Index.{Alike, laterIn, Indexed}
-use Rattle.arena_walks.specs.Stage.{Stage, Noted}
+use Rattle.arena.specs.internal.Words.{CHANCE, kindOf}
+use Rattle.arena.specs.internal.Held.{Says, Held}
+use Rattle.arena.specs.internal.Index.{Alike, laterIn, Indexed}
+use Rattle.arena_walks.specs.internal.Stage.{Stage, Memo}
 use Rattle.games.specs.declared.Game.{Game}
 use Rattle.games.specs.Games.{treeOf}
 use Rattle.games.specs.Facts.{nodesOf, entriesOf}
 use Rattle.games.specs.Known.{Known}
 use Rattle.games.proofs.Facts.{games-fit, nodes-are, entries-are}
-use Rattle.arena_store.specs.Stored.{headsOf, Stored}
-use Rattle.arena_store.specs.Places.{reachAt, keptAt}
-use Rattle.arena_store.specs.Shaped.{Shaped}
+use Rattle.arena_store.specs.internal.Stored.{headsOf, Stored}
+use Rattle.arena_store.specs.internal.Places.{reachAt, keptAt}
+use Rattle.arena_store.specs.internal.Shaped.{Shaped}
 use Rattle.arena_store.proofs.Shaped.{games-shaped, some-actions}
 use Rattle.arena_store.proofs.Room.{Roomy, roomy, Deals, root-deals}
 use Rattle.arena_store.proofs.Stored.{indexed-same}
@@ -75,7 +76,7 @@ module _ (g : Game) (a : Known g) where
         dealt (decide j k f) d h = absurd d
 
     -- no choice is noted
-    pub none-noted : ((p : ℕ) → keptAt g ≤ p → p < keptAt g + entriesOf g → getD z p 0 ≡ 0) → Noted stage z
+    pub none-noted : ((p : ℕ) → keptAt g ≤ p → p < keptAt g + entriesOf g → getD z p 0 ≡ 0) → Memo stage z
     unfolding stage
     none-noted zero = record {
       words = λ p k. refl;
@@ -84,6 +85,6 @@ module _ (g : Game) (a : Known g) where
     }
 
     -- a walk that notes choices leaves the tree and its index
-    pub still-stored : (e : List ℕ) → Noted stage e → Stored g e
+    pub still-stored : (e : List ℕ) → Memo stage e → Stored g e
     unfolding stage
     still-stored e n = indexed-same (g .seats) (headsOf g) z e T some (omega (arith, size-is)) (λ p j. n .words p (omega (arith, entries-is))) indexed

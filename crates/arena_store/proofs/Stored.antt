@@ -9,22 +9,23 @@ use lib.Dec.{eqb}
 use lib.ListN.{length, getD}
 use borrow.Author.Tests.{eq-eqb, ne-eqb}
 use Rattle.prelude.proofs.Tests.{Tested, holds, fails, tested}
-use Rattle.game_tree.specs.Tree.{Tree, Every}
+use Rattle.game_tree.specs.Tree.{Tree}
+use Rattle.game_tree.specs.Conditions.{Every}
 use Rattle.game_tree.specs.Sets.{size, entries, firstEntry, setMembers}
 use Rattle.game_tree.proofs.Entries.{entry-inside}
 use Rattle.game_tree.proofs.Counting.{in-every, every-in}
-use Rattle.arena.specs.Index.{unlinked, firstOf, laterIn, Cleared, Codes, Coded, Indexed}
-use Rattle.arena.specs.Built.{Built}
+use Rattle.arena.specs.internal.Index.{unlinked, firstOf, laterIn, Cleared, Codes, Coded, Indexed}
+use Rattle.arena.specs.internal.Built.{Built}
 use Rattle.arena.proofs.Building.{held-same}
-use Rattle.arena_index.specs.Indexing.{Indexes}
+use Rattle.arena_index.specs.internal.Indexing.{Indexes}
 use Rattle.kuhn_rules.specs.Stakes as Kuhn-stakes
 use Rattle.leduc_rules.specs.Stakes.{ante, raise₁, raise₂}
 use Rattle.kuhn_tree.specs.Tree.{kuhnTree}
 use Rattle.kuhn_tree.specs.Counts.{kuhnNodes}
 use Rattle.leduc_tree.specs.Tree.{leducTree}
-use Rattle.kuhn_arena_layout.specs.Layout as Kuhn
+use Rattle.kuhn_arena_layout.specs.internal.Layout as Kuhn
 use Rattle.kuhn_arena_layout.proofs.Apart as Kuhn-codes
-use Rattle.leduc_arena_layout.specs.Codes as Leduc
+use Rattle.leduc_arena_layout.specs.internal.Codes as Leduc
 use Rattle.leduc_arena_layout.proofs.Sets as Leduc-codes
 use Rattle.games.specs.declared.Game.{Game}
 use Rattle.games.specs.Games.{treeOf}
@@ -32,7 +33,7 @@ use Rattle.games.specs.Facts.{nodesOf, entriesOf}
 use Rattle.games.specs.Known.{Known}
 use Rattle.games.proofs.Facts.{nodes-are, entries-are}
 use Rattle.games.proofs.Known.{leduc-two}
-use Rattle.arena_store.specs.Stored.{codeOf, codesOf, Stored}
+use Rattle.arena_store.specs.internal.Stored.{codeOf, codesOf, Stored}
 use Rattle.arena_store.proofs.Shaped.{some-actions}
 use Rattle.arena_store.proofs.Room.{roomy}
 

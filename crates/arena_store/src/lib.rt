@@ -5,12 +5,12 @@ use games::Game;
 ghost use mathlib.Core.Path.{_≡_};
 ghost use Prim.Native.Nat.{_*_, _≤_};
 ghost use lib.ListN.{length};
-ghost use Rattle.arena.specs.Built.{Built};
+ghost use Rattle.arena.specs.internal.Built.{Built};
 ghost use Rattle.games.specs.Games.{treeOf};
 ghost use Rattle.games.specs.Facts.{nodesOf};
 ghost use Rattle.games.specs.Known.{Known};
-ghost use Rattle.arena_store.specs.Stored.{codeOf, codesOf, Stored};
-ghost use Rattle.arena_store.specs.Places.{placesOf};
+ghost use Rattle.arena_store.specs.internal.Stored.{codeOf, codesOf, Stored};
+ghost use Rattle.arena_store.specs.internal.Places.{placesOf};
 
 // How many codes the sets of Kuhn with 2 to 6 seats may have, from place 2, and those of Leduc.
 const KUHN_CODES: [usize; 7] = [0, 0, 24, 128, 640, 3072, 14336];

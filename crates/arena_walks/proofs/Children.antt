@@ -6,9 +6,9 @@ use native.Mathlib.Nat as NatL
 use native.Mathlib.Omega.{arith}
 use Rattle.game_tree.specs.Tree.{Key, Trees, nil, cons, fan}
 use Rattle.game_tree.specs.Sets.{size, sizes}
-use Rattle.arena.specs.Held.{Held, HeldAll}
-use Rattle.arena.specs.Walk.{Behind}
-use Rattle.arena_walks.specs.Child.{placeOf, Child}
+use Rattle.arena.specs.internal.Held.{Held, HeldAll}
+use Rattle.arena.specs.internal.Walk.{Behind}
+use Rattle.arena_walks.specs.internal.Child.{placeOf, Child}
 
 -- a place below 2^22 is where it says
 here : (a : ℕ) (f : Trees) → suc a + sizes f < 4194304 → (a + 1) % 4194304 ≡ suc a

@@ -6,16 +6,17 @@ use Prim.Native.Nat.{ℕ, zero, suc, pred, _+_, _≤_, _<_}
 use native.Mathlib.Nat as NatL
 use native.Mathlib.Omega.{arith}
 use lib.Dec.{eqb}
-use Rattle.game_tree.specs.Tree.{Key, Tree, end, chance, decide, Trees, nil, cons, fan, Every}
+use Rattle.game_tree.specs.Tree.{Key, Tree, end, chance, decide, Trees, nil, cons, fan}
+use Rattle.game_tree.specs.Conditions.{Every}
 use Rattle.game_tree.specs.Reply.{same}
-use Rattle.game_tree.specs.Sets.{Levels}
+use Rattle.game_tree.specs.Shape.{Levels}
 use Rattle.game_tree.specs.Sets.{size, firstEntry, isOf}
 use Rattle.game_tree.proofs.Sets.{isOf-seat, isOf-key}
-use Rattle.arena.specs.Index.{laterIn}
-use Rattle.arena.specs.Walk.{Behind}
-use Rattle.arena_walks.specs.Child.{nth, placeOf, Child}
-use Rattle.arena_walks.specs.Stage.{Stage, Noted, Stands, StandsAll}
-use Rattle.arena_walks.specs.Found.{Member, found, foundAll}
+use Rattle.arena.specs.internal.Index.{laterIn}
+use Rattle.arena.specs.internal.Walk.{Behind}
+use Rattle.arena_walks.specs.internal.Child.{nth, placeOf, Child}
+use Rattle.arena_walks.specs.internal.Stage.{Stage, Memo, SubtreeAt, SubtreesAt}
+use Rattle.arena_walks.specs.internal.Found.{Member, found, foundAll}
 use Rattle.arena_walks.proofs.Standing.{kids-decide, known-of, held-in, held-in-all}
 use Rattle.arena_walks.proofs.Finding.{EachMember, each-append, each-cond}
 
@@ -23,8 +24,8 @@ use Rattle.arena_walks.proofs.Finding.{EachMember, each-append, each-co
 pub record Descent {i h k : ℕ} (S : Stage i h k) {W : Type 0} (deal : W → ℕ → W) (move : W → ℕ → Key → ℕ → W) : Type 1 where
   pub Here : (d a : ℕ) → W → Tree → Type 0
   pub HereAll : (d a : ℕ) → (ℕ → W) → ℕ → Trees → Type 0
-  pub stands : (d a : ℕ) (u : W) (t : Tree) → Here d a u t → Stands S d a t
-  pub stands-all : (d a : ℕ) (g : ℕ → W) (x : ℕ) (f : Trees) → HereAll d a g x f → StandsAll S d a f
+  pub stands : (d a : ℕ) (u : W) (t : Tree) → Here d a u t → SubtreeAt S d a t
+  pub stands-all : (d a : ℕ) (g : ℕ → W) (x : ℕ) (f : Trees) → HereAll d a g x f → SubtreesAt S d a f
   pub dealt : (d a : ℕ) (u : W) (f : Trees) → Here d a u (chance f) → HereAll (pred d) (suc a) (λ x. deal u (fan f)) 0 f
   pub moved : (d a : ℕ) (u : W) (j : ℕ) (y : Key) (f : Trees) → Here d a u (decide j y f) → HereAll (pred d) (suc a) (move u j y) 0 f
   pub one : (d a : ℕ) (g : ℕ → W) (x : ℕ) (t : Tree) (f : Trees) → HereAll d a g x (cons t f) → Here d a (g x) t
@@ -43,16 +44,16 @@ module _ {i h k : ℕ} {S : Stage i h k} {W : Type 0} {deal : W → ℕ → W} {
   pub child-here : (d a : ℕ) (g : ℕ → W) (f : Trees) (c : ℕ) → D .HereAll d a g 0 f → c < fan f → D .Here d (placeOf a f c) (g c) (nth f c)
   child-here d a g f c r l = subst (λ z. D .Here d (placeOf a f c) (g z) (nth f c)) (NatL.zero-add c) (child-from d a g 0 f c r l)
 
-  module _ (w : List ℕ) (m : Noted S w) where
+  module _ (w : List ℕ) (m : Memo S w) where
     -- child c of a decision, at the place where it is found
     pub child-at : (d a : ℕ) (u : W) (j : ℕ) (y : Key) (f : Trees) → D .Here (suc d) a u (decide j y f) → (c q : ℕ) → Child w a c q → c < fan f → D .Here d q (move u j y c) (nth f c)
     unfolding Every
     child-at d a u j y f r c q o l = subst (λ z. D .Here d z (move u j y c) (nth f c)) (sym place) (child-here d (suc a) (move u j y) f c (D .moved (suc d) a u j y f r) l)
       where
-        here : Stands S (suc d) a (decide j y f)
+        here : SubtreeAt S (suc d) a (decide j y f)
         here = D .stands (suc d) a u (decide j y f) r
 
-        kids : StandsAll S d (suc a) f
+        kids : SubtreesAt S d (suc a) f
         kids = kids-decide S (suc d) a j y f here
 
         few : fan f ≤ 3
@@ -65,7 +66,7 @@ module _ {i h k : ℕ} {S : Stage i h k} {W : Type 0} {deal : W → ℕ → W} {
     pub row-rest : (d a : ℕ) (g : ℕ → W) (x : ℕ) (t : Tree) (f : Trees) → D .HereAll d a g x (cons t f) → (q : ℕ) → Behind w a q → (q ≡ a + size t) × D .HereAll d q g (suc x) f
     row-rest d a g x t f r q o = (place, subst (λ z. D .HereAll d z g (suc x) f) (sym place) (D .others d a g x t f r))
       where
-        here : Stands S d a t
+        here : SubtreeAt S d a t
         here = D .stands d a (g x) t (D .one d a g x t f r)
 
         place : q ≡ a + size t
@@ -83,7 +84,7 @@ module _ {i h k : ℕ} {S : Stage i h k} {W : Type 0} {deal : W → ℕ → W} {
     unfolding Levels
     this d a u j l f p q r =
         let o : D .Here d a u (decide i y f) = subst (λ z. D .Here d a u (decide i z f)) q (subst (λ z. D .Here d a u (decide z l f)) p r) in
-        let s : Stands S d a (decide i y f) = D .stands d a u (decide i y f) o in
+        let s : SubtreeAt S d a (decide i y f) = D .stands d a u (decide i y f) o in
         let e : d ≡ suc (S .levels i y) = omega (arith, s .level .0, s .level .1) in
         subst (λ x. D .Here x a u (decide i y f)) e o
 

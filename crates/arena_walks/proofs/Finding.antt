@@ -13,7 +13,7 @@ use Rattle.game_tree.specs.Reply.{same}
 use Rattle.game_tree.specs.Sets.{size, preorder, preorderAll, decides, numbers}
 use Rattle.game_tree.proofs.Sets.{preorder-length}
 use Rattle.game_tree.proofs.Counting.{In}
-use Rattle.arena_walks.specs.Found.{Member, found, foundAll}
+use Rattle.arena_walks.specs.internal.Found.{Member, found, foundAll}
 
 numbers-append : (j : ℕ) (k : Key) (ts us : List Tree) (a : ℕ) → numbers j k a (ts ++ us) ≡ numbers j k a ts ++ numbers j k (a + length ts) us
 unfolding numbers

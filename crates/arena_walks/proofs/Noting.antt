@@ -12,12 +12,12 @@ use Rattle.prelude.proofs.Tests.{Tested, holds, fails, tested}
 use Rattle.game_tree.specs.Tree.{Key}
 use Rattle.game_tree.specs.Sets.{firstEntry}
 use Rattle.game_tree.proofs.Entries.{entry-apart}
-use Rattle.arena_walks.specs.Stage.{Stage, Known, Noted}
+use Rattle.arena_walks.specs.internal.Stage.{Stage, Known, Memo}
 use Rattle.arena_walks.proofs.Standing.{some, inside}
 
-module _ {i h k : ℕ} (S : Stage i h k) (w : List ℕ) (m : Noted S w) (y : Key) (n : ℕ) (g : Known S i y n) where
+module _ {i h k : ℕ} (S : Stage i h k) (w : List ℕ) (m : Memo S w) (y : Key) (n : ℕ) (g : Known S i y n) where
   -- the right choice written
-  noted-set : (c : ℕ) → c ≡ S .choice y → Noted S (set w (k + firstEntry (S .tree) i y) (c + 1))
+  noted-set : (c : ℕ) → c ≡ S .choice y → Memo S (set w (k + firstEntry (S .tree) i y) (c + 1))
   noted-set c e = record {
     words = λ p l. getD-set-other w (k + firstEntry (S .tree) i y) p (c + 1) 0 (λ q. omega arith) ∙ m .words p l;
     long = length-set w (k + firstEntry (S .tree) i y) (c + 1) ∙ m .long;
@@ -35,8 +35,8 @@ module _ {i h k : ℕ} (S : Stage i h k) (w : List ℕ) (m : Noted S w) (y : Key
           (sym (getD-set-other w (k + firstEntry (S .tree) i y) (k + firstEntry (S .tree) i z) (c + 1) 0 (λ q. eqb-false (firstEntry (S .tree) i z) (firstEntry (S .tree) i y) t (omega arith)))) (m .choices z a o)
 
   module _ (e : ℕ) (q : e ≡ firstEntry (S .tree) i y) where
-    pub noted-more : (new : List ℕ) (c : ℕ) → c ≡ S .choice y → new ≡ set w (k + e) (c + 1) → Noted S new
-    noted-more new c p o = subst (Noted S) (ap (λ j. set w (k + j) (c + 1)) (sym q) ∙ sym o) (noted-set c p)
+    pub noted-more : (new : List ℕ) (c : ℕ) → c ≡ S .choice y → new ≡ set w (k + e) (c + 1) → Memo S new
+    noted-more new c p o = subst (Memo S) (ap (λ j. set w (k + j) (c + 1)) (sym q) ∙ sym o) (noted-set c p)
 
     -- a choice that was found before
     pub chosen-known : (v r : ℕ) → v ≡ getD w (k + e) 0 → (v ≡ 0 → ⊥) → r ≡ v - 1 → r ≡ S .choice y

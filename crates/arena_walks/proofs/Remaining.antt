@@ -6,16 +6,17 @@ use Prim.Native.Nat.{ℕ, zero, suc, _+_, _%_, _<_}
 use native.Mathlib.Nat as NatL
 use native.Mathlib.Omega.{arith}
 use lib.ListN.{getD}
-use Rattle.game_tree.specs.Tree.{Key, decide, fan, Every}
+use Rattle.game_tree.specs.Tree.{Key, decide, fan}
+use Rattle.game_tree.specs.Conditions.{Every}
 use Rattle.game_tree.specs.Sets.{size, preorder, firstEntry, setMembers}
 use Rattle.game_tree.proofs.Counting.{In}
-use Rattle.arena.specs.Words.{DECISION, kindOf, laterOf}
-use Rattle.arena.specs.Held.{Says, Held}
-use Rattle.arena.specs.Index.{firstOf, Linked}
+use Rattle.arena.specs.internal.Words.{DECISION, kindOf, laterOf}
+use Rattle.arena.specs.internal.Held.{Says, Held}
+use Rattle.arena.specs.internal.Index.{firstOf, Linked}
 use Rattle.arena.proofs.Members.{members-linked}
-use Rattle.arena_walks.specs.Child.{nth, Child}
-use Rattle.arena_walks.specs.Stage.{Stage, Known, Noted, Stands}
-use Rattle.arena_walks.specs.Found.{Member, found}
+use Rattle.arena_walks.specs.internal.Child.{nth, Child}
+use Rattle.arena_walks.specs.internal.Stage.{Stage, Known, Memo, SubtreeAt}
+use Rattle.arena_walks.specs.internal.Found.{Member, found}
 use Rattle.arena_walks.proofs.Standing.{known-of, inside, same-fan, seen}
 use Rattle.arena_walks.proofs.Finding.{places, places-found, Rising, numbers-rise, EachMember}
 use Rattle.arena_walks.proofs.Descending.{Descent, EachFound, each-found, child-at}
@@ -29,12 +30,12 @@ module _ {i h k : ℕ} {S : Stage i h k} {W : Type 0} {deal : W → ℕ → W} {
     pub here : c ≡ firstOf (places ms)
 
   -- where the first of them stands
-  standing : (c : ℕ) (m : Member W) (ms : List (Member W)) → Remaining c (m ∷ ms) → (c ≡ m .0) × Stands S (suc (S .levels i y)) (m .0) (decide i y (m .2))
+  standing : (c : ℕ) (m : Member W) (ms : List (Member W)) → Remaining c (m ∷ ms) → (c ≡ m .0) × SubtreeAt S (suc (S .levels i y)) (m .0) (decide i y (m .2))
   unfolding EachMember firstOf
   standing c m ms r = (r .here, D .stands (suc (S .levels i y)) (m .0) (m .1) (decide i y (m .2)) (r .each .0))
 
   -- all of them
-  pub remaining-start : (old : List ℕ) → Noted S old → (n : ℕ) → Known S i y n → (u : W) → D .Here 32 0 u (S .tree) → (c : ℕ) → c ≡ getD old (h + firstEntry (S .tree) i y) 0 % 2097152
+  pub remaining-start : (old : List ℕ) → Memo S old → (n : ℕ) → Known S i y n → (u : W) → D .Here 32 0 u (S .tree) → (c : ℕ) → c ≡ getD old (h + firstEntry (S .tree) i y) 0 % 2097152
       → Remaining c (found deal move i y 0 u (S .tree))
   unfolding EachMember firstOf size
   remaining-start old m n g u r c e = record {
@@ -59,7 +60,7 @@ module _ {i h k : ℕ} {S : Stage i h k} {W : Type 0} {deal : W → ℕ → W} {
       near (x ∷ ms) q = omega (arith, D .stands (suc (S .levels i y)) (x .0) (x .1) (decide i y (x .2)) (q .0) .room, S .room)
 
   -- one after the other
-  pub remaining-more : (w : List ℕ) → Noted S w → (c next : ℕ) (x : Member W) (ms : List (Member W)) → Remaining c (x ∷ ms) → next ≡ laterOf (getD w c 0) → Remaining next ms
+  pub remaining-more : (w : List ℕ) → Memo S w → (c next : ℕ) (x : Member W) (ms : List (Member W)) → Remaining c (x ∷ ms) → next ≡ laterOf (getD w c 0) → Remaining next ms
   unfolding EachMember Linked Rising firstOf
   remaining-more w m c next x ms r z = record {
     each = r .each .1;
@@ -69,7 +70,7 @@ module _ {i h k : ℕ} {S : Stage i h k} {W : Type 0} {deal : W → ℕ → W} {
   }
 
   -- the child behind an action of the first of them
-  pub remaining-child : (w : List ℕ) → Noted S w → (n : ℕ) → Known S i y n → (c a q : ℕ) (x : Member W) (ms : List (Member W)) → Remaining c (x ∷ ms) → Child w c a q → a < n
+  pub remaining-child : (w : List ℕ) → Memo S w → (n : ℕ) → Known S i y n → (c a q : ℕ) (x : Member W) (ms : List (Member W)) → Remaining c (x ∷ ms) → Child w c a q → a < n
       → (a < fan (x .2)) × D .Here (S .levels i y) q (move (x .1) i y a) (nth (x .2) a)
   unfolding EachMember Every
   remaining-child w m n g c a q x ms r o l = (few, child-at D w m (S .levels i y) (x .0) (x .1) i y (x .2) (r .each .0) a q (subst (λ j. Child w j a q) (standing c x ms r .0) o) few)

@@ -5,15 +5,16 @@ use Prim.Native.Nat.{ℕ, suc, pred, _+_, _≤_, _<_}
 use native.Mathlib.Nat as NatL
 use native.Mathlib.Omega.{arith}
 use lib.ListN.{getD}
-use Rattle.game_tree.specs.Tree.{Key, Tree, end, chance, decide, Trees, cons, Every}
-use Rattle.game_tree.specs.Sets.{Levels}
+use Rattle.game_tree.specs.Tree.{Key, Tree, end, chance, decide, Trees, cons}
+use Rattle.game_tree.specs.Conditions.{Every}
+use Rattle.game_tree.specs.Shape.{Levels}
 use Rattle.game_tree.specs.Sets.{size, entries, firstEntry}
 use Rattle.game_tree.proofs.Entries.{entry-inside}
-use Rattle.arena.specs.Held.{Held, HeldAll}
-use Rattle.arena.specs.Index.{laterIn}
+use Rattle.arena.specs.internal.Held.{Held, HeldAll}
+use Rattle.arena.specs.internal.Index.{laterIn}
 use Rattle.arena.proofs.Building.{size-some, held-same, held-same-all}
 use Rattle.game_tree.proofs.Counting.{in-every, every-in}
-use Rattle.arena_walks.specs.Stage.{Stage, Known, Noted, Stands, StandsAll}
+use Rattle.arena_walks.specs.internal.Stage.{Stage, Known, Memo, SubtreeAt, SubtreesAt}
 
 pub levels-some : (v : ℕ → Key → ℕ) (d : ℕ) (t : Tree) → Levels v d t → 0 < d
 unfolding Levels
@@ -23,25 +24,25 @@ levels-some v d (decide j k f) h = h .0
 
 module _ {i h k : ℕ} (S : Stage i h k) where
   -- the children of a node
-  pub kids-chance : (d a : ℕ) (f : Trees) → Stands S d a (chance f) → StandsAll S (pred d) (suc a) f
+  pub kids-chance : (d a : ℕ) (f : Trees) → SubtreeAt S d a (chance f) → SubtreesAt S (pred d) (suc a) f
   unfolding Held Levels Every size
   kids-chance d a f r = record { held = r .held .1; level = r .level .1; known = r .known; room = omega (arith, r .room) }
 
-  pub kids-decide : (d a j : ℕ) (y : Key) (f : Trees) → Stands S d a (decide j y f) → StandsAll S (pred d) (suc a) f
+  pub kids-decide : (d a j : ℕ) (y : Key) (f : Trees) → SubtreeAt S d a (decide j y f) → SubtreesAt S (pred d) (suc a) f
   unfolding Held Levels Every size
   kids-decide d a j y f r = record { held = r .held .1; level = r .level .2; known = r .known .1; room = omega (arith, r .room) }
 
   -- the first of a row, and the rest
-  pub first : (d a : ℕ) (t : Tree) (f : Trees) → StandsAll S d a (cons t f) → Stands S d a t
+  pub first : (d a : ℕ) (t : Tree) (f : Trees) → SubtreesAt S d a (cons t f) → SubtreeAt S d a t
   unfolding Held Levels Every size
   first d a t f r = record { held = r .held .0; level = r .level .0; known = r .known .0; room = omega (arith, r .room) }
 
-  pub rest : (d a : ℕ) (t : Tree) (f : Trees) → StandsAll S d a (cons t f) → StandsAll S d (a + size t) f
+  pub rest : (d a : ℕ) (t : Tree) (f : Trees) → SubtreesAt S d a (cons t f) → SubtreesAt S d (a + size t) f
   unfolding Held Levels Every size
   rest d a t f r = record { held = r .held .1; level = r .level .1; known = r .known .1; room = omega (arith, r .room) }
 
   -- the root
-  pub root-stands : Stands S 32 0 (S .tree)
+  pub root-stands : SubtreeAt S 32 0 (S .tree)
   root-stands = record { held = S .indexed .held; level = S .level; known = in-every (Known S) (S .tree) (λ x m. m); room = NatL.le-of-eq (NatL.zero-add (size (S .tree))) }
 
   -- ---- the sets of the tree
@@ -65,13 +66,13 @@ module _ {i h k : ℕ} (S : Stage i h k) where
       (omega (arith, A, B), few .0, few .1)
 
   -- ---- the words of the tree are the stage's
-  module _ (w : List ℕ) (m : Noted S w) where
-    pub seen : (d a : ℕ) (t : Tree) → Stands S d a t → getD w a 0 ≡ getD (S .words) a 0
+  module _ (w : List ℕ) (m : Memo S w) where
+    pub seen : (d a : ℕ) (t : Tree) → SubtreeAt S d a t → getD w a 0 ≡ getD (S .words) a 0
     seen d a t r = m .words a (omega (arith, r .room, size-some t, S .nodes, S .before))
 
     -- what is held in the stage's words is held in those with choices
-    pub held-in : (d a : ℕ) (t : Tree) → Stands S d a t → Held (S .seats) (firstEntry (S .tree)) (laterIn (S .tree)) w a t
+    pub held-in : (d a : ℕ) (t : Tree) → SubtreeAt S d a t → Held (S .seats) (firstEntry (S .tree)) (laterIn (S .tree)) w a t
     held-in d a t r = held-same (S .seats) (firstEntry (S .tree)) (laterIn (S .tree)) (S .words) w a t (r .held) (λ p l o. m .words p (omega (arith, r .room, S .nodes, S .before)))
 
-    pub held-in-all : (d a : ℕ) (f : Trees) → StandsAll S d a f → HeldAll (S .seats) (firstEntry (S .tree)) (laterIn (S .tree)) w a f
+    pub held-in-all : (d a : ℕ) (f : Trees) → SubtreesAt S d a f → HeldAll (S .seats) (firstEntry (S .tree)) (laterIn (S .tree)) w a f
     held-in-all d a f r = held-same-all (S .seats) (firstEntry (S .tree)) (laterIn (S .tree)) (S .words) w a f (r .held) (λ p l o. m .words p (omega (arith, r .room, S .nodes, S .before)))

@@ -2,7 +2,7 @@
 use arena::walk::PLACES;
 use arena::walk::behind;
 ghost use Prim.Native.Nat.{_<_};
-ghost use Rattle.arena_walks.specs.Child.{Child};
+ghost use Rattle.arena_walks.specs.internal.Child.{Child};
 
 // The depth of a walk: no path of a game has more nodes.
 pub const DEPTH: usize = 32;

@@ -9,8 +9,7 @@ use lib.Seq.{sets, sets-eq, take-at}
 use Rattle.game_tree.specs.Sets.{entries}
 use Rattle.game_tree.specs.Table.{Table, tableBest, replyTable}
 use Rattle.games.specs.declared.Game.{Game}
-use Rattle.games.specs.Games.{treeOf}
-use Rattle.games.specs.Facts.{rootUnits}
+use Rattle.games.specs.Games.{treeOf, rootUnits}
 use Rattle.units_best.specs.Best.{BestReply}
 use Rattle.best_reply.specs.Calls.{answer, written, Demand}
 

@@ -8,9 +8,9 @@ use lib.ListN.{replicate}
 use Rattle.game_tree_f64.specs.Values.{nought}
 use Rattle.games.specs.declared.Game.{Game}
 use Rattle.games.specs.Facts.{nodesOf}
-use Rattle.tree_refusals.specs.Accepted.{AcceptedProfile}
+use Rattle.tree_refusals.specs.internal.Accepted.{AcceptedProfile}
 use Rattle.best_response.specs.Calls.{answer}
-use Rattle.best_response.specs.Asked.{SeatOf, PassedOf}
+use Rattle.best_response.specs.internal.Asked.{SeatOf, PassedOf}
 use Rattle.best_response.specs.declared.Asked.{Asked}
 use Rattle.best_response.specs.declared.ValuesAnswer.{ValuesAnswer}
 

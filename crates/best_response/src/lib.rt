@@ -6,13 +6,13 @@ ghost use lib.ListN.{length};
 ghost use Rattle.games.specs.Games.{gameOf};
 ghost use Rattle.games.specs.Facts.{nodesOf};
 ghost use Rattle.refusals.specs.Refusals.{first};
-ghost use Rattle.refusals.specs.Settled.{Settled};
+ghost use Rattle.refusals.specs.internal.Settled.{Settled};
 ghost use Rattle.tree_refusals.specs.Checks.{value-refusal, values-refusal};
-ghost use Rattle.tree_refusals.specs.Accepted.{AcceptedProfile};
+ghost use Rattle.tree_refusals.specs.internal.Accepted.{AcceptedProfile};
 ghost use Rattle.arena_store.specs.Memory.{MemoryAfter};
 ghost use Rattle.f64_games.specs.Values.{bestOf, bestsOf, worthsOf, nashConvOf, exploitabilityOf};
 ghost use Rattle.best_response.specs.Calls.{single, answer};
-ghost use Rattle.best_response.specs.Asked.{checksOf, PassedOf, SeatOf, countOf, valuesOf};
+ghost use Rattle.best_response.specs.internal.Asked.{checksOf, PassedOf, SeatOf, countOf, valuesOf};
 
 // What a call asks of a profile.
 pub enum Asked {

@@ -19,9 +19,8 @@ use Rattle.leduc_betting.specs.Cards as Cards
 use Rattle.leduc_rules.specs.Rules as Rules
 use Rattle.leduc_tree.specs.Tree as Leduc
 use Rattle.leduc_tree.specs.Turns.{joined, turns, isFirst, firstOnes, firstTurns, actionsInOrder}
-use Rattle.games.specs.Games.{treeOf}
-use Rattle.games.specs.Facts.{rootUnits}
-use Rattle.games.specs.Actions.{actionsOf}
+use Rattle.games.specs.Games.{treeOf, rootUnits}
+use Rattle.games.specs.internal.Actions.{actionsOf}
 use Rattle.games.specs.declared.Game.{Game}
 use Rattle.games.proofs.Facts.{counted-games, actions-listed, reply-best}
 use Rattle.tree_refusals.specs.Accepted.{AcceptedTable}

@@ -8,8 +8,7 @@ use Rattle.game_tree.specs.Table.{Table, tableBest, replyTable}
 use Rattle.leduc_betting.specs.Betting.{CALL}
 use Rattle.leduc_tree.specs.Tree.{Position, choices}
 use Rattle.leduc_tree.specs.Turns.{firstTurns}
-use Rattle.games.specs.Games.{gameOf, treeOf}
-use Rattle.games.specs.Facts.{rootUnits}
+use Rattle.games.specs.Games.{gameOf, treeOf, rootUnits}
 use Rattle.games.specs.declared.Game.{Game}
 use Rattle.tree_refusals.specs.Accepted.{AcceptedTable}
 use Rattle.units_best.specs.Best.{BestReply}

@@ -15,8 +15,7 @@ use Rattle.game_tree.proofs.Integers.{+ℤ-mono, +ℤ-cancel}
 use Rattle.kuhn_tree.specs.Tree.{factorial}
 use Rattle.kuhn_tree.specs.Tree as Kuhn
 use Rattle.games.specs.declared.Game.{Game}
-use Rattle.games.specs.Games.{isKuhn, treeOf, C, m}
-use Rattle.games.specs.Facts.{rootUnits}
+use Rattle.games.specs.Games.{isKuhn, treeOf, C, m, rootUnits}
 use Rattle.games.proofs.Facts.{reply-best}
 use Rattle.tree_refusals.specs.Accepted.{AcceptedTable}
 use Rattle.nash_conv_units.specs.Calls.{nashConvOf, answer}

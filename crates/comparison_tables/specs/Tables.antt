@@ -11,7 +11,7 @@ use Rattle.comparison.specs.declared.Comparison.{Comparison}
 use Rattle.comparison.specs.declared.Comparison.the-variants.{Less, Equal, Greater}
 use Rattle.game_tree.specs.Table.{Table}
 use Rattle.games.specs.declared.Game.{Game}
-use Rattle.games.specs.Facts.{rootUnits}
+use Rattle.games.specs.Games.{rootUnits}
 use Rattle.tree_refusals.specs.Checks.{evaluation-refusal}
 use Rattle.nash_conv_units.specs.Calls.{nashConvOf, answer}
 use Rattle.nash_conv_units.specs.declared.NashConvAnswer.{NashConvAnswer}

@@ -10,7 +10,7 @@ use Rattle.game_tree.specs.Reply.{same}
 use Rattle.game_tree.specs.Sets.{size}
 use Rattle.game_tree_f64.specs.Values as values
 use Rattle.game_tree_f64.specs.Values.{Profile, times, weight, passed}
-use Rattle.arena_walks.specs.Found.{Member, found, foundAll}
+use Rattle.arena_walks.specs.internal.Found.{Member, found, foundAll}
 
 -- what a chance node with n children passes on of reach r
 abbrev pub dealt : Float → ℕ → Float

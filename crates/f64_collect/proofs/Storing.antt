@@ -10,18 +10,19 @@ use lib.ListN.{length, getD, set, length-set}
 use lib.Seq.{getD-set-same, getD-set-other}
 use borrow.Author.Tests.{eq-eqb, eqb-true}
 use Rattle.prelude.proofs.Tests.{Tested, holds, fails, tested}
-use Rattle.game_tree.specs.Tree.{Key, Tree, end, chance, decide, Trees, nil, cons, fan, Every}
+use Rattle.game_tree.specs.Tree.{Key, Tree, end, chance, decide, Trees, nil, cons, fan}
+use Rattle.game_tree.specs.Conditions.{Every}
 use Rattle.game_tree.specs.Sets.{size, sizes, firstEntry}
 use Rattle.game_tree_f64.specs.Values.{Profile, profileOf, times, weight, passed}
-use Rattle.arena.specs.Words.{END, CHANCE, kindOf, actorOf, actionsOf, setOf, nextOf}
-use Rattle.arena.specs.Held.{Says, Held, HeldAll}
-use Rattle.arena.specs.Walk.{Behind, Fan}
-use Rattle.arena.specs.Index.{Kept, Alike}
-use Rattle.arena.specs.Legible.{Legible, LegibleAll}
+use Rattle.arena.specs.internal.Words.{END, CHANCE, kindOf, actorOf, actionsOf, setOf, nextOf}
+use Rattle.arena.specs.internal.Held.{Says, Held, HeldAll}
+use Rattle.arena.specs.internal.Walk.{Behind, Fan}
+use Rattle.arena.specs.internal.Index.{Kept, Alike}
+use Rattle.arena.specs.internal.Legible.{Legible, LegibleAll}
 use Rattle.arena.proofs.Building.{size-some, fan-few, kept-none, kept-join, kept-set}
 use Rattle.arena.proofs.Reading.{deep-some, chance-row, decide-row, first, rest, near}
 use Rattle.arena.proofs.Staying.{Same, alike-join, kept-wider, alike-held, alike-row}
-use Rattle.f64_collect.specs.Reached.{Storable, Marked, MarkedAll, Reached, ReachedAll, Each, Divided}
+use Rattle.f64_collect.specs.internal.Reached.{Storable, Marked, MarkedAll, Reached, ReachedAll, Each, Divided}
 
 -- ---- reaches stored stay so where other words change
 module _ (s : Profile) (i b : ℕ) (v w : List ℕ) where

@@ -14,7 +14,7 @@ use f64_numbers::put_float;
 use f64_numbers::weight;
 ghost use Prim.Native.Nat.{_≤_};
 ghost use lib.ListN.{length};
-ghost use Rattle.f64_collect.specs.Reached.{Divided, Each, Reached, ReachedAll, Storable};
+ghost use Rattle.f64_collect.specs.internal.Reached.{Divided, Each, Reached, ReachedAll, Storable};
 
 // Stores the reach of each of the seat's decisions in the tree at place a, from reach r: that of place p at place reach + p.
 pub fn collect(

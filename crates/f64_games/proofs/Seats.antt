@@ -13,12 +13,12 @@ use Rattle.prelude.proofs.Lists.{filled-none, filled-more, getD-places}
 use Rattle.game_tree_f64.specs.Values.{nought, plus}
 use Rattle.games.specs.declared.Game.{Game}
 use Rattle.games.specs.Games.{treeOf}
-use Rattle.arena.specs.Index.{laterIn}
-use Rattle.f64_worths.specs.Expected.{Expected}
-use Rattle.arena_store.specs.Stored.{Stored}
+use Rattle.arena.specs.internal.Index.{laterIn}
+use Rattle.f64_worths.specs.internal.Expected.{Expected}
+use Rattle.arena_store.specs.internal.Stored.{Stored}
 use Rattle.games.specs.Known.{Known}
 use Rattle.arena_store.proofs.Shaped.{games-shaped, games-legible}
-use Rattle.tree_refusals.specs.Accepted.{AcceptedProfile}
+use Rattle.tree_refusals.specs.internal.Accepted.{AcceptedProfile}
 use Rattle.f64_games.specs.Values.{bestOf, worthOf, bySeat, bestsOf, worthsOf, gaps, nashConvOf}
 
 -- the first k of six places have f

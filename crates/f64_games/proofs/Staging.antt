@@ -7,7 +7,8 @@ use native.Mathlib.Nat as NatL
 use native.Mathlib.Omega.{arith}
 use lib.Ieee.{Float}
 use lib.ListN.{length, getD}
-use Rattle.game_tree.specs.Tree.{Tree, Every}
+use Rattle.game_tree.specs.Tree.{Tree}
+use Rattle.game_tree.specs.Conditions.{Every}
 use Rattle.game_tree.specs.Reply.{Choice}
 use Rattle.game_tree.specs.Sets.{size, entries, firstEntry}
 use Rattle.game_tree.proofs.Against.{every-both}
@@ -15,23 +16,23 @@ use Rattle.games.specs.declared.Game.{Game}
 use Rattle.games.specs.Games.{treeOf}
 use Rattle.games.specs.Facts.{nodesOf, entriesOf}
 use Rattle.games.proofs.Facts.{games-fit, nodes-are, entries-are}
-use Rattle.arena.specs.Index.{laterIn, Cleared}
-use Rattle.arena.specs.Legible.{Legible}
+use Rattle.arena.specs.internal.Index.{laterIn, Cleared}
+use Rattle.arena.specs.internal.Legible.{Legible}
 use Rattle.game_tree_f64.specs.Values.{Profile, profileOf, one, bestValue, best}
 use Rattle.game_tree_f64.proofs.Deciding.{best-decides}
-use Rattle.arena_walks.specs.Stage.{Stage, Noted}
+use Rattle.arena_walks.specs.internal.Stage.{Stage, Memo}
 use Rattle.arena_walks.proofs.Standing.{root-stands}
-use Rattle.f64_collect.specs.Reached.{Storable, Reached, Marked}
+use Rattle.f64_collect.specs.internal.Reached.{Storable, Reached, Marked}
 use Rattle.f64_collect.proofs.Storing.{marked-same}
-use Rattle.f64_values.specs.Valued.{Walkable, Scene, Valued}
-use Rattle.arena_store.specs.Stored.{headsOf, Stored}
-use Rattle.arena_store.specs.Places.{reachAt, keptAt, placesOf}
+use Rattle.f64_values.specs.internal.Valued.{Walkable, Scene, Valued}
+use Rattle.arena_store.specs.internal.Stored.{headsOf, Stored}
+use Rattle.arena_store.specs.internal.Places.{reachAt, keptAt, placesOf}
 use Rattle.arena_store.specs.declared.Places.{Places}
-use Rattle.arena_store.specs.Shaped.{Shaped}
+use Rattle.arena_store.specs.internal.Shaped.{Shaped}
 use Rattle.arena_store.proofs.Shaped.{games-shaped, games-legible, some-actions, same-heights}
 use Rattle.arena_store.proofs.Room.{Roomy, roomy}
 use Rattle.arena_store.proofs.Staging as behind
-use Rattle.tree_refusals.specs.Accepted.{AcceptedProfile}
+use Rattle.tree_refusals.specs.internal.Accepted.{AcceptedProfile}
 use Rattle.f64_games.specs.Values.{bestOf}
 
 module _ (g : Game) (i : ℕ) (P : List Float) (a : AcceptedProfile g P) (l : i < g .seats) where
@@ -87,11 +88,11 @@ module _ (g : Game) (i : ℕ) (P : List Float) (a : AcceptedProfile g P) (l : i 
       below = omega (arith, size-is);
     }
 
-    noted : Noted stage z
+    noted : Memo stage z
     noted = behind.none-noted g (a .game) i l c v z x long same length-is (r .zero)
 
     module _ (e : List ℕ) (q : Float) (k : Valued P i 32 (headsOf g) (reachAt g) (keptAt g) 0 z e q) where
-      found : Noted stage e × (q ≡ bestOf g P i)
+      found : Memo stage e × (q ≡ bestOf g P i)
       unfolding scene behind.stage bestOf bestValue
       found = k scene noted T 32 (NatL.le-refl 32) (root-stands stage)
 

@@ -12,8 +12,8 @@ ghost use lib.IntN.{pos};
 ghost use lib.Ieee.{binary64, ofInt, div};
 ghost use lib.ListN.{length};
 ghost use Rattle.games.specs.Facts.{nodesOf};
-ghost use Rattle.tree_refusals.specs.Accepted.{AcceptedProfile};
-ghost use Rattle.arena_store.specs.Stored.{Stored};
+ghost use Rattle.tree_refusals.specs.internal.Accepted.{AcceptedProfile};
+ghost use Rattle.arena_store.specs.internal.Stored.{Stored};
 ghost use Rattle.f64_games.specs.Values.{bestOf, bestsOf, worthsOf, nashConvOf, exploitabilityOf};
 
 // The best response value of a seat to a profile that is not refused.

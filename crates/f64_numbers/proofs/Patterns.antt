@@ -15,7 +15,7 @@ use lib.Ieee.Bits.{nanBits-is, nanBits-above}
 use Rattle.prelude.specs.Finite.{and, every}
 use Rattle.prelude.proofs.Tests.{every-at}
 use Rattle.prelude.proofs.Amounts.{amount}
-use Rattle.arena.specs.Words.{byteOf, payoffOf}
+use Rattle.arena.specs.internal.Words.{byteOf, payoffOf}
 use Rattle.arena.proofs.Bytes.{lowered}
 
 -- the pattern of a NaN

@@ -6,7 +6,7 @@ ghost use mathlib.Core.Path.{_≡_};
 ghost use Prim.Native.Nat.{_<_};
 ghost use lib.ListN.{length, getD, set};
 ghost use lib.Ieee.{nan, binary64, toBits, ofBits, ofInt};
-ghost use Rattle.arena.specs.Words.{payoffOf};
+ghost use Rattle.arena.specs.internal.Words.{payoffOf};
 ghost use Rattle.game_tree_f64.specs.Values.{plus, times, weight};
 
 // x's pattern; of a NaN one fixed pattern, since bits are undefined at a NaN.

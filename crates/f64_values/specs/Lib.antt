@@ -1,2 +1,2 @@
--- The best response in f64 over a stored tree. No public call cites these definitions.
-pub mod Valued
+-- The best response in f64 over a stored tree.
+pub mod internal

@@ -22,7 +22,7 @@ use f64_numbers::reached;
 use f64_numbers::weighed;
 use f64_numbers::weight;
 ghost use Prim.Native.Nat.{_+_};
-ghost use Rattle.f64_values.specs.Valued.{Walkable, Valued, Gained, Dealt, Split, ValuedOwn, Totalled, Chosen};
+ghost use Rattle.f64_values.specs.internal.Valued.{Walkable, Valued, Gained, Dealt, Split, ValuedOwn, Totalled, Chosen};
 
 // The value of the tree at place a for a seat.
 pub fn value(

@@ -6,10 +6,10 @@ use native.Mathlib.Omega.{arith}
 use lib.ListN.{length, getD}
 use lib.Ieee.{Float, nan, binary64, ofInt}
 use Rattle.game_tree_f64.specs.Values.{nought, plus, weight}
-use Rattle.arena.specs.Words.{END, CHANCE, kindOf, actionsOf, setOf, nextOf, payoffOf}
-use Rattle.arena.specs.Walk.{Behind, Fan}
+use Rattle.arena.specs.internal.Words.{END, CHANCE, kindOf, actionsOf, setOf, nextOf, payoffOf}
+use Rattle.arena.specs.internal.Walk.{Behind, Fan}
 use Rattle.f64_worths.specs.declared.Two.{Two}
-use Rattle.f64_worths.specs.Expected.{Both, Summed, Walkable, Expected, Gained, Dealt, Moved}
+use Rattle.f64_worths.specs.internal.Expected.{Both, Summed, Walkable, Expected, Gained, Dealt, Moved}
 use Rattle.f64_worths.proofs.Summing as one
 
 -- both sums start

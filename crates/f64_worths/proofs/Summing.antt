@@ -6,16 +6,17 @@ use Prim.Native.Nat.{ℕ, suc, _+_, _-_, _≤_, _<_}
 use native.Mathlib.Omega.{arith}
 use lib.ListN.{length, getD}
 use lib.Ieee.{Float, nan, binary64, ofInt}
-use Rattle.game_tree.specs.Tree.{Key, Tree, end, chance, decide, Trees, nil, cons, fan, Every}
+use Rattle.game_tree.specs.Tree.{Key, Tree, end, chance, decide, Trees, nil, cons, fan}
+use Rattle.game_tree.specs.Conditions.{Every}
 use Rattle.game_tree.specs.Sets.{size, sizes, firstEntry}
 use Rattle.game_tree_f64.specs.Values.{profileOf, nought, plus, times, weight, edge, value, added, worth}
-use Rattle.arena.specs.Words.{END, CHANCE, kindOf, actionsOf, setOf, nextOf, payoffOf}
-use Rattle.arena.specs.Held.{Says, Held}
-use Rattle.arena.specs.Walk.{Behind, Fan}
-use Rattle.arena.specs.Legible.{LegibleAll}
+use Rattle.arena.specs.internal.Words.{END, CHANCE, kindOf, actionsOf, setOf, nextOf, payoffOf}
+use Rattle.arena.specs.internal.Held.{Says, Held}
+use Rattle.arena.specs.internal.Walk.{Behind, Fan}
+use Rattle.arena.specs.internal.Legible.{LegibleAll}
 use Rattle.arena.proofs.Building.{size-some, fan-few}
 use Rattle.arena.proofs.Reading.{deep-some, chance-row, decide-row, first, rest, near}
-use Rattle.f64_worths.specs.Expected.{total, Expected, Gained, Dealt, Moved}
+use Rattle.f64_worths.specs.internal.Expected.{total, Expected, Gained, Dealt, Moved}
 
 -- ---- a node by its word
 module _ (profile : List Float) (w : List ℕ) (a d i : ℕ) (r : Float) where

@@ -16,9 +16,9 @@ ghost use mathlib.Core.Path.{_≡_};
 ghost use Prim.Native.Nat.{_+_, _<_, _≤_};
 ghost use lib.ListN.{length, getD};
 ghost use lib.Ieee.{nan, binary64, ofInt};
-ghost use Rattle.arena.specs.Words.{payoffOf};
+ghost use Rattle.arena.specs.internal.Words.{payoffOf};
 ghost use Rattle.game_tree_f64.specs.Values.{nought, plus};
-ghost use Rattle.f64_worths.specs.Expected.{Both, Summed, Walkable, Expected, Gained, Dealt, Moved};
+ghost use Rattle.f64_worths.specs.internal.Expected.{Both, Summed, Walkable, Expected, Gained, Dealt, Moved};
 
 // A number for each of two seats.
 pub struct Two {

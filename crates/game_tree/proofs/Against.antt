@@ -6,9 +6,10 @@ use Prim.Native.Nat.{ℕ, suc, pred, _+_, _*_, _/_, _≤_, _<_, zero-le}
 use native.Mathlib.Nat as NatL
 use native.Mathlib.Omega.{arith}
 use lib.Dec.{eqb}
-use Rattle.game_tree.specs.Tree.{Key, Tree, end, chance, decide, Trees, nil, cons, fan, Strategy, Splits, SplitsAll, Every, EveryAll, Keeps}
+use Rattle.game_tree.specs.Tree.{Key, Tree, end, chance, decide, Trees, nil, cons, fan, Strategy}
+use Rattle.game_tree.specs.Conditions.{Splits, SplitsAll, Every, EveryAll, Keeps}
 use Rattle.game_tree.specs.Reply.{split, own, Replies, more, node, share, replyTree, replyAll, replyKids, bestValue, count, depth, depthAll}
-use Rattle.game_tree.specs.Reply.{EveryOwn, EveryOwnAll}
+use Rattle.game_tree.specs.Optimal.{EveryOwn, EveryOwnAll}
 use Rattle.game_tree.specs.Recall.{Path, moved, Recall, RecallAll, RecallKids, Recalled, RecalledAll, RecalledKids}
 use Rattle.game_tree.specs.Theorem.{RecallKept, OwnEntriesFree}
 use Rattle.game_tree.proofs.Tests.{Tested, is, isn't, tested, eqb-is, eqb-isn't}

@@ -10,7 +10,8 @@ use lib.IntN.{ℤ}
 use lib.Signed.{ltZ, _≤ℤ_, _<ℤ_, ≤ℤ-refl, ltZ-no, ltZ-yes}
 use lib.ListN.{length}
 use Rattle.game_tree.specs.Tree.{Key}
-use Rattle.game_tree.specs.Reply.{Reply, Choice, members, setSum, highest, lowest, actions, depth, decided, best, EveryOwn, Decides, Optimal}
+use Rattle.game_tree.specs.Reply.{Reply, Choice, members, setSum, highest, lowest, actions, depth, decided, best}
+use Rattle.game_tree.specs.Optimal.{EveryOwn, Decides, Optimal}
 use Rattle.game_tree.specs.Recall.{Path, Recalled}
 use Rattle.game_tree.specs.Theorem.{LowestOfGreatest, BestDecides, DecidesAlike, BestOptimal}
 use Rattle.game_tree.proofs.Integers.{≤ℤ-trans, ≤ℤ-<ℤ-trans, <ℤ-le}

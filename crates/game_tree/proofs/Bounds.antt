@@ -7,8 +7,8 @@ use native.Mathlib.Omega.{arith}
 use lib.Dec.{eqb}
 use lib.IntN.{natAbs}
 use Rattle.game_tree.specs.Sums.{parts}
-use Rattle.game_tree.specs.Tree.{Key, Tree, end, chance, decide, Trees, nil, cons, fan, Strategy, all, worth, worthAll, worthKids, units, unitsAll}
-use Rattle.game_tree.specs.Tree.{unitsKids, Every, EveryAll, Pays, PaysAll}
+use Rattle.game_tree.specs.Tree.{Key, Tree, end, chance, decide, Trees, nil, cons, fan, Strategy, all, worth, worthAll, worthKids}
+use Rattle.game_tree.specs.Conditions.{units, unitsAll, unitsKids, Every, EveryAll, Pays, PaysAll}
 use Rattle.game_tree.specs.Reply.{Replies, node, share, replyTree, replyAll, replyKids}
 use Rattle.game_tree.specs.Theorem.{MembersUnits, SetSumBound, ValueBound, WorthBound}
 use Rattle.game_tree.proofs.Integers.{size-of-sum, size-of-multiple}

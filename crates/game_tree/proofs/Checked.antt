@@ -7,10 +7,12 @@ use lib.Dec.{eqb, ltb}
 use borrow.Author.Tests.{ltb-true}
 use Rattle.prelude.specs.Finite.{and}
 use Rattle.prelude.proofs.Tests.{and-left, and-right}
-use Rattle.game_tree.specs.Tree.{Key, Tree, end, chance, decide, Trees, nil, cons, fan, Splits, SplitsAll, Every, EveryAll}
+use Rattle.game_tree.specs.Tree.{Key, Tree, end, chance, decide, Trees, nil, cons, fan}
+use Rattle.game_tree.specs.Conditions.{Splits, SplitsAll, Every, EveryAll}
 use Rattle.game_tree.specs.Reply.{same}
 use Rattle.game_tree.specs.Recall.{Path, moved, Recall, RecallAll, RecallKids}
-use Rattle.game_tree.specs.Sets.{height, Heights, HeightsAll, Levels, LevelsAll}
+use Rattle.game_tree.specs.Sets.{height}
+use Rattle.game_tree.specs.Shape.{Heights, HeightsAll, Levels, LevelsAll}
 use Rattle.game_tree.proofs.Tests.{T-of, same→eq, eqb-is, eqb-self}
 use Rattle.game_tree.proofs.Sets.{clash}
 

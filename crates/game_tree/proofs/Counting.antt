@@ -7,8 +7,10 @@ use Prim.Native.Nat.{ℕ, suc, _≤_, zero-le}
 use native.Mathlib.Nat as NatL
 use native.Mathlib.Omega.{arith}
 use lib.ListN.{length}
-use Rattle.game_tree.specs.Tree.{Key, Tree, Every}
-use Rattle.game_tree.specs.Sets.{Decision, decisions, isOf, met, firsts, sets, SameActions}
+use Rattle.game_tree.specs.Tree.{Key, Tree}
+use Rattle.game_tree.specs.Conditions.{Every}
+use Rattle.game_tree.specs.Sets.{Decision, decisions, isOf, met, firsts, sets}
+use Rattle.game_tree.specs.Shape.{SameActions}
 use Rattle.game_tree.proofs.Tests.{Tested, is, isn't, tested}
 use Rattle.game_tree.proofs.Sets.{Property, Each, every→each, each→every, clash, isOf-seat, isOf-key, isOf-self, met-here, met-later, Distinct, sets-distinct, Stands, sets-stand}
 

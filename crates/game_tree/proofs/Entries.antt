@@ -5,7 +5,8 @@ use mathlib.Core.List.{List, [], _∷_, _++_, append-nil}
 use Prim.Native.Nat.{ℕ, _+_, _≤_, _<_}
 use native.Mathlib.Omega.{arith}
 use Rattle.game_tree.specs.Sums.{sumℕ}
-use Rattle.game_tree.specs.Tree.{Key, Tree, Every}
+use Rattle.game_tree.specs.Tree.{Key, Tree}
+use Rattle.game_tree.specs.Conditions.{Every}
 use Rattle.game_tree.specs.Sets.{Decision, decisions, isOf, met, firsts, sets, before, entriesOf, entries, firstEntry}
 use Rattle.game_tree.proofs.Tests.{Tested, is, isn't, tested}
 use Rattle.game_tree.proofs.Sums.{sumℕ-append}

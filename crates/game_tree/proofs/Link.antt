@@ -7,8 +7,10 @@ use native.Mathlib.Omega.{arith}
 use lib.Dec.{eqb}
 use lib.IntN.{_+ℤ_}
 use Rattle.game_tree.specs.Sums.{_·_}
-use Rattle.game_tree.specs.Tree.{Key, Tree, end, chance, decide, Trees, nil, cons, fan, Strategy, all, allBut, worth, worthAll, worthKids, Splits, SplitsAll}
-use Rattle.game_tree.specs.Reply.{node, share, replyTree, replyAll, replyKids, scaled, scaledAll, scaledKids}
+use Rattle.game_tree.specs.Tree.{Key, Tree, end, chance, decide, Trees, nil, cons, fan, Strategy, all, worth, worthAll, worthKids}
+use Rattle.game_tree.specs.Conditions.{allBut, Splits, SplitsAll}
+use Rattle.game_tree.specs.Reply.{node, share, replyTree, replyAll, replyKids}
+use Rattle.game_tree.specs.Optimal.{scaled, scaledAll, scaledKids}
 use Rattle.game_tree.specs.Theorem.{FinerUnitsExact, Link, LinkInUnits}
 use Rattle.game_tree.proofs.Integers.{·-mul}
 use Rattle.game_tree.proofs.Tests.{Tested, is, isn't, tested, eqb-is}

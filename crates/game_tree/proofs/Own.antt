@@ -10,8 +10,8 @@ use lib.IntN.{_+ℤ_}
 use lib.ListN.{length}
 use Rattle.game_tree.specs.Sums.{sum}
 use Rattle.game_tree.specs.Tree.{Key}
-use Rattle.game_tree.specs.Reply.{Reply, leaf, split, own, Replies, none, more, count, Choice, value, total, pick, Node, nodes, nodesAll, same, keep}
-use Rattle.game_tree.specs.Reply.{withKey, members, setSum, actions, depth, depthAll, EveryOwn, EveryOwnAll}
+use Rattle.game_tree.specs.Reply.{Reply, leaf, split, own, Replies, none, more, count, Choice, value, total, pick, Node, nodes, nodesAll, same, keep, withKey, members, setSum, actions, depth, depthAll}
+use Rattle.game_tree.specs.Optimal.{EveryOwn, EveryOwnAll}
 use Rattle.game_tree.specs.Recall.{Path, Recalled, RecalledAll, RecalledKids}
 use Rattle.game_tree.proofs.Tests.{Tested, is, isn't, tested, T-of, same→eq, same-self}
 use Rattle.game_tree.proofs.Members.{withKey-none}

@@ -6,8 +6,8 @@ use native.Mathlib.Omega.{arith}
 use lib.IntN.{pos, _+ℤ_, +ℤ-idl, +ℤ-idr}
 use Rattle.game_tree.specs.Sums.{_·_, parts}
 use Rattle.game_tree.specs.Tree.{Key}
-use Rattle.game_tree.specs.Reply.{Reply, leaf, split, own, Replies, none, more, Choice, value, total, pick}
-use Rattle.game_tree.specs.Reply.{depth, depthAll, pure, scaled, scaledAll, scaledKids}
+use Rattle.game_tree.specs.Reply.{Reply, leaf, split, own, Replies, none, more, Choice, value, total, pick, depth, depthAll, pure}
+use Rattle.game_tree.specs.Optimal.{scaled, scaledAll, scaledKids}
 use Rattle.game_tree.specs.Theorem.{PureWorth}
 use Rattle.game_tree.proofs.Integers.{·-none, ·-zero, ·-sum, ·-mul}
 use Rattle.game_tree.proofs.Sums.{parts-one}

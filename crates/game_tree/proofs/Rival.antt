@@ -7,8 +7,10 @@ use native.Mathlib.Omega.{arith}
 use lib.Dec.{eqb}
 use lib.Signed.{_≤ℤ_}
 use Rattle.game_tree.specs.Sums.{_·_, parts}
-use Rattle.game_tree.specs.Tree.{Key, Tree, Strategy, all, allBut, worth, Splits, Valid, Keeps, Rival}
-use Rattle.game_tree.specs.Reply.{Reply, replyTree, setSum, lowest, best, bestValue, pure, reply, EveryOwn, scaled}
+use Rattle.game_tree.specs.Tree.{Key, Tree, Strategy, all, worth}
+use Rattle.game_tree.specs.Conditions.{allBut, Splits, Valid, Keeps, Rival}
+use Rattle.game_tree.specs.Reply.{Reply, replyTree, setSum, lowest, best, bestValue, pure, reply}
+use Rattle.game_tree.specs.Optimal.{EveryOwn, scaled}
 use Rattle.game_tree.specs.Recall.{PerfectRecall, RecallsOwn}
 use Rattle.game_tree.specs.Theorem.{NoFinerRivalBetter, ReplyIsRival, ReplyWorth, NoRivalBetter}
 use Rattle.game_tree.proofs.Integers.{·-cancel, ·-cancel-eq}

@@ -6,9 +6,11 @@ use Prim.Native.Nat.{ℕ, suc, _+_}
 use native.Mathlib.Omega.{arith}
 use lib.Dec.{eqb}
 use lib.ListN.{length, length-append}
-use Rattle.game_tree.specs.Tree.{Key, Tree, end, chance, decide, Trees, nil, cons, fan, Every, EveryAll}
+use Rattle.game_tree.specs.Tree.{Key, Tree, end, chance, decide, Trees, nil, cons, fan}
+use Rattle.game_tree.specs.Conditions.{Every, EveryAll}
 use Rattle.game_tree.specs.Reply.{same}
-use Rattle.game_tree.specs.Sets.{size, sizes, preorder, preorderAll, Decision, decisions, decisionsAll, decisionOf, decisionsOf, isOf, met, firsts, sets, SameActions}
+use Rattle.game_tree.specs.Sets.{size, sizes, preorder, preorderAll, Decision, decisions, decisionsAll, isOf, met, firsts, sets}
+use Rattle.game_tree.specs.Shape.{decisionOf, decisionsOf, SameActions}
 use Rattle.game_tree.proofs.Tests.{Tested, is, isn't, tested, T-of, same→eq, same-self, eqb-is, eqb-self}
 
 -- ---- a tree has as many nodes as its size

@@ -6,7 +6,8 @@ use native.Mathlib.Omega.{arith}
 use lib.Dec.{eqb}
 use lib.Signed.{_≤ℤ_}
 use Rattle.game_tree.specs.Sums.{_·_, sum, sumℕ, parts}
-use Rattle.game_tree.specs.Tree.{Key, Splits, Pays, Every, Valid, all, worth, units}
+use Rattle.game_tree.specs.Tree.{Key, all, worth}
+use Rattle.game_tree.specs.Conditions.{Splits, Pays, Every, Valid, units}
 use Rattle.game_tree.specs.Reply.{value, withKey, highest, best, reply}
 use Rattle.game_tree.specs.Recall.{Path, Recall, PerfectRecall}
 use Rattle.game_tree.specs.Small.{small, given, seen}

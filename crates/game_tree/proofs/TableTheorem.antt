@@ -6,13 +6,14 @@ use lib.IntN.{ℤ, pos, _-ℤ_, +ℤ-idl, -ℤ-+ℤ-cancel}
 use lib.ListN.{getD}
 use lib.Signed.{_≤ℤ_, ≤ℤ-refl}
 use Rattle.game_tree.specs.Sums.{parts}
-use Rattle.game_tree.specs.Tree.{Key, Tree, Strategy, all, U, Every, Keeps}
+use Rattle.game_tree.specs.Tree.{Key, Tree, Strategy, all, U}
+use Rattle.game_tree.specs.Conditions.{Every, Keeps}
 use Rattle.game_tree.specs.Reply.{replyTree, best, reply}
-use Rattle.game_tree.specs.Sets.{sets, entriesOf, before, SameActions}
+use Rattle.game_tree.specs.Sets.{sets, entriesOf, before}
+use Rattle.game_tree.specs.Shape.{SameActions}
 use Rattle.game_tree.specs.Table.{Table, strategyOf, tableOf, ValidTable, KeepsTable, tableWorth, tableBest, replyTable, nashConv}
 use Rattle.game_tree.specs.Small.{small}
-use Rattle.game_tree.specs.TableTheorem.{NodesCounted, DecisionsOfNodes, TableBack, StrategyBack, TableValid, StrategyValid, ValidMeans, TableRival, ReplyTableRival, ReplyTableWorth, NoRivalTableBetter, ReplyTableBest}
-use Rattle.game_tree.specs.TableTheorem.{ReplyTableEntries, OwnTableEntriesFree, TableUnitsAddUp, TableBounds, NashConvNotBelow, smallTable, SmallNoRivalTable}
+use Rattle.game_tree.specs.TableTheorem.{NodesCounted, DecisionsOfNodes, TableBack, StrategyBack, TableValid, StrategyValid, ValidMeans, TableRival, ReplyTableRival, ReplyTableWorth, NoRivalTableBetter, ReplyTableBest, ReplyTableEntries, OwnTableEntriesFree, TableUnitsAddUp, TableBounds, NashConvNotBelow, smallTable, SmallNoRivalTable}
 use Rattle.game_tree.proofs.Integers.{+ℤ-mono, +ℤ-cancel}
 use Rattle.game_tree.proofs.Against.{every-both, own-entries-free}
 use Rattle.game_tree.proofs.Units.{units-add-up}

@@ -11,7 +11,8 @@ use lib.ListN.{length, getD, take, drop, replicate, length-append, length-drop, 
 use lib.Seq.{length-take-le, getD-append-add, getD-drop, getD-take, drop-at, ext-getD}
 use borrow.Author.Tests.{ltb-true, ltb-false}
 use Rattle.game_tree.specs.Sums.{sumℕ, parts}
-use Rattle.game_tree.specs.Tree.{Key, Tree, end, chance, decide, Trees, nil, cons, fan, Strategy, worth, worthAll, worthKids, Every, EveryAll}
+use Rattle.game_tree.specs.Tree.{Key, Tree, end, chance, decide, Trees, nil, cons, fan, Strategy, worth, worthAll, worthKids}
+use Rattle.game_tree.specs.Conditions.{Every, EveryAll}
 use Rattle.game_tree.specs.Sets.{Decision, isOf, entriesOf, before, seatsOf}
 use Rattle.game_tree.specs.Table.{Table, listed, laidOut, addUp}
 use Rattle.game_tree.proofs.Tests.{Tested, is, isn't, tested, eqb-is, eqb-self}

@@ -13,8 +13,8 @@ use lib.Signed.{_≤ℤ_, ≤ℤ-refl}
 use lib.ListN.{length}
 use Rattle.game_tree.specs.Sums.{_·_, sum, parts}
 use Rattle.game_tree.specs.Tree.{Key}
-use Rattle.game_tree.specs.Reply.{Reply, leaf, split, own, Replies, none, more, count, Choice, value, total, pick, Node, nodes, nodesAll, members}
-use Rattle.game_tree.specs.Reply.{setSum, depth, depthAll, EveryOwn, Optimal, scaled, scaledAll, scaledKids}
+use Rattle.game_tree.specs.Reply.{Reply, leaf, split, own, Replies, none, more, count, Choice, value, total, pick, Node, nodes, nodesAll, members, setSum, depth, depthAll}
+use Rattle.game_tree.specs.Optimal.{EveryOwn, Optimal, scaled, scaledAll, scaledKids}
 use Rattle.game_tree.specs.Recall.{Path, Recalled, RecalledAll, RecalledKids}
 use Rattle.game_tree.specs.Theorem.{OptimalUnbeaten}
 use Rattle.game_tree.proofs.Integers.{·-zero, ·-one, ·-sum, ·-mul, ·-swap, +ℤ-mono, +ℤ-cancel, +ℤ-left-comm, +ℤ-four}

@@ -5,8 +5,8 @@ use native.Mathlib.Nat as NatL
 use native.Mathlib.Omega.{arith}
 use lib.IntN.{_+ℤ_}
 use Rattle.game_tree.specs.Sums.{_·_, parts}
-use Rattle.game_tree.specs.Tree.{Key, Tree, end, chance, decide, Trees, nil, cons, fan, Strategy, all, worth, worthAll, worthKids, units, unitsAll}
-use Rattle.game_tree.specs.Tree.{unitsKids, Exact, ExactAll, ExactKids, Splits, SplitsAll, Every, EveryAll, Valid}
+use Rattle.game_tree.specs.Tree.{Key, Tree, end, chance, decide, Trees, nil, cons, fan, Strategy, all, worth, worthAll, worthKids}
+use Rattle.game_tree.specs.Conditions.{units, unitsAll, unitsKids, Exact, ExactAll, ExactKids, Splits, SplitsAll, Every, EveryAll, Valid}
 use Rattle.game_tree.specs.Theorem.{UnitsExact, UnitsAddUp}
 use Rattle.game_tree.proofs.Integers.{·-zero, ·-sum, ·-mul}
 

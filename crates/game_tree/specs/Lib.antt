@@ -8,3 +8,6 @@ pub mod Sets
 pub mod Nodes
 pub mod Table
 pub mod TableTheorem
+pub mod Conditions
+pub mod Optimal
+pub mod Shape

@@ -8,13 +8,14 @@ use Prim.Native.Nat.{ℕ, _*_, _≤_, _<_}
 use lib.IntN.{pos, natAbs}
 use lib.ListN.{length}
 use lib.Signed.{_≤ℤ_}
-use Rattle.game_tree.specs.Tree.{Tree, Strategy, all, U, units, Splits, Pays, Every, Valid, Rival}
+use Rattle.game_tree.specs.Tree.{Tree, Strategy, all, U}
+use Rattle.game_tree.specs.Conditions.{units, Splits, Pays, Every, Valid, Rival}
 use Rattle.game_tree.specs.Reply.{reply}
 use Rattle.game_tree.specs.Recall.{PerfectRecall}
-use Rattle.game_tree.specs.Sets.{size, preorder, decisions, decisionsOf, firsts, sets}
-use Rattle.game_tree.specs.Sets.{setNumber, setMembers, entries, firstEntry, SameActions}
-use Rattle.game_tree.specs.Table.{Table, strategyOf, tableOf, ValidTable, KeepsTable, RivalTable}
-use Rattle.game_tree.specs.Table.{tableWorth, tableBest, replyTable, nashConv, BestReply}
+use Rattle.game_tree.specs.Sets.{size, preorder, decisions, firsts, sets, setMembers, entries, firstEntry}
+use Rattle.game_tree.specs.Shape.{decisionsOf, setNumber, SameActions}
+use Rattle.game_tree.specs.Table.{Table, strategyOf, tableOf, ValidTable, KeepsTable, RivalTable, tableWorth, tableBest, replyTable}
+use Rattle.game_tree.specs.Table.{nashConv, BestReply}
 use Rattle.game_tree.specs.Small.{small, given}
 
 -- 1. A tree has as many nodes as its size says.

@@ -9,9 +9,10 @@ use lib.IntN.{ℤ, pos, natAbs}
 use lib.Signed.{_≤ℤ_, _<ℤ_}
 use lib.ListN.{take}
 use Rattle.game_tree.specs.Sums.{_·_, sum, sumℕ, parts}
-use Rattle.game_tree.specs.Tree.{Key, Tree, Strategy, all, allBut, U, worth, units, Exact, Splits, Pays, Valid, Keeps, Rival}
-use Rattle.game_tree.specs.Reply.{Reply, replyTree, Choice, value, pick, members, setSum, lowest, depth, best}
-use Rattle.game_tree.specs.Reply.{bestValue, pure, reply, EveryOwn, Decides, Optimal, scaled}
+use Rattle.game_tree.specs.Tree.{Key, Tree, Strategy, all, U, worth}
+use Rattle.game_tree.specs.Conditions.{allBut, units, Exact, Splits, Pays, Valid, Keeps, Rival}
+use Rattle.game_tree.specs.Reply.{Reply, replyTree, Choice, value, pick, members, setSum, lowest, depth, best, bestValue, pure, reply}
+use Rattle.game_tree.specs.Optimal.{EveryOwn, Decides, Optimal, scaled}
 use Rattle.game_tree.specs.Recall.{PerfectRecall, RecallsOwn}
 use Rattle.game_tree.specs.Small.{small, given, seen}
 

@@ -8,9 +8,11 @@ use native.Mathlib.Nat as NatL
 use native.Mathlib.Omega.{arith}
 use lib.Dec.{eqb}
 use lib.Ieee.{Float}
-use Rattle.game_tree.specs.Tree.{Key, Tree, end, chance, decide, Trees, nil, cons, fan, Every, EveryAll}
+use Rattle.game_tree.specs.Tree.{Key, Tree, end, chance, decide, Trees, nil, cons, fan}
+use Rattle.game_tree.specs.Conditions.{Every, EveryAll}
 use Rattle.game_tree.specs.Reply.{Choice, same}
-use Rattle.game_tree.specs.Sets.{Decision, decisions, decisionsAll, height, heightAll, Heights, HeightsAll}
+use Rattle.game_tree.specs.Sets.{Decision, decisions, decisionsAll, height, heightAll}
+use Rattle.game_tree.specs.Shape.{Heights, HeightsAll}
 use Rattle.game_tree.proofs.Tests.{Tested, is, isn't, tested, T-of, same→eq, same-self, eqb-is, eqb-self}
 use Rattle.game_tree.proofs.Counting.{In, in-append, every-in, in-every}
 use Rattle.game_tree_f64.specs.Values.{Profile, nought, one, plus, times, weight, edge, value, added, picked, lead, Member, passed, found, foundAll, summed, actions, setSum, decided, best, bestValue}

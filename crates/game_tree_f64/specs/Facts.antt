@@ -3,9 +3,10 @@
 use mathlib.Core.Path.{_≡_}
 use Prim.Native.Nat.{ℕ}
 use lib.Dec.{eqb}
-use Rattle.game_tree.specs.Tree.{Tree, Every}
+use Rattle.game_tree.specs.Tree.{Tree}
+use Rattle.game_tree.specs.Conditions.{Every}
 use Rattle.game_tree.specs.Reply.{Choice}
-use Rattle.game_tree.specs.Sets.{SameActions, SameHeights}
+use Rattle.game_tree.specs.Shape.{SameActions, SameHeights}
 use Rattle.game_tree_f64.specs.Values.{Profile, value, lead, setSum, best, bestValue}
 
 -- In each of the seat's sets the best choice is what the paper's sentence asks:

@@ -16,7 +16,7 @@ use Rattle.leduc_tree.specs.Turns.{actionsInOrder}
 use Rattle.leduc_set_actions.proofs.Facts.{threes, actionsAt, in-words, actions-in-all}
 use Rattle.games.specs.Seats.{seats-out}
 use Rattle.games.specs.Facts.{nodesOf, setsOf, entriesOf}
-use Rattle.games.specs.Actions.{actionsOf}
+use Rattle.games.specs.internal.Actions.{actionsOf}
 use Rattle.games.specs.Games.{isKuhn, C, m}
 use Rattle.games.specs.declared.Game.{Game}
 use Rattle.games.proofs.Totals.{total, total-same, total-more, total-most}

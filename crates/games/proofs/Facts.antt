@@ -9,13 +9,15 @@ use borrow.Author.Tests.{eq-eqb, ne-eqb, eqb-true, eqb-false, not-false}
 use lib.ListN.{length, replicate, length-map}
 use Rattle.prelude.specs.Finite.{or}
 use Rattle.prelude.proofs.Tests.{Tested, holds, fails, tested}
-use Rattle.game_tree.specs.Tree.{Splits, Pays}
+use Rattle.game_tree.specs.Conditions.{Splits, Pays}
 use Rattle.game_tree.specs.Recall.{PerfectRecall}
-use Rattle.game_tree.specs.Sets.{Decision, size, sets, setCount, setActions, entries, SameActions}
+use Rattle.game_tree.specs.Sets.{Decision, size, sets, setCount, setActions, entries}
+use Rattle.game_tree.specs.Shape.{SameActions}
 use Rattle.game_tree.proofs.TableTheorem.{reply-table-best}
 use Rattle.game_tree.proofs.Sets.{Each, every→sets}
 use Rattle.kuhn_tree.specs.Tree.{kuhnTree}
 use Rattle.kuhn_tree.specs.Tree as KuhnTree
+use Rattle.kuhn_tree.specs.Facts as KuhnTree-Facts
 use Rattle.kuhn_tree.specs.Counts.{dealNodes, kuhnNodes, kuhnSets, kuhnEntries}
 use Rattle.kuhn_tree.proofs.Facts as KuhnFacts
 use Rattle.kuhn_tree.proofs.Facts.{counted}
@@ -25,10 +27,11 @@ use Rattle.leduc_tree_facts.proofs.Facts.{counts}
 use Rattle.leduc_tree_facts.proofs.Facts as LeducFacts
 use Rattle.leduc_tree.specs.Turns.{actionsInOrder}
 use Rattle.leduc_tree.proofs.Facts.{actions-in-order}
-use Rattle.games.specs.Games.{treeOf, C, m, mostParts}
+use Rattle.games.specs.Games.{treeOf, C, m, mostParts, rootUnits}
 use Rattle.games.specs.Seats.{seats-out}
-use Rattle.games.specs.Facts.{nodesOf, setsOf, entriesOf, Counted, kuhn, leduc, Table-of-counts, Fit, Games-fit, Actions-listed, rootUnits, Reply-best}
-use Rattle.games.specs.Actions.{actionsOf}
+use Rattle.games.specs.Facts.{nodesOf, setsOf, entriesOf, Counted, kuhn, leduc, Table-of-counts, Fit, Games-fit, Reply-best}
+use Rattle.games.specs.internal.Facts.{Actions-listed}
+use Rattle.games.specs.internal.Actions.{actionsOf}
 use Rattle.games.specs.declared.Game.{Game}
 use Rattle.games.proofs.Counts.{kuhn-least}
 
@@ -119,7 +122,7 @@ games-fit g known out = by (tested (eqb (g .number) 0))
       splits = subst (λ b. Splits (cond b (KuhnTree.C (g .seats)) 120) (cond b (KuhnTree.m (g .seats)) 8) (treeOf g)) (sym t) (subst (Splits (KuhnTree.C (g .seats)) (KuhnTree.m (g .seats))) (sym e) (KuhnFacts.fans-divide 1 1 (g .seats)));
       recall = λ i w. subst (PerfectRecall i) (sym e) (KuhnFacts.recalls 1 1 (g .seats) i);
       actions = subst SameActions (sym e) (KuhnFacts.actions-by-key 1 1 (g .seats));
-      pays = λ i w. subst (λ b. Pays (cond b (KuhnTree.largestPayoff 1 1 (g .seats)) 13) i (treeOf g)) (sym t) (subst (Pays (KuhnTree.largestPayoff 1 1 (g .seats)) i) (sym e) (KuhnFacts.payoffs-bounded 1 1 (g .seats) i (kuhn-least g (eqb-true (g .number) 0 t) out) w));
+      pays = λ i w. subst (λ b. Pays (cond b (KuhnTree-Facts.largestPayoff 1 1 (g .seats)) 13) i (treeOf g)) (sym t) (subst (Pays (KuhnTree-Facts.largestPayoff 1 1 (g .seats)) i) (sym e) (KuhnFacts.payoffs-bounded 1 1 (g .seats) i (kuhn-least g (eqb-true (g .number) 0 t) out) w));
     }
 
     leduc-fit : eqb (g .number) 0 ≡ false → treeOf g ≡ leducTree 1 2 4 → Fit g
@@ -127,7 +130,7 @@ games-fit g known out = by (tested (eqb (g .number) 0))
       splits = subst (λ b. Splits (cond b (KuhnTree.C (g .seats)) 120) (cond b (KuhnTree.m (g .seats)) 8) (treeOf g)) (sym t) (subst (Splits 120 8) (sym e) (LeducFacts.fans-divide 1 2 4));
       recall = λ i w. subst (PerfectRecall i) (sym e) (LeducFacts.recalls 1 2 4 i (let s = leduc-two g (eqb-false (g .number) 0 t) out in omega arith));
       actions = subst SameActions (sym e) (LeducFacts.actions-by-key 1 2 4);
-      pays = λ i w. subst (λ b. Pays (cond b (KuhnTree.largestPayoff 1 1 (g .seats)) 13) i (treeOf g)) (sym t) (subst (Pays 13 i) (sym e) (LeducFacts.payoffs-bounded 1 2 4 i));
+      pays = λ i w. subst (λ b. Pays (cond b (KuhnTree-Facts.largestPayoff 1 1 (g .seats)) 13) i (treeOf g)) (sym t) (subst (Pays 13 i) (sym e) (LeducFacts.payoffs-bounded 1 2 4 i));
     }
 
     by : Tested (eqb (g .number) 0) → Fit g

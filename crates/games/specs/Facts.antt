@@ -3,15 +3,22 @@
 use mathlib.Core.Path.{_≡_}
 use mathlib.Core.Bool.{false, cond}
 use Prim.Native.Nat.{ℕ, _≤_, _<_}
-use Rattle.game_tree.specs.Tree.{Tree, U, Splits, Pays}
+use Rattle.game_tree.specs.Conditions.{Splits, Pays}
 use Rattle.game_tree.specs.Recall.{PerfectRecall}
-use Rattle.game_tree.specs.Sets.{setActions, Sized, SameActions}
+use Rattle.game_tree.specs.Shape.{Sized, SameActions}
 use Rattle.game_tree.specs.Table.{Table, ValidTable, tableBest, replyTable, BestReply}
 use Rattle.kuhn_tree.specs.Counts.{kuhnNodes, kuhnSets, kuhnEntries}
-use Rattle.games.specs.Games.{isKuhn, treeOf, C, m, largestPayoff}
+use Rattle.games.specs.Games.{isKuhn, treeOf, C, m, rootUnits}
 use Rattle.games.specs.Seats.{seats-out}
-use Rattle.games.specs.Actions.{actionsOf}
 use Rattle.games.specs.declared.Game.{Game}
+use Rattle.kuhn_rules.specs.Stakes as K
+use Rattle.leduc_rules.specs.Stakes as L
+use Rattle.kuhn_tree.specs.Facts as Kuhn
+use Rattle.leduc_tree.specs.Facts as Leduc
+
+-- the largest payoff in size
+abbrev pub largestPayoff : Game → ℕ
+largestPayoff g = cond (isKuhn g) (Kuhn.largestPayoff K.ante K.stake (g .seats)) (Leduc.largestPayoff L.ante L.raise₁ L.raise₂)
 
 -- the counts by game
 abbrev pub nodesOf : Game → ℕ
@@ -26,10 +33,6 @@ entriesOf g = cond (isKuhn g) (kuhnEntries (g .seats)) 2184
 -- every game that numbers 1 and 2 let through has so many nodes, sets and entries
 abbrev pub Counted : Type 0
 Counted = (g : Game) → seats-out g ≡ false → Sized (treeOf g) (nodesOf g) (setsOf g) (entriesOf g)
-
--- and its sets, in order, these actions
-abbrev pub Actions-listed : Type 0
-Actions-listed = (g : Game) → seats-out g ≡ false → setActions (treeOf g) ≡ actionsOf g
 
 -- document 01's table of counts
 abbrev pub kuhn : ℕ → Game
@@ -54,9 +57,6 @@ abbrev pub Games-fit : Type 0
 Games-fit = (g : Game) → g .number ≤ 1 → seats-out g ≡ false → Fit g
 
 -- so the reply to a valid table is a rival table, its worth is the best value, and no rival table is worth more
-abbrev pub rootUnits : Game → ℕ → ℕ
-rootUnits g D = U (C g) D (m g)
-
 abbrev pub Reply-best : Type 0
 Reply-best = (g : Game) (D i : ℕ) (table : Table) → g .number ≤ 1 → seats-out g ≡ false → i < g .seats → 0 < D
     → ValidTable (treeOf g) D table

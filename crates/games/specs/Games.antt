@@ -2,7 +2,7 @@
 use mathlib.Core.Bool.{Bool, cond}
 use Prim.Native.Nat.{ℕ}
 use lib.Dec.{eqb}
-use Rattle.game_tree.specs.Tree.{Tree}
+use Rattle.game_tree.specs.Tree.{Tree, U}
 use Rattle.kuhn_rules.specs.Stakes as K
 use Rattle.leduc_rules.specs.Stakes as L
 use Rattle.kuhn_tree.specs.Tree as Kuhn
@@ -32,6 +32,6 @@ m g = cond (isKuhn g) (Kuhn.m (g .seats)) Leduc.m
 abbrev pub mostParts : Game → ℕ
 mostParts g = cond (isKuhn g) (Kuhn.largestParts (g .seats)) 64
 
--- the largest payoff in size
-abbrev pub largestPayoff : Game → ℕ
-largestPayoff g = cond (isKuhn g) (Kuhn.largestPayoff K.ante K.stake (g .seats)) (Leduc.largestPayoff L.ante L.raise₁ L.raise₂)
+-- the units of the root, with D parts in each set
+abbrev pub rootUnits : Game → ℕ → ℕ
+rootUnits g D = U (C g) D (m g)

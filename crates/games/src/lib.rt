@@ -7,7 +7,7 @@ ghost use lib.ListN.{getD};
 ghost use Rattle.games.specs.Games.{mostParts, C, m};
 ghost use Rattle.games.specs.Seats.{seats-out};
 ghost use Rattle.games.specs.Facts.{nodesOf, setsOf, entriesOf};
-ghost use Rattle.games.specs.Actions.{actionsOf};
+ghost use Rattle.games.specs.internal.Actions.{actionsOf};
 
 // A game: its number, 0 for Kuhn and 1 for Leduc, and its seats.
 pub struct Game {

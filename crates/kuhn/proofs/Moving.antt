@@ -15,7 +15,7 @@ use Rattle.prelude.specs.Finite.{and}
 use Rattle.prelude.proofs.Tests.{Tested, holds, fails, tested, and-left, and-right}
 use Rattle.prelude.proofs.Lists.{those-below}
 use Rattle.kuhn_rules.specs.Rules.{BET, due, live, left, remaining}
-use Rattle.kuhn_rules.specs.Reached.{Reached, deal, act}
+use Rattle.kuhn_rules.specs.Moves.{Reached, deal, act}
 use Rattle.kuhn_positions.specs.Positions.{cardsOf, historyOf, with-card, with-action, counted, reachable}
 use Rattle.kuhn_positions.proofs.Positions.{dealt-is, acted-is, reachable-dealt, reachable-acted, seats-most}
 use Rattle.kuhn.specs.Calls.{moved, deal-refusal, dealt, step-refusal, stepped}

@@ -9,10 +9,10 @@ use Rattle.refusals.specs.Refusals.{_refuses_}
 use Rattle.refusals.specs.Refusals as Refusals
 use Rattle.refusals.specs.Facts.{Decides}
 use Rattle.kuhn_rules.specs.Rules.{ended, remaining}
-use Rattle.kuhn_rules.specs.Reached.{Reached}
+use Rattle.kuhn_rules.specs.Moves.{Reached}
 use Rattle.kuhn_positions.specs.Positions.{cardsOf, historyOf, counted, seats-out, reachable, position-checks, saved-checks, mark}
-use Rattle.kuhn.specs.Calls.{started, dealt, stepped, listed, keyed, paid, saved-refusal, checked}
-use Rattle.kuhn.specs.Calls.{deal-checks, step-checks, legal-checks, key-checks, payoff-checks, mark-checks}
+use Rattle.kuhn.specs.Calls.{started, dealt, stepped, listed, keyed, paid, saved-refusal, checked, deal-checks, step-checks}
+use Rattle.kuhn.specs.Calls.{legal-checks, key-checks, payoff-checks, mark-checks}
 use Rattle.kuhn.specs.declared.KuhnPoker.{KuhnPoker}
 use Rattle.kuhn_positions.specs.declared.KuhnState.{KuhnState}
 

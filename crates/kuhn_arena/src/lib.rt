@@ -11,8 +11,8 @@ ghost use Rattle.kuhn_tree.specs.Tree.{kuhnTree};
 ghost use Rattle.kuhn_tree.specs.Counts.{kuhnNodes};
 ghost use Rattle.prelude.specs.Finite.{has};
 ghost use Rattle.game_tree.specs.Sets.{size, sizes};
-ghost use Rattle.arena.specs.Built.{Built, Row, Room};
-ghost use Rattle.kuhn_arena_layout.specs.Layout.{codeOf, cardsIn, dealAt, childrenTo, childAt, Dealing};
+ghost use Rattle.arena.specs.internal.Built.{Built, Row, Room};
+ghost use Rattle.kuhn_arena_layout.specs.internal.Layout.{codeOf, cardsIn, dealAt, childrenTo, childAt, Dealing};
 
 // Whether one of the first seats has a card.
 fn is_dealt(cards: u64, dealt: usize, card: usize) -> bool

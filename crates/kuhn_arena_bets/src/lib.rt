@@ -7,8 +7,8 @@ use kuhn_arena_words::higher;
 use kuhn_arena_words::unit;
 ghost use Prim.Native.Nat.{_+_, _*_, _^_, _≤_};
 ghost use Rattle.game_tree.specs.Sets.{size};
-ghost use Rattle.arena.specs.Built.{Built, Room};
-ghost use Rattle.kuhn_arena_layout.specs.Layout.{codeOf, historyAt, cardsIn, afterAt, Betting};
+ghost use Rattle.arena.specs.internal.Built.{Built, Room};
+ghost use Rattle.kuhn_arena_layout.specs.internal.Layout.{codeOf, historyAt, cardsIn, afterAt, Betting};
 
 // Lays out the last decision of a hand with a bet, and the ends behind its two actions, at place at; the place behind them.
 fn last_action(

@@ -8,8 +8,8 @@ use kuhn_arena_words::highest;
 use kuhn_arena_words::unit;
 ghost use Prim.Native.Nat.{_-_};
 ghost use Rattle.game_tree.specs.Sets.{size};
-ghost use Rattle.arena.specs.Built.{Built, Room};
-ghost use Rattle.kuhn_arena_layout.specs.Layout.{codeOf, historyAt, cardsIn, beforeAt, Passing};
+ghost use Rattle.arena.specs.internal.Built.{Built, Room};
+ghost use Rattle.kuhn_arena_layout.specs.internal.Layout.{codeOf, historyAt, cardsIn, beforeAt, Passing};
 
 // The word of an end at which each of six seats has lost its ante.
 const ANTES: u64 = 0xFCFCFCFCFCFC;

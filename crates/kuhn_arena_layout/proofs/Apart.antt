@@ -11,15 +11,16 @@ use lib.ListN.{length, getD, length-append}
 use borrow.Author.Tests.{leb-true, ltb-true, ltb-false}
 use Rattle.prelude.specs.Finite.{has}
 use Rattle.prelude.proofs.Tests.{Tested, holds, fails, tested, and-left}
-use Rattle.game_tree.specs.Tree.{Key, Tree, Every, EveryAll}
+use Rattle.game_tree.specs.Tree.{Key, Tree}
+use Rattle.game_tree.specs.Conditions.{Every, EveryAll}
 use Rattle.game_tree.proofs.Counting.{In}
 use Rattle.game_tree.proofs.Sets.{every→each, each→every, each-map}
-use Rattle.arena.specs.Index.{Codes}
+use Rattle.arena.specs.internal.Index.{Codes}
 use Rattle.kuhn_rules.specs.Rules.{PASS, BET, ended, turn, left, remaining}
 use Rattle.kuhn_tree.specs.Tree.{each, m, kuhnTree}
 use Rattle.kuhn_tree.proofs.Cards.{left-of-in}
 use Rattle.kuhn_tree.proofs.Shape.{hand, deals, kuhn-deals}
-use Rattle.kuhn_arena_layout.specs.Layout.{numberFrom, codeOf, codeCount}
+use Rattle.kuhn_arena_layout.specs.internal.Layout.{numberFrom, codeOf, codeCount}
 
 -- ---- histories of passes and bets, by number
 -- every action is a pass or a bet

@@ -13,19 +13,20 @@ use Rattle.prelude.proofs.Lists.{those-kept, those-passed}
 use Rattle.prelude.proofs.Tests.{Tested, holds, fails, tested, both}
 use Rattle.game_tree.specs.Tree.{Tree, chance, Trees, nil, cons}
 use Rattle.game_tree.specs.Sets.{size, sizes}
-use Rattle.arena.specs.Words.{chanceWord}
-use Rattle.arena.specs.Held.{Says}
-use Rattle.arena.specs.Built.{Built, Row, Room}
+use Rattle.arena.specs.internal.Words.{chanceWord}
+use Rattle.arena.specs.internal.Held.{Says}
+use Rattle.arena.specs.internal.Built.{Built, Row, Room}
 use Rattle.arena.proofs.Packing.{chance-kind, chance-next}
 use Rattle.arena.proofs.Building.{size-some, row-none, row-join, join, join-nil, sizes-join, built-chance}
 use Rattle.kuhn_rules.specs.Rules.{bet-made, left, remaining}
-use Rattle.kuhn_rules.specs.Reached.{deal, fair}
+use Rattle.kuhn_rules.specs.Moves.{deal}
+use Rattle.kuhn_rules.specs.Reached.{fair}
 use Rattle.kuhn_rules.specs.Stakes.{ante, stake}
 use Rattle.kuhn_rules.proofs.Moves.{reached-possible}
 use Rattle.kuhn_rules.proofs.Facts.{possible-fair}
 use Rattle.kuhn_tree.specs.Tree.{each}
 use Rattle.kuhn_tree.proofs.Shape.{deals}
-use Rattle.kuhn_arena_layout.specs.Layout.{codeOf, lastActions, historyAt, cardsIn, beforeAt, dealAt, childrenTo, childAt, Passing, Dealing}
+use Rattle.kuhn_arena_layout.specs.internal.Layout.{codeOf, lastActions, historyAt, cardsIn, beforeAt, dealAt, childrenTo, childAt, Passing, Dealing}
 use Rattle.kuhn_arena_layout.proofs.Numbers.{cards-long, cards-more, cards-small}
 use Rattle.kuhn_arena_layout.proofs.Hands.{whole-hand}
 

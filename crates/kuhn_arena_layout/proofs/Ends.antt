@@ -11,13 +11,13 @@ use lib.IntN.{pos, negℤ, _+ℤ_, _-ℤ_, +ℤ-negℤ-cancel, pos-+ℤ-pos}
 use borrow.Author.Tests.{eqb-true}
 use Rattle.prelude.specs.Finite.{sum}
 use Rattle.prelude.proofs.Tests.{Tested, holds, fails, tested}
-use Rattle.arena.specs.Words.{END, kindOf, byteOf, payoffOf}
+use Rattle.arena.specs.internal.Words.{END, kindOf, byteOf, payoffOf}
 use Rattle.arena.proofs.Bytes.{byte0, byte1, byte2, byte3, byte4, byte5}
 use Rattle.kuhn_rules.specs.Rules.{BET, PASS, turn, bet-made, bets, wins, contribution, payoff}
 use Rattle.kuhn_rules.specs.Stakes.{ante, stake}
 use Rattle.kuhn_rules.proofs.Winner.{payoff-share, contribution-in}
 use Rattle.kuhn_rules.proofs.Balance.{sole-winner}
-use Rattle.kuhn_arena_layout.specs.Layout.{unitOf, packed, losses, Dealt}
+use Rattle.kuhn_arena_layout.specs.internal.Layout.{unitOf, packed, losses, Dealt}
 use Rattle.kuhn_arena_layout.proofs.Bets.{contribution-pass, contribution-bet, paid, paid-few, paid-ante, sum-most}
 
 -- the six seats, one by one

@@ -12,19 +12,18 @@ use Rattle.prelude.specs.Finite.{sum}
 use Rattle.prelude.proofs.Tests.{Tested, holds, fails, tested, neither}
 use Rattle.game_tree.specs.Tree.{Tree, end, decide, Trees, nil, cons, fan}
 use Rattle.game_tree.specs.Sets.{size}
-use Rattle.arena.specs.Words.{decisionWord}
-use Rattle.arena.specs.Held.{Says}
-use Rattle.arena.specs.Index.{unlinked}
-use Rattle.arena.specs.Built.{Built, Row, Room}
+use Rattle.arena.specs.internal.Words.{decisionWord}
+use Rattle.arena.specs.internal.Held.{Says}
+use Rattle.arena.specs.internal.Index.{unlinked}
+use Rattle.arena.specs.internal.Built.{Built, Row, Room}
 use Rattle.arena.proofs.Packing.{kind-of, actor-of, actions-of, set-of, next-of, later-of}
 use Rattle.arena.proofs.Building.{size-some, built-end, built-decide, row-none, row-more, snoc}
 use Rattle.kuhn_rules.specs.Rules.{PASS, BET, turn, bet-made, after-bet, ended, bets, key, contribution, wins, payoff}
 use Rattle.kuhn_rules.specs.Stakes.{ante, stake}
 use Rattle.kuhn_tree.proofs.Shape.{hand}
-use Rattle.kuhn_arena_layout.specs.Layout.{codeOf, historyAt, cardAt, cardsIn, afterBet, beforeBet, afterAt, beforeAt, unitOf, losses, Dealt, Betting, Passing, Top}
+use Rattle.kuhn_arena_layout.specs.internal.Layout.{codeOf, historyAt, cardAt, cardsIn, afterBet, beforeBet, afterAt, beforeAt, unitOf, losses, Dealt, Betting, Passing, Top}
 use Rattle.kuhn_arena_layout.proofs.Numbers.{history-pass, history-bet, number-of, card-of, set-sum}
-use Rattle.kuhn_arena_layout.proofs.Bets.{longer, after-bet-more, after-bet-first, no-bets, bets-pass, bets-bet, contribution-pass, contribution-bet, paid-ante}
-use Rattle.kuhn_arena_layout.proofs.Bets.{sum-one-more, sum-ones, wins-quiet, opened-more, opened-bet, quiet-pass, wins-first, wins-pass, wins-bet}
+use Rattle.kuhn_arena_layout.proofs.Bets.{longer, after-bet-more, after-bet-first, no-bets, bets-pass, bets-bet, contribution-pass, contribution-bet, paid-ante, sum-one-more, sum-ones, wins-quiet, opened-more, opened-bet, quiet-pass, wins-first, wins-pass, wins-bet}
 use Rattle.kuhn_arena_layout.proofs.Ends.{losses-few, pot-few, losses-pass, losses-bet, losses-quiet, end-kind, end-pays}
 
 -- ---- turns

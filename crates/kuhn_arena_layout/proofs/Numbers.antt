@@ -13,7 +13,7 @@ use borrow.Author.Tests.{ltb-true, ltb-false}
 use Rattle.prelude.specs.Finite.{places, has, some}
 use Rattle.prelude.proofs.Tests.{Tested, holds, fails, tested, below-cases, some-same}
 use Rattle.prelude.proofs.Lists.{length-places, getD-places, places-same, has-take}
-use Rattle.kuhn_arena_layout.specs.Layout.{numberFrom, lastActions, historyAt, cardAt, cardsIn, Top}
+use Rattle.kuhn_arena_layout.specs.internal.Layout.{numberFrom, lastActions, historyAt, cardAt, cardsIn, Top}
 
 -- ---- histories
 number-after : (c : ℕ) (h : List ℕ) (a : ℕ) → numberFrom c (h ++ (a ∷ [])) ≡ 2 * numberFrom c h + a + 1

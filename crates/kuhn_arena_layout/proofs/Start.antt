@@ -7,14 +7,14 @@ use native.Mathlib.Omega.{arith}
 use lib.ListN.{length}
 use Rattle.prelude.specs.Finite.{places}
 use Rattle.game_tree.specs.Sets.{size}
-use Rattle.arena.specs.Built.{Built, Room}
-use Rattle.kuhn_rules.specs.Reached.{start}
+use Rattle.arena.specs.internal.Built.{Built, Room}
+use Rattle.kuhn_rules.specs.Moves.{start}
 use Rattle.kuhn_rules.specs.Stakes.{ante, stake}
 use Rattle.kuhn_tree.specs.Tree.{kuhnTree}
 use Rattle.kuhn_tree.specs.Counts.{dealNodes, kuhnNodes}
 use Rattle.kuhn_tree.proofs.Shape.{kuhn-deals}
 use Rattle.kuhn_tree.proofs.Facts.{counted}
-use Rattle.kuhn_arena_layout.specs.Layout.{codeOf, cardsIn, dealAt, Dealing}
+use Rattle.kuhn_arena_layout.specs.internal.Layout.{codeOf, cardsIn, dealAt, Dealing}
 
 -- the five numbers of seats, one by one
 pub by-seats : (P : ℕ → Type 0) → P 2 → P 3 → P 4 → P 5 → P 6 → (n : ℕ) → 2 ≤ n → n ≤ 6 → P n

@@ -1,2 +1,2 @@
--- Kuhn's tree in work memory. No public call cites these definitions.
-pub mod Layout
+-- Kuhn's tree in work memory.
+pub mod internal

@@ -4,8 +4,8 @@ ghost use mathlib.Core.Path.{_≡_};
 ghost use mathlib.Core.Bool.{cond};
 ghost use Prim.Native.Nat.{_+_, _*_, _%_, _<_, _≤_};
 ghost use lib.Dec.{ltb};
-ghost use Rattle.arena.specs.Words.{decisionWord};
-ghost use Rattle.kuhn_arena_layout.specs.Layout.{cardAt, unitOf, Top};
+ghost use Rattle.arena.specs.internal.Words.{decisionWord};
+ghost use Rattle.kuhn_arena_layout.specs.internal.Layout.{cardAt, unitOf, Top};
 
 // The card of a seat, of cards in four bits each.
 pub fn card_of(cards: u64, seat: usize) -> usize

@@ -7,11 +7,12 @@ use Rattle.game_tree.specs.Sets.{preorder, decisions, isOf, met, firsts, sets, 
 use Rattle.kuhn_rules.specs.Rules.{bet-made, after-bet, ended, left, remaining, legal}
 use Rattle.kuhn_rules.specs.Stakes.{ante, stake}
 use Rattle.kuhn_tree.specs.Tree.{next, each, below, kuhnTree}
-use Rattle.kuhn_tree.specs.Follows.{dealt, acted, positions, positionOf}
+use Rattle.kuhn_tree.specs.Positions.{dealt, acted, positions, positionOf}
 use Rattle.listing_records.specs.Listing.{padded, bytesOf, flat, listing}
 use Rattle.listing_records.proofs.Bytes.{length-listing}
-use Rattle.kuhn_listing.specs.Listing.{cardsOf, tree, kuhnListing}
-use Rattle.kuhn_listing.specs.Facts.{Walked, Keys-fit, Long, Two-seats}
+use Rattle.kuhn_listing.specs.Listing.{cardsOf}
+use Rattle.kuhn_listing.specs.Facts.{tree, kuhnListing, Keys-fit, Long, Two-seats}
+use Rattle.kuhn_listing.specs.internal.Facts.{Walked}
 use Rattle.kuhn_listing.proofs.Fit.{keys-short}
 use Rattle.kuhn_listing.proofs.Walk as Walk
 

@@ -5,7 +5,8 @@ use mathlib.Core.List.{List, [], _∷_, _++_}
 use Prim.Native.Nat.{ℕ, zero, suc, _+_, _*_, _≤_}
 use native.Mathlib.Omega.{arith}
 use lib.ListN.{length, length-append}
-use Rattle.game_tree.specs.Tree.{Key, Tree, Every, EveryAll}
+use Rattle.game_tree.specs.Tree.{Key, Tree}
+use Rattle.game_tree.specs.Conditions.{Every, EveryAll}
 use Rattle.kuhn_rules.specs.Rules.{PASS, BET, ended, remaining}
 use Rattle.kuhn_tree.specs.Tree.{each, m, kuhnTree}
 use Rattle.kuhn_tree.proofs.Shape.{hand, deals, kuhn-deals}

@@ -16,10 +16,10 @@ use Rattle.kuhn_rules.specs.Rules.{PASS, BET, ended, turn, left, remaining}
 use Rattle.kuhn_tree.specs.Tree.{m}
 use Rattle.kuhn_tree.specs.Order.{turns, histories, decisionAt, first}
 use Rattle.listing_records.specs.Listing.{padded, bytesOf}
-use Rattle.listing_records.specs.Written.{joined, Wrote}
+use Rattle.listing_records.specs.internal.Written.{joined, Wrote}
 use Rattle.listing_records.proofs.Bytes.{joined-last, one-more, zeros, drop-zeros, padded-short, length-bytes, wrote-as, wrote-nothing, wrote-append}
-use Rattle.kuhn_listing.specs.Listing.{kuhnListing}
-use Rattle.kuhn_listing.specs.Walk.{recordAt, recordsOf, handRecords, dealRecords, nextDeals, InDeck}
+use Rattle.kuhn_listing.specs.Facts.{kuhnListing}
+use Rattle.kuhn_listing.specs.internal.Walk.{recordAt, recordsOf, handRecords, dealRecords, nextDeals, InDeck}
 use Rattle.kuhn_listing.proofs.Walk.{walked}
 
 -- ---- a key in its bytes

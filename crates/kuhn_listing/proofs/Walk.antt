@@ -18,7 +18,7 @@ use Rattle.game_tree.proofs.Walk.{passed}
 use Rattle.game_tree.proofs.Counting.{In, Once}
 use Rattle.kuhn_rules.specs.Rules.{PASS, BET, ended, turn, key, left, remaining}
 use Rattle.kuhn_tree.specs.Tree.{each, m}
-use Rattle.kuhn_tree.specs.Follows.{Position, dealt, acted, positions, positionsAll}
+use Rattle.kuhn_tree.specs.Positions.{Position, dealt, acted, positions, positionsAll}
 use Rattle.kuhn_tree.specs.Order.{turns, histories, decisionAt, lowest, first}
 use Rattle.kuhn_tree.proofs.Cards.{in-of-left, remaining-less, remaining-all}
 use Rattle.kuhn_tree.proofs.Growth.{legal-acts}
@@ -26,11 +26,12 @@ use Rattle.kuhn_tree.proofs.Shape.{hand, deals, kuhn-deals}
 use Rattle.kuhn_tree.proofs.Sets.{turns-once}
 use Rattle.kuhn_tree.proofs.Order.{other-history, Meets, under, meets-more}
 use Rattle.listing_records.specs.Listing.{listing, bytesOf}
-use Rattle.listing_records.specs.Written.{joined}
+use Rattle.listing_records.specs.internal.Written.{joined}
 use Rattle.listing_records.proofs.Bytes.{joined-last}
 use Rattle.listing_records.proofs.Walk.{Marked, none, over, deal, act, marked-append, marked-decisions, Tells, tells-append, kept, kept-append, listed-by-walk}
-use Rattle.kuhn_listing.specs.Listing.{cardsOf, tree, kuhnListing}
-use Rattle.kuhn_listing.specs.Walk.{recordsOf, dealRecords}
+use Rattle.kuhn_listing.specs.Listing.{cardsOf}
+use Rattle.kuhn_listing.specs.Facts.{tree, kuhnListing}
+use Rattle.kuhn_listing.specs.internal.Walk.{recordsOf, dealRecords}
 
 abbrev Mark : Type 0
 Mark = Decision × Position

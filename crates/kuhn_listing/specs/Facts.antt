@@ -1,16 +1,24 @@
 -- What holds of Kuhn's listing, proved in proofs/Facts.antt.
 use mathlib.Core.Path.{_≡_}
-use mathlib.Core.List.{[], _∷_}
+use mathlib.Core.List.{[], _∷_, List}
 use Prim.Native.Nat.{ℕ, _*_, _≤_}
 use lib.ListN.{length}
-use Rattle.game_tree.specs.Tree.{Every}
+use Rattle.game_tree.specs.Conditions.{Every}
+use Rattle.game_tree.specs.Tree.{Tree}
 use Rattle.game_tree.specs.Sets.{setCount}
-use Rattle.kuhn_listing.specs.Listing.{tree, kuhnListing}
-use Rattle.kuhn_listing.specs.Walk.{dealRecords}
+use Rattle.kuhn_listing.specs.Listing.{cardsOf}
+use Rattle.kuhn_rules.specs.Stakes.{ante, stake}
+use Rattle.kuhn_tree.specs.Tree.{kuhnTree}
+use Rattle.kuhn_tree.specs.Positions.{positionOf}
+use Rattle.listing_records.specs.Listing.{listing}
 
--- the walk by the rule on the cards writes the listing
-abbrev pub Walked : Type 0
-Walked = (n : ℕ) → 1 ≤ n → kuhnListing n ≡ dealRecords n n []
+-- Kuhn's tree at today's stakes
+abbrev pub tree : ℕ → Tree
+tree n = kuhnTree ante stake n
+
+unfoldable pub kuhnListing : ℕ → List ℕ
+unfolding listing
+kuhnListing n = listing (tree n) (λ a. cardsOf (positionOf (tree n) n a))
 
 -- no key has more than 2n numbers: with up to 6 seats each is whole in its 13 bytes, and so are the cards in their 6
 abbrev pub Keys-fit : Type 0

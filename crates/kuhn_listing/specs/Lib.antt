@@ -1,4 +1,4 @@
 -- The listing of Kuhn's sets (document 01, "The tree and its sets").
 pub mod Listing
-pub mod Walk
 pub mod Facts
+pub mod internal

@@ -14,9 +14,9 @@ ghost use lib.Seq.{sets};
 ghost use Rattle.prelude.specs.Finite.{and, or, some, has};
 ghost use Rattle.kuhn_tree.specs.Order.{histories, lowestBut, first};
 ghost use Rattle.listing_records.specs.Listing.{padded};
-ghost use Rattle.listing_records.specs.Written.{Wrote};
-ghost use Rattle.kuhn_listing.specs.Listing.{kuhnListing};
-ghost use Rattle.kuhn_listing.specs.Walk.{recordsOf, handRecords, nextDeals, InDeck};
+ghost use Rattle.listing_records.specs.internal.Written.{Wrote};
+ghost use Rattle.kuhn_listing.specs.Facts.{kuhnListing};
+ghost use Rattle.kuhn_listing.specs.internal.Walk.{recordsOf, handRecords, nextDeals, InDeck};
 
 // The legal count of every set.
 const LEGAL: u8 = 2;

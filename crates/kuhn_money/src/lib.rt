@@ -11,7 +11,7 @@ ghost use lib.ListN.{length, getD, take};
 ghost use Rattle.prelude.specs.Finite.{sum};
 ghost use Rattle.kuhn_rules.specs.Rules.{bet-made, stands, contribution, wins};
 ghost use Rattle.kuhn_rules.specs.Stakes.{ante, stake, payoffs-of};
-ghost use Rattle.kuhn_rules.specs.Highest.{Highest};
+ghost use Rattle.kuhn_rules.specs.internal.Highest.{Highest};
 
 // The stakes.
 pub const ANTE: u64 = 1;

@@ -17,7 +17,7 @@ use Rattle.prelude.proofs.Tests.{Tested, holds, fails, tested, true≢false, bo
 use Rattle.prelude.proofs.Lists.{has-take}
 use Rattle.kuhn_rules.specs.Rules.{PASS, BET, bet-made, bets, stands, wins, contribution, paid-by-others, payoff}
 use Rattle.kuhn_rules.specs.Reached.{strange, twice, fair}
-use Rattle.kuhn_rules.specs.Highest.{Highest}
+use Rattle.kuhn_rules.specs.internal.Highest.{Highest}
 use Rattle.kuhn_rules.proofs.Winner.{highest-none, highest-more, wins-highest}
 
 -- ---- sums

@@ -11,7 +11,8 @@ use lib.Seq.{take-append-seam, take-all, take-suc, take-length, length-take-le, 
 use Rattle.prelude.specs.Finite.{and, or, some, has}
 use Rattle.prelude.proofs.Tests.{both, neither, and-left, and-right, or-left, or-right, or-cases, none-at}
 use Rattle.kuhn_rules.specs.Rules.{BET, due, left, live, ended, overrun}
-use Rattle.kuhn_rules.specs.Reached.{Reached, start, deal, act, strange, twice, unknown, fair, played, possible}
+use Rattle.kuhn_rules.specs.Moves.{Reached, start, deal, act}
+use Rattle.kuhn_rules.specs.Reached.{strange, twice, unknown, fair, played, possible}
 use Rattle.kuhn_rules.proofs.Deals.{strange-take, twice-take}
 use Rattle.kuhn_rules.proofs.Histories.{unknown-take, overrun-take}
 

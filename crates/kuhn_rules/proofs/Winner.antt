@@ -14,7 +14,7 @@ use Rattle.prelude.specs.Finite.{and, or, every, sum, places}
 use Rattle.prelude.proofs.Tests.{Tested, holds, fails, tested, true≢false, iff, both, and-right, and-left-fails, or-left, or-right, or-cases, below-cases, all, every-at}
 use Rattle.prelude.proofs.Lists.{sum-without, filled-none, filled-more}
 use Rattle.kuhn_rules.specs.Rules.{stands, wins, contribution, paid-by-others, payoff}
-use Rattle.kuhn_rules.specs.Highest.{Highest}
+use Rattle.kuhn_rules.specs.internal.Highest.{Highest}
 use Rattle.kuhn_rules.specs.Stakes.{ante, stake, payoffs-of}
 
 module _ (n : ℕ) (h cards : List ℕ) where

@@ -8,7 +8,8 @@ use lib.IntN.{pos}
 use lib.ListN.{length, getD, take}
 use Rattle.prelude.specs.Finite.{and, sumℤ, has}
 use Rattle.kuhn_rules.specs.Rules.{BET, turn, live, over, left, remaining, legal, key, wins, payoff}
-use Rattle.kuhn_rules.specs.Reached.{Reached, possible}
+use Rattle.kuhn_rules.specs.Moves.{Reached}
+use Rattle.kuhn_rules.specs.Reached.{possible}
 
 -- the test of a position holds of the reachable ones and of no other
 pub record Decides-reached : Type 0 where

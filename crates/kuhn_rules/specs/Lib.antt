@@ -4,4 +4,5 @@ pub mod Rules
 pub mod Reached
 pub mod Stakes
 pub mod Facts
-pub mod Highest
+pub mod Moves
+pub mod internal

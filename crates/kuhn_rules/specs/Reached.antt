@@ -1,18 +1,12 @@
--- The positions that can be reached from the start by legal moves (document 01, number 19), by moves and as a test that can be computed.
-use mathlib.Core.Path.{_≡_}
-use mathlib.Core.Bool.{Bool, true, false, not}
-use mathlib.Core.List.{List, [], _∷_, _++_}
+-- The positions that can be reached from the start by legal moves (document 01, number 19), as a test that can be computed; Moves has them
+-- by moves.
+use mathlib.Core.Bool.{Bool, not}
+use mathlib.Core.List.{List}
 use Prim.Native.Nat.{ℕ}
 use lib.Dec.{eqb, leb, ltb}
 use lib.ListN.{length, getD, take}
 use Rattle.prelude.specs.Finite.{and, or, some, has}
-use Rattle.kuhn_rules.specs.Rules.{BET, due, left, live, overrun}
-
--- the start; a deal of a card that is left, while one is due; an action, while a seat acts
-pub data Reached (n : ℕ) : List ℕ → List ℕ → Type 0 where
-  start : Reached n [] []
-  deal : {cs h : List ℕ} (c : ℕ) → Reached n cs h → due n cs ≡ true → left n cs c ≡ true → Reached n (cs ++ (c ∷ [])) h
-  act : {cs h : List ℕ} (a : ℕ) → Reached n cs h → live n cs h ≡ true → leb a BET ≡ true → Reached n cs (h ++ (a ∷ []))
+use Rattle.kuhn_rules.specs.Rules.{BET, overrun}
 
 -- some card is not in the deck
 unfoldable pub strange : ℕ → List ℕ → Bool

@@ -16,10 +16,11 @@ use Rattle.prelude.proofs.Tests.{Tested, holds, fails, tested, both, and-left, 
 use Rattle.game_tree.proofs.Counting.{In}
 use Rattle.game_tree.specs.Tree.{Tree, chance, decide, cons}
 use Rattle.kuhn_rules.specs.Rules.{PASS, BET, ended, overrun, turn, due, live, over, remaining, legal, key}
-use Rattle.kuhn_rules.specs.Reached.{Reached, start, deal, act}
+use Rattle.kuhn_rules.specs.Moves.{Reached, start, deal, act}
 use Rattle.kuhn_rules.proofs.Histories.{hand-lasts}
 use Rattle.kuhn_tree.specs.Tree.{Next, card, action, nothing, next, each, below, m, fuel, kuhnTree}
-use Rattle.kuhn_tree.specs.Follows.{Position, dealt, acted, Follows, FollowsAll}
+use Rattle.kuhn_tree.specs.Positions.{Position, dealt, acted}
+use Rattle.kuhn_tree.specs.Follows.{Follows, FollowsAll}
 use Rattle.kuhn_tree.proofs.Cards.{left-of-in}
 
 -- ---- what is known of a reachable position

@@ -9,13 +9,16 @@ use lib.Dec.{eqb}
 use lib.IntN.{pos, negℤ, natAbs}
 use Rattle.prelude.specs.Finite.{sum, sumℤ}
 use Rattle.prelude.proofs.Lists.{sum-without}
-use Rattle.game_tree.specs.Tree.{Tree, end, chance, decide, Trees, nil, cons, Pays, PaysAll}
-use Rattle.game_tree.specs.Sets.{EveryEnd, EveryEndAll}
+use Rattle.game_tree.specs.Tree.{Tree, end, chance, decide, Trees, nil, cons}
+use Rattle.game_tree.specs.Conditions.{Pays, PaysAll}
+use Rattle.game_tree.specs.Shape.{EveryEnd, EveryEndAll}
 use Rattle.game_tree.proofs.Integers.{size-of-loss}
 use Rattle.kuhn_rules.specs.Rules.{PASS, BET, ended, bets, remaining, contribution, wins, paid-by-others, payoff}
 use Rattle.kuhn_rules.proofs.Facts.{zero-sum}
-use Rattle.kuhn_tree.specs.Follows.{Position, dealt, acted, Follows, FollowsAll}
-use Rattle.kuhn_tree.specs.Tree.{each, m, kuhnTree, largestPayoff}
+use Rattle.kuhn_tree.specs.Positions.{Position, dealt, acted}
+use Rattle.kuhn_tree.specs.Follows.{Follows, FollowsAll}
+use Rattle.kuhn_tree.specs.Tree.{each, m, kuhnTree}
+use Rattle.kuhn_tree.specs.Facts.{largestPayoff}
 use Rattle.kuhn_tree.proofs.Growth.{kuhn-follows}
 use Rattle.kuhn_tree.proofs.Shape.{hand, deals, kuhn-deals}
 

@@ -16,9 +16,10 @@ use Rattle.game_tree.specs.Nodes.{nodes, nodesAll, nodeOf}
 use Rattle.game_tree.proofs.Counting.{In, in-left, in-right, in-append}
 use Rattle.game_tree.proofs.Nodes.{place-of, in-map, Along, along-append, along-length, along-at, length-nodes}
 use Rattle.kuhn_rules.specs.Rules.{PASS, BET, ended, turn, due, live, over, remaining, legal}
-use Rattle.kuhn_rules.specs.Reached.{Reached, start, deal, act}
+use Rattle.kuhn_rules.specs.Moves.{Reached, start, deal, act}
 use Rattle.kuhn_tree.specs.Tree.{kuhnTree}
-use Rattle.kuhn_tree.specs.Follows.{Position, dealt, acted, positions, positionsAll, positionOf, Follows, FollowsAll}
+use Rattle.kuhn_tree.specs.Positions.{Position, dealt, acted, positions, positionsAll, positionOf}
+use Rattle.kuhn_tree.specs.Follows.{Follows, FollowsAll}
 use Rattle.kuhn_tree.specs.Facts.{NodesReached}
 use Rattle.kuhn_tree.proofs.Cards.{in-of-left}
 use Rattle.kuhn_tree.proofs.Growth.{legal-acts, kuhn-follows}

@@ -2,8 +2,8 @@
 use Prim.Native.Nat.{ℕ, zero, suc, _*_, _≤_}
 use native.Mathlib.Nat as NatL
 use native.Mathlib.Omega.{arith}
-use Rattle.kuhn_tree.specs.Tree.{m, C, largestParts, largestPayoff}
-use Rattle.kuhn_tree.specs.Facts.{rootUnits, UnitsFit}
+use Rattle.kuhn_tree.specs.Tree.{m, C, largestParts}
+use Rattle.kuhn_tree.specs.Facts.{largestPayoff, rootUnits, UnitsFit}
 
 -- the most that a worth can be, at the most parts
 most : (n D : ℕ) → D ≤ largestParts n → rootUnits n D * largestPayoff 1 1 n ≤ rootUnits n (largestParts n) * largestPayoff 1 1 n

@@ -13,7 +13,8 @@ use borrow.Author.Tests.{eqb-true, eqb-false, le-leb}
 use Rattle.prelude.specs.Finite.{and, has}
 use Rattle.prelude.proofs.Tests.{Tested, holds, fails, tested, true≢false, both, and-left}
 use Rattle.game_tree.specs.Tree.{Tree, fan}
-use Rattle.game_tree.specs.Sets.{Decision, decisions, decisionsAll, sets, setCount, entries, entriesOf, SameActions}
+use Rattle.game_tree.specs.Sets.{Decision, decisions, decisionsAll, sets, setCount, entries, entriesOf}
+use Rattle.game_tree.specs.Shape.{SameActions}
 use Rattle.game_tree.proofs.Sets.{Each, every→sets}
 use Rattle.game_tree.proofs.Counting.{In, in-left, in-right, in-append, Once, once-append, once-length, sets-once, sets-in, in-sets}
 use Rattle.game_tree.proofs.Numbers.{those-once}

@@ -9,8 +9,10 @@ use native.Mathlib.Numerals.{add-one}
 use native.Mathlib.Omega.{arith}
 use lib.ListN.{length, drop, length-append}
 use Rattle.game_tree.proofs.Counting.{In}
-use Rattle.game_tree.specs.Tree.{Key, Tree, fan, Splits, SplitsAll, Every, EveryAll}
-use Rattle.game_tree.specs.Sets.{height, Heights, HeightsAll, Levels, LevelsAll}
+use Rattle.game_tree.specs.Tree.{Key, Tree, fan}
+use Rattle.game_tree.specs.Conditions.{Splits, SplitsAll, Every, EveryAll}
+use Rattle.game_tree.specs.Sets.{height}
+use Rattle.game_tree.specs.Shape.{Heights, HeightsAll, Levels, LevelsAll}
 use Rattle.kuhn_rules.specs.Rules.{PASS, BET, ended, remaining}
 use Rattle.kuhn_tree.specs.Tree.{each, m, kuhnTree, factorial, C}
 use Rattle.kuhn_tree.proofs.Cards.{remaining-less, remaining-all}

@@ -3,20 +3,27 @@
 -- Throughout: n seats, any ante and bet; table a table with D parts in each set, i a seat, z a rival table.
 use mathlib.Core.Path.{_≡_}
 use mathlib.Core.List.{List, [], _∷_, map}
-use Prim.Native.Nat.{ℕ, _+_, _*_, _^_, _≤_, _<_}
+use Prim.Native.Nat.{ℕ, _+_, _*_, _^_, _≤_, _<_, _-_}
 use lib.IntN.{ℤ, pos, negℤ}
 use lib.ListN.{length}
 use lib.Signed.{_≤ℤ_}
 use Rattle.prelude.specs.Finite.{sumℤ}
-use Rattle.game_tree.specs.Tree.{Key, Tree, U, Splits, Pays, Every}
+use Rattle.game_tree.specs.Tree.{Key, Tree, U}
+use Rattle.game_tree.specs.Conditions.{Splits, Pays, Every}
 use Rattle.game_tree.specs.Recall.{PerfectRecall}
-use Rattle.game_tree.specs.Sets.{size, sets, Sized, SameActions, SameHeights, Levels, EveryEnd}
+use Rattle.game_tree.specs.Sets.{size, sets}
+use Rattle.game_tree.specs.Shape.{Sized, SameActions, SameHeights, Levels, EveryEnd}
 use Rattle.game_tree.specs.Table.{Table, ValidTable, RivalTable, tableWorth, tableBest, replyTable, nashConv, BestReply}
-use Rattle.kuhn_rules.specs.Reached.{Reached}
-use Rattle.kuhn_tree.specs.Tree.{next, below, m, fuel, kuhnTree, C, largestParts, largestPayoff}
-use Rattle.kuhn_tree.specs.Follows.{Follows, positions, positionOf}
+use Rattle.kuhn_rules.specs.Moves.{Reached}
+use Rattle.kuhn_tree.specs.Tree.{next, below, m, fuel, kuhnTree, C, largestParts}
+use Rattle.kuhn_tree.specs.Follows.{Follows}
+use Rattle.kuhn_tree.specs.Positions.{positions, positionOf}
 use Rattle.kuhn_tree.specs.Order.{inOrder}
 use Rattle.kuhn_tree.specs.Counts.{kuhnNodes, kuhnSets, kuhnEntries}
+
+-- no seat gains or loses more: what the n - 1 others can have paid
+abbrev pub largestPayoff : (ante bet n : ℕ) → ℕ
+largestPayoff ante bet n = (n - 1) * (ante + bet)
 
 -- 1. The tree follows the rules from the start: every node stands for a reachable position, ends just where the hand is over.
 abbrev pub FollowsRules : Type 0

@@ -4,3 +4,4 @@ pub mod Follows
 pub mod Counts
 pub mod Order
 pub mod Facts
+pub mod Positions

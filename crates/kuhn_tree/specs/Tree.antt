@@ -56,7 +56,3 @@ C n = factorial (n + 1)
 -- the most parts that a set may have, with up to 6 seats (document 01, number 6)
 abbrev pub largestParts : ℕ → ℕ
 largestParts n = cond (leb n 4) 64 16
-
--- no seat gains or loses more: what the n - 1 others can have paid
-abbrev pub largestPayoff : (ante bet n : ℕ) → ℕ
-largestPayoff ante bet n = (n - 1) * (ante + bet)

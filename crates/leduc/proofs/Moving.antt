@@ -20,7 +20,7 @@ use Rattle.leduc_betting.specs.declared.Public.the-variants.{Card}
 use Rattle.leduc_betting.proofs.Histories.{may-call}
 use Rattle.leduc_betting.proofs.Rounds.{open-short}
 use Rattle.leduc_rules.specs.Rules.{public-due, due, live}
-use Rattle.leduc_rules.specs.Reached.{Reached, deal, reveal, act₁, act₂}
+use Rattle.leduc_rules.specs.Moves.{Reached, deal, reveal, act₁, act₂}
 use Rattle.leduc_rules.proofs.Reaching.{still-open}
 use Rattle.leduc_rules.proofs.Moves.{reached-parts, acting}
 use Rattle.leduc_positions.specs.Positions.{cardsOf, seenOf, roundOne, roundTwo, in-playOf, with-private, with-public, with-card, with-first, with-second, with-action, reachable}

@@ -11,10 +11,10 @@ use Rattle.leduc_betting.specs.Betting.{closes, counted, ended}
 use Rattle.leduc_betting.specs.Cards.{remaining}
 use Rattle.leduc_betting.specs.declared.Public.the-variants.{Card}
 use Rattle.leduc_rules.specs.Rules.{public-due, due}
-use Rattle.leduc_rules.specs.Reached.{Reached}
+use Rattle.leduc_rules.specs.Moves.{Reached}
 use Rattle.leduc_positions.specs.Positions.{cardsOf, seenOf, roundOne, roundTwo, in-playOf, reachable, position-checks, saved-checks, mark}
-use Rattle.leduc.specs.Calls.{dealt, stepped, listed, keyed, paid, saved-refusal, checked}
-use Rattle.leduc.specs.Calls.{deal-checks, step-checks, legal-checks, key-checks, payoff-checks, mark-checks}
+use Rattle.leduc.specs.Calls.{dealt, stepped, listed, keyed, paid, saved-refusal, checked, deal-checks, step-checks, legal-checks}
+use Rattle.leduc.specs.Calls.{key-checks, payoff-checks, mark-checks}
 use Rattle.leduc_positions.specs.declared.LeducState.{LeducState}
 
 -- a position of two cards and eight actions

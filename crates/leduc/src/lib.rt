@@ -13,7 +13,7 @@ use leduc_positions::state::is_reachable;
 use leduc_positions::state::legal_list;
 use leduc_positions::state::next_card;
 use leduc_positions::state::seat_acts;
-use leduc_positions::state::state_gains;
+use leduc_positions::state::state_payoffs;
 use leduc_positions::state::step_action;
 use leduc_positions::state::with_action;
 use leduc_positions::state::with_card;
@@ -205,12 +205,12 @@ impl LeducPoker {
         if !hand_over(state) {
             return no_payoffs(state, refusals::UNFIT);
         }
-        let gains = state_gains(state);
+        let payoffs = state_payoffs(state);
         Payoffs {
             refusal: refusals::ACCEPTED,
             state,
             count: LeducPoker::SEATS,
-            payoffs: [gains.zero, gains.one, 0, 0, 0, 0, 0, 0, 0, 0],
+            payoffs: [payoffs.zero, payoffs.one, 0, 0, 0, 0, 0, 0, 0, 0],
         }
     }
 

@@ -2,30 +2,30 @@
 use arena::words::chance;
 use leduc_arena_round2::showdown;
 use leduc_arena_round2::words::RERAISES;
-use leduc_arena_round2::words::choose;
 use leduc_arena_round2::words::end;
 use leduc_arena_round2::words::write;
+use leduc_arena_round2::words::write_decision;
 ghost use Prim.Native.Nat.{_+_, _*_, _<_, _≤_};
 ghost use Rattle.game_tree.specs.Sets.{size, sizes};
-ghost use Rattle.arena.specs.Built.{Built, Row, Room};
-ghost use Rattle.leduc_arena_layout.specs.Layout.{plain, only, other, raisedTree, calledTree, secondTree, publicTree, firstTree};
+ghost use Rattle.arena.specs.internal.Built.{Built, Row, Room};
+ghost use Rattle.leduc_arena_layout.specs.internal.Layout.{plain, only, other, raisedTree, calledTree, secondTree, publicTree, firstTree};
 
 // What a seat has paid at the start, and what a raise adds.
 const ANTE: usize = 1;
 
-const BET: usize = 2;
+const RAISE_ADDS: usize = 2;
 
 // A code without a public card has this beside the card and the number of the history.
 const HIDDEN: usize = 36;
 
 // The numbers of histories: twice that of the actions before, and 462 for CALL and 924 for RAISE.
-const CALL: usize = 462;
+const CALL_STEP: usize = 462;
 
-const RAISE: usize = 924;
+const RAISE_STEP: usize = 924;
 
-const CALL_CALL: usize = 1386;
+const AFTER_CALL_CALL: usize = 1386;
 
-const CALL_RAISE: usize = 1848;
+const AFTER_CALL_RAISE: usize = 1848;
 
 // Lays out the second round with public card p, if that is neither c nor d; n is the number of the first round's history.
 fn shown(w: &mut [u64], at: usize, c: usize, d: usize, n: usize, paid: usize, p: usize) -> usize
@@ -75,15 +75,15 @@ fn raised(
     requires { ⌜ Room at (now w) (size (raisedTree c d 36 462 2 (publicTree c d) left seat n paid)) ⌝ }
     ensures { λ r. ⌜ Built 2 plain at (now (w .entry)) (now (w .exit)) (raisedTree c d 36 462 2 (publicTree c d) left seat n paid) r ⌝ }
 {
-    let more = paid + BET;
+    let more = paid + RAISE_ADDS;
     let call = end(w, at + 1, 2 * seat, paid);
-    let raise = public(w, call, c, d, 2 * n + CALL, more);
+    let raise = public(w, call, c, d, 2 * n + CALL_STEP, more);
     if left == 0 {
-        choose(w, at, seat, 2, c, d, n + HIDDEN, raise);
+        write_decision(w, at, seat, 2, c, d, n + HIDDEN, raise);
         return raise;
     }
-    let next = raised(w, raise, c, d, 1 - seat, 2 * n + RAISE, more, left - 1);
-    choose(w, at, seat, 3, c, d, n + HIDDEN, next);
+    let next = raised(w, raise, c, d, 1 - seat, 2 * n + RAISE_STEP, more, left - 1);
+    write_decision(w, at, seat, 3, c, d, n + HIDDEN, next);
     next
 }
 
@@ -93,9 +93,9 @@ fn called(w: &mut [u64], at: usize, c: usize, d: usize) -> usize
     requires { ⌜ Room at (now w) (size (calledTree c d 36 462 2 (publicTree c d) 1)) ⌝ }
     ensures { λ r. ⌜ Built 2 plain at (now (w .entry)) (now (w .exit)) (calledTree c d 36 462 2 (publicTree c d) 1) r ⌝ }
 {
-    let raise = public(w, at + 1, c, d, CALL_CALL, ANTE);
-    let next = raised(w, raise, c, d, 0, CALL_RAISE, ANTE, RERAISES);
-    choose(w, at, 1, 2, c, d, CALL + HIDDEN, next);
+    let raise = public(w, at + 1, c, d, AFTER_CALL_CALL, ANTE);
+    let next = raised(w, raise, c, d, 0, AFTER_CALL_RAISE, ANTE, RERAISES);
+    write_decision(w, at, 1, 2, c, d, CALL_STEP + HIDDEN, next);
     next
 }
 
@@ -106,7 +106,7 @@ pub fn round(w: &mut [u64], at: usize, c: usize, d: usize) -> usize
     ensures { λ r. ⌜ Built 2 plain at (now (w .entry)) (now (w .exit)) (firstTree c d) r ⌝ }
 {
     let raise = called(w, at + 1, c, d);
-    let next = raised(w, raise, c, d, 1, RAISE, ANTE, RERAISES);
-    choose(w, at, 0, 2, c, d, HIDDEN, next);
+    let next = raised(w, raise, c, d, 1, RAISE_STEP, ANTE, RERAISES);
+    write_decision(w, at, 0, 2, c, d, HIDDEN, next);
     next
 }

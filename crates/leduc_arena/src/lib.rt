@@ -8,11 +8,11 @@ ghost use Prim.Native.Nat.{suc, _+_, _<_, _≤_};
 ghost use lib.Dec.{eqb};
 ghost use lib.ListN.{length};
 ghost use Rattle.game_tree.specs.Sets.{size, sizes};
-ghost use Rattle.arena.specs.Built.{Built, Row, Room};
+ghost use Rattle.arena.specs.internal.Built.{Built, Row, Room};
 ghost use Rattle.leduc_rules.specs.Stakes.{ante, raise₁, raise₂};
 ghost use Rattle.leduc_tree.specs.Tree.{leducTree};
-ghost use Rattle.leduc_arena_layout.specs.Codes.{codeOf};
-ghost use Rattle.leduc_arena_layout.specs.Layout.{plain, only, dealTree};
+ghost use Rattle.leduc_arena_layout.specs.internal.Codes.{codeOf};
+ghost use Rattle.leduc_arena_layout.specs.internal.Layout.{plain, only, dealTree};
 
 const DECK: usize = 6;
 

@@ -10,12 +10,13 @@ use lib.ListN.{length, getD}
 use borrow.Author.Tests.{eqb-true}
 use Rattle.prelude.specs.Finite.{and, or, some, those, has}
 use Rattle.prelude.proofs.Tests.{true≢false, and-left, and-right}
-use Rattle.game_tree.specs.Tree.{Key, Tree, end, chance, decide, Trees, nil, cons, fan, Every, EveryAll}
+use Rattle.game_tree.specs.Tree.{Key, Tree, end, chance, decide, Trees, nil, cons, fan}
+use Rattle.game_tree.specs.Conditions.{Every, EveryAll}
 use Rattle.game_tree.specs.Reply.{same}
 use Rattle.game_tree.specs.Sets.{size, sizes}
-use Rattle.arena.specs.Held.{Says, Held, HeldAll}
-use Rattle.arena.specs.Index.{unlinked}
-use Rattle.arena.specs.Built.{Built, Room}
+use Rattle.arena.specs.internal.Held.{Says, Held, HeldAll}
+use Rattle.arena.specs.internal.Index.{unlinked}
+use Rattle.arena.specs.internal.Built.{Built, Room}
 use Rattle.arena.proofs.Building.{join}
 use Rattle.leduc_betting.specs.Betting.{ends-with, folded, closes, behind, raises, may, options, in-play, turn, ended}
 use Rattle.leduc_betting.specs.Cards.{left, remaining}
@@ -23,8 +24,8 @@ use Rattle.leduc_rules.specs.Rules.{public-due, due, key, after-action, put-in,
 use Rattle.leduc_rules.specs.Stakes.{ante, raise₁, raise₂}
 use Rattle.leduc_tree.specs.Tree.{next, each, below, leducTree}
 use Rattle.leduc_tree_facts.proofs.Facts.{counts}
-use Rattle.leduc_arena_layout.specs.Codes.{numberFrom, codeFrom, codeOf, codes}
-use Rattle.leduc_arena_layout.specs.Layout.{plain, byteFor, endTree, raisedTree, calledTree, roundTree, only, rowTo, showdownFor, secondTree, publicTree, firstTree, dealTree, dealsTree}
+use Rattle.leduc_arena_layout.specs.internal.Codes.{numberFrom, codeFrom, codeOf, codes}
+use Rattle.leduc_arena_layout.specs.internal.Layout.{plain, byteFor, endTree, raisedTree, calledTree, roundTree, only, rowTo, showdownFor, secondTree, publicTree, firstTree, dealTree, dealsTree}
 
 -- ---- two payoffs are the same
 unfoldable equal : ℤ → ℤ → Bool

@@ -12,12 +12,12 @@ use mir.Syntax.{w64}
 use mir.Val.{Fits}
 use Rattle.game_tree.specs.Tree.{Key, Tree, chance, decide, Trees, nil, cons, fan}
 use Rattle.game_tree.specs.Sets.{size, sizes}
-use Rattle.arena.specs.Words.{byteOf, chanceWord, decisionWord}
-use Rattle.arena.specs.Held.{Says}
-use Rattle.arena.specs.Built.{Built, Row, Room}
+use Rattle.arena.specs.internal.Words.{byteOf, chanceWord, decisionWord}
+use Rattle.arena.specs.internal.Held.{Says}
+use Rattle.arena.specs.internal.Built.{Built, Row, Room}
 use Rattle.arena.proofs.Packing.{kind-of, actor-of, actions-of, set-of, next-of, later-of, chance-kind, chance-next}
 use Rattle.arena.proofs.Building.{sizes-join, snoc, row-none, row-one, row-more, row-join, built-chance, built-decide, built-end}
-use Rattle.leduc_arena_layout.specs.Layout.{plain, byteFor, endTree, raisedTree, only, rowTo, firstTree, dealTree, Chosen}
+use Rattle.leduc_arena_layout.specs.internal.Layout.{plain, byteFor, endTree, raisedTree, only, rowTo, firstTree, dealTree, Chosen}
 
 -- ---- an end
 pub lays-end : (at e x a b : ℕ) (w v : List ℕ) → Room at w 1 → a ≡ byteFor e x → a < 128 → b ≡ byteFor (2 - e) x → b < 128 → v ≡ set w at (4 * a + 1024 * b) → Built 2 plain at w v (endTree e x) (at + 1)

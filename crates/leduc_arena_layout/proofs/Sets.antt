@@ -4,13 +4,14 @@ use Prim.Native.Nat.{ℕ}
 use lib.ListN.{getD}
 use borrow.Author.Tests.{eqb-true, ltb-true}
 use Rattle.prelude.proofs.Tests.{and-left, and-right}
-use Rattle.game_tree.specs.Tree.{Key, Every}
+use Rattle.game_tree.specs.Tree.{Key}
+use Rattle.game_tree.specs.Conditions.{Every}
 use Rattle.game_tree.proofs.Tests.{T-of, same→eq}
 use Rattle.game_tree.proofs.Against.{every-both}
-use Rattle.arena.specs.Index.{Codes}
+use Rattle.arena.specs.internal.Index.{Codes}
 use Rattle.leduc_rules.specs.Stakes.{ante, raise₁, raise₂}
 use Rattle.leduc_tree.specs.Tree.{leducTree}
-use Rattle.leduc_arena_layout.specs.Codes.{codeOf, codes}
+use Rattle.leduc_arena_layout.specs.internal.Codes.{codeOf, codes}
 use Rattle.leduc_arena_layout.proofs.Agreeing.{keyOf, told, Told, leduc-told}
 
 -- two decisions with one code are of one set

@@ -5,23 +5,23 @@ use words::LOSS;
 use words::RERAISES;
 use words::TIE;
 use words::WIN;
-use words::choose;
 use words::end;
+use words::write_decision;
 ghost use mathlib.Core.Path.{_≡_};
 ghost use Prim.Native.Nat.{_+_, _*_, _<_, _≤_};
 ghost use Rattle.game_tree.specs.Sets.{size};
-ghost use Rattle.arena.specs.Built.{Built, Room};
-ghost use Rattle.leduc_arena_layout.specs.Layout.{plain, endTree, raisedTree, calledTree, roundTree, showdownFor};
+ghost use Rattle.arena.specs.internal.Built.{Built, Room};
+ghost use Rattle.leduc_arena_layout.specs.internal.Layout.{plain, endTree, raisedTree, calledTree, roundTree, showdownFor};
 
 // What a raise adds.
-const BET: usize = 4;
+const RAISE_ADDS: usize = 4;
 
 // The numbers of histories: twice that of the actions before, and 42 for CALL and 84 for RAISE.
-const CALL: usize = 42;
+const CALL_STEP: usize = 42;
 
-const RAISE: usize = 84;
+const RAISE_STEP: usize = 84;
 
-const CALL_RAISE: usize = 168;
+const AFTER_CALL_RAISE: usize = 168;
 
 // How the showdown goes for seat 0: a pair with the public card wins, else the higher rank.
 pub fn showdown(c: usize, d: usize, p: usize) -> usize
@@ -59,11 +59,11 @@ fn raised(
     requires { ⌜ Room at (now w) (size (raisedTree zero one 0 42 4 (λ m y. endTree outcome y) left seat n paid)) ⌝ }
     ensures { λ r. ⌜ Built 2 plain at (now (w .entry)) (now (w .exit)) (raisedTree zero one 0 42 4 (λ m y. endTree outcome y) left seat n paid) r ⌝ }
 {
-    let more = paid + BET;
+    let more = paid + RAISE_ADDS;
     let call = end(w, at + 1, 2 * seat, paid);
     let raise = end(w, call, outcome, more);
     if left == 0 {
-        choose(w, at, seat, 2, zero, one, n, raise);
+        write_decision(w, at, seat, 2, zero, one, n, raise);
         return raise;
     }
     let next = raised(
@@ -73,11 +73,11 @@ fn raised(
         one,
         outcome,
         1 - seat,
-        2 * n + RAISE,
+        2 * n + RAISE_STEP,
         more,
         left - 1,
     );
-    choose(w, at, seat, 3, zero, one, n, next);
+    write_decision(w, at, seat, 3, zero, one, n, next);
     next
 }
 
@@ -88,8 +88,18 @@ fn called(w: &mut [u64], at: usize, zero: usize, one: usize, outcome: usize, pai
     ensures { λ r. ⌜ Built 2 plain at (now (w .entry)) (now (w .exit)) (calledTree zero one 0 42 4 (λ m y. endTree outcome y) paid) r ⌝ }
 {
     let raise = end(w, at + 1, outcome, paid);
-    let next = raised(w, raise, zero, one, outcome, 0, CALL_RAISE, paid, RERAISES);
-    choose(w, at, 1, 2, zero, one, CALL, next);
+    let next = raised(
+        w,
+        raise,
+        zero,
+        one,
+        outcome,
+        0,
+        AFTER_CALL_RAISE,
+        paid,
+        RERAISES,
+    );
+    write_decision(w, at, 1, 2, zero, one, CALL_STEP, next);
     next
 }
 
@@ -107,7 +117,7 @@ pub fn round(
     ensures { λ r. ⌜ Built 2 plain at (now (w .entry)) (now (w .exit)) (roundTree zero one 0 42 4 (λ m y. endTree outcome y) paid) r ⌝ }
 {
     let raise = called(w, at + 1, zero, one, outcome, paid);
-    let next = raised(w, raise, zero, one, outcome, 1, RAISE, paid, RERAISES);
-    choose(w, at, 0, 2, zero, one, 0, next);
+    let next = raised(w, raise, zero, one, outcome, 1, RAISE_STEP, paid, RERAISES);
+    write_decision(w, at, 0, 2, zero, one, 0, next);
     next
 }

@@ -6,8 +6,8 @@ ghost use Prim.Native.Nat.{_+_, _<_, _≤_};
 ghost use lib.Dec.{eqb};
 ghost use lib.ListN.{length, set};
 ghost use Rattle.game_tree.specs.Sets.{size};
-ghost use Rattle.arena.specs.Built.{Built, Room};
-ghost use Rattle.leduc_arena_layout.specs.Layout.{plain, byteFor, endTree, Chosen};
+ghost use Rattle.arena.specs.internal.Built.{Built, Room};
+ghost use Rattle.leduc_arena_layout.specs.internal.Layout.{plain, byteFor, endTree, Chosen};
 
 // How an end goes for a seat.
 pub const LOSS: usize = 0;
@@ -66,7 +66,7 @@ pub fn end(w: &mut [u64], at: usize, outcome: usize, paid: usize) -> usize
 }
 
 // Writes the decision of a seat after a history with the given number, where the trees of its actions end at next.
-pub fn choose(
+pub fn write_decision(
     w: &mut [u64],
     at: usize,
     seat: usize,

@@ -11,9 +11,10 @@ use Rattle.leduc_betting.specs.Cards.{left, remaining}
 use Rattle.leduc_rules.specs.Rules.{public-due, due, key}
 use Rattle.leduc_tree.specs.Tree.{next, each, below, leducTree}
 use Rattle.listing_records.proofs.Bytes.{length-listing}
-use Rattle.leduc_tree.specs.Follows.{positionOf}
-use Rattle.leduc_listing.specs.Listing.{cardsOf, tree, leducListing}
-use Rattle.leduc_listing.specs.Facts.{Walked, Keys-fit, Long}
+use Rattle.leduc_tree.specs.Positions.{positionOf}
+use Rattle.leduc_listing.specs.Listing.{cardsOf}
+use Rattle.leduc_listing.specs.Facts.{tree, leducListing, Keys-fit, Long}
+use Rattle.leduc_listing.specs.internal.Facts.{Walked}
 use Rattle.leduc_listing.proofs.Walk as Walk
 
 pub walked : Walked

@@ -12,14 +12,16 @@ use Rattle.prelude.proofs.Lists.{those-kept, those-passed}
 use Rattle.leduc_betting.specs.Cards.{seen, left, remaining}
 use Rattle.leduc_betting.specs.Betting.{may, options, in-play}
 use Rattle.leduc_rules.specs.Rules.{live, shown-public}
-use Rattle.leduc_tree.specs.Tree.{Position, dealt, acted, due, acts, ended, actor, key, choices, next, card, action, nothing, start}
+use Rattle.leduc_tree.specs.Tree.{Position, dealt, acted, due, ended, actor, key, choices, next, card, action, nothing, start}
+use Rattle.leduc_tree.specs.internal.Tree.{acts}
 use Rattle.leduc_tree.specs.Turns as Turns
 use Rattle.leduc_tree.specs.Turns.{turns, isFirst, decisionAt}
 use Rattle.listing_records.specs.Listing.{padded, bytesOf}
-use Rattle.listing_records.specs.Written.{joined, Wrote}
+use Rattle.listing_records.specs.internal.Written.{joined, Wrote}
 use Rattle.listing_records.proofs.Bytes.{joined-last, length-bytes, wrote-as, wrote-append}
-use Rattle.leduc_listing.specs.Listing.{cardsOf, leducListing}
-use Rattle.leduc_listing.specs.Walk.{recordAt, recordsOf, nodeRecords, isMove, moveBound, moved, nextRecords}
+use Rattle.leduc_listing.specs.Listing.{cardsOf}
+use Rattle.leduc_listing.specs.Facts.{leducListing}
+use Rattle.leduc_listing.specs.internal.Walk.{recordAt, recordsOf, nodeRecords, isMove, moveBound, moved, nextRecords}
 use Rattle.leduc_listing.proofs.Walk.{walked}
 
 -- ---- a node

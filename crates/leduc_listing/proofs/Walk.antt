@@ -10,9 +10,10 @@ use Rattle.game_tree.specs.Tree.{Tree}
 use Rattle.game_tree.specs.Sets.{Decision, preorder, preorderAll}
 use Rattle.leduc_rules.specs.Rules.{legal}
 use Rattle.leduc_rules.specs.Stakes.{ante, raise₁, raise₂}
-use Rattle.leduc_tree.specs.Tree.{Position, start, acts, actor, choices, payoff, afterDeal, afterAction, Next, card, action, nothing, next, each, below, fuel, leducTree}
+use Rattle.leduc_tree.specs.Tree.{Position, start, actor, choices, payoff, afterDeal, afterAction, Next, card, action, nothing, next, each, below, fuel, leducTree}
+use Rattle.leduc_tree.specs.internal.Tree.{acts}
 use Rattle.leduc_tree.specs.Tree as Tree
-use Rattle.leduc_tree.specs.Follows.{dealt, acted, positions, positionsAll}
+use Rattle.leduc_tree.specs.Positions.{dealt, acted, positions, positionsAll}
 use Rattle.leduc_tree.specs.Turns.{joined, turns, isFirst, decisionAt}
 use Rattle.leduc_tree.proofs.Growth.{Case, is-action, case}
 use Rattle.leduc_tree.proofs.Firsts.{fan-each}
@@ -20,8 +21,9 @@ use Rattle.leduc_tree.proofs.Firsts as Firsts
 use Rattle.leduc_tree.proofs.Computed.{turns-told}
 use Rattle.listing_records.specs.Listing.{listing, bytesOf}
 use Rattle.listing_records.proofs.Walk.{Marked, none, over, deal, act, marked-append, Tells, kept, listed-by-walk}
-use Rattle.leduc_listing.specs.Listing.{cardsOf, tree, leducListing}
-use Rattle.leduc_listing.specs.Walk.{recordsOf}
+use Rattle.leduc_listing.specs.Listing.{cardsOf}
+use Rattle.leduc_listing.specs.Facts.{tree, leducListing}
+use Rattle.leduc_listing.specs.internal.Walk.{recordsOf}
 
 abbrev Mark : Type 0
 Mark = Decision × Position

@@ -18,10 +18,10 @@ ghost use mathlib.Core.Path.{_≡_};
 ghost use Prim.Native.Nat.{_+_, _≤_, _<_};
 ghost use lib.ListN.{length};
 ghost use lib.Seq.{sets};
-ghost use Rattle.listing_records.specs.Written.{Wrote};
-ghost use Rattle.leduc_listing_positions.specs.Spots.{placed, made, Room};
-ghost use Rattle.leduc_listing.specs.Listing.{leducListing};
-ghost use Rattle.leduc_listing.specs.Walk.{nodeRecords, isMove, moveBound, moved, nextRecords};
+ghost use Rattle.listing_records.specs.internal.Written.{Wrote};
+ghost use Rattle.leduc_listing_positions.specs.internal.Spots.{placed, made, Room};
+ghost use Rattle.leduc_listing.specs.Facts.{leducListing};
+ghost use Rattle.leduc_listing.specs.internal.Walk.{nodeRecords, isMove, moveBound, moved, nextRecords};
 
 // The moves of a hand after its first card: a card, the public card, and 8 actions.
 const LATER_MOVES: usize = 10;

@@ -19,9 +19,10 @@ use Rattle.leduc_betting.specs.Betting.{closes, in-play, options, turn}
 use Rattle.leduc_betting.specs.Cards.{seen, left, remaining}
 use Rattle.leduc_rules.specs.Rules.{live, shown-public}
 use Rattle.leduc_rules.specs.Rules as Rules
-use Rattle.leduc_tree.specs.Tree.{Position, dealt, acted, acts, actor, key}
+use Rattle.leduc_tree.specs.Tree.{Position, dealt, acted, actor, key}
+use Rattle.leduc_tree.specs.internal.Tree.{acts}
 use Rattle.leduc_listing_positions.specs.declared.Spot.{Spot}
-use Rattle.leduc_listing_positions.specs.Spots.{placed}
+use Rattle.leduc_listing_positions.specs.internal.Spots.{placed}
 use Rattle.listing_records.specs.Listing.{padded}
 use Rattle.listing_records.proofs.Bytes.{one-more, zeros, padded-set, padded-run}
 

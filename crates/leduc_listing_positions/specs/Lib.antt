@@ -1,2 +1,2 @@
 -- The spots of Leduc's walk.
-pub mod Spots
+pub mod internal

@@ -15,10 +15,11 @@ ghost use lib.ListN.{length};
 ghost use Rattle.leduc_betting.specs.Cards.{left, seen};
 ghost use Rattle.leduc_betting.specs.Betting.{may, in-play};
 ghost use Rattle.leduc_rules.specs.Rules.{shown-public};
-ghost use Rattle.leduc_tree.specs.Tree.{due, acts, ended, actor, choices, key, dealt, acted};
+ghost use Rattle.leduc_tree.specs.Tree.{due, ended, actor, choices, key, dealt, acted};
+ghost use Rattle.leduc_tree.specs.internal.Tree.{acts};
 ghost use Rattle.leduc_tree.specs.Turns.{isFirst};
 ghost use Rattle.listing_records.specs.Listing.{padded};
-ghost use Rattle.leduc_listing_positions.specs.Spots.{placed, made, Room};
+ghost use Rattle.leduc_listing_positions.specs.internal.Spots.{placed, made, Room};
 
 // A position of the walk: the seats' cards, the public card, and the actions of each round, with places for as many as a hand has moves.
 pub struct Spot {

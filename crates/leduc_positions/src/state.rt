@@ -198,7 +198,7 @@ pub fn end_mark(state: LeducState) -> u64
 }
 
 // What each seat gains.
-pub fn state_gains(state: LeducState) -> Gains
+pub fn state_payoffs(state: LeducState) -> Gains
     requires { ⌜ (state .dealt ≡ 2) × (state .acted1 ≤ 4) × (state .acted2 ≤ 4) × Begins-level (roundOne state) (roundTwo state) ⌝ }
     ensures { λ r. ⌜ (r .zero ≡ payoff-of state 0) × (r .one ≡ payoff-of state 1) ⌝ }
 {

@@ -14,7 +14,7 @@ use Rattle.leduc_betting.specs.Betting.{CALL, RAISE, ends-with, folded, closes,
 use Rattle.leduc_betting.specs.declared.Public.{Public}
 use Rattle.leduc_betting.proofs.Rounds.{all-of, rounds, round-rule}
 use Rattle.leduc_rules.specs.Rules.{live, put-in, added, contribution}
-use Rattle.leduc_rules.specs.Reached.{Reached}
+use Rattle.leduc_rules.specs.Moves.{Reached}
 use Rattle.leduc_rules.specs.Facts.{Behind-pays-less, Never-ahead}
 use Rattle.leduc_rules.proofs.Money.{acting, other, called, raised, closed-level}
 use Rattle.leduc_rules.proofs.Moves.{reached-parts, still-hidden, hidden-none, goes-on}

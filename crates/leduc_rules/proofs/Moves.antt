@@ -14,7 +14,8 @@ use Rattle.prelude.proofs.Tests.{some-same, both, and-left, and-right, and-left
 use Rattle.leduc_betting.specs.Betting.{folded, closes, open-round, may, ended, played}
 use Rattle.leduc_betting.specs.Cards.{hidden, seen, left, strange, twice}
 use Rattle.leduc_rules.specs.Rules.{public-due, due, live}
-use Rattle.leduc_rules.specs.Reached.{Reached, start, deal, reveal, act₁, act₂, possible, Decides-reached}
+use Rattle.leduc_rules.specs.Moves.{Reached, start, deal, reveal, act₁, act₂, Decides-reached}
+use Rattle.leduc_rules.specs.Reached.{possible}
 use Rattle.leduc_betting.specs.declared.Public.{Public}
 use Rattle.leduc_betting.specs.declared.Public.the-variants.{Hidden, Card}
 use Rattle.leduc_betting.proofs.Rounds.{closed-unfolded}

@@ -12,7 +12,7 @@ use Rattle.prelude.specs.Finite.{has}
 use Rattle.leduc_betting.specs.Betting.{closes, behind, may, in-play, turn, ended}
 use Rattle.leduc_betting.specs.Cards.{hidden, left, remaining}
 use Rattle.leduc_rules.specs.Rules.{due, live, legal, shown-public, key, added, contribution, payoff}
-use Rattle.leduc_rules.specs.Reached.{Reached}
+use Rattle.leduc_rules.specs.Moves.{Reached}
 use Rattle.leduc_betting.specs.Checks.{action-checks, barred-by}
 use Rattle.leduc_betting.specs.declared.Public.{Public}
 use Rattle.leduc_betting.specs.declared.Public.the-variants.{Hidden}

@@ -4,3 +4,4 @@ pub mod Rules
 pub mod Stakes
 pub mod Reached
 pub mod Facts
+pub mod Moves

@@ -19,11 +19,11 @@ use Rattle.leduc_betting.specs.Cards.{seen, left, remaining}
 use Rattle.leduc_rules.specs.Rules.{public-due, live, legal}
 use Rattle.leduc_betting.specs.Betting as Betting
 use Rattle.leduc_rules.specs.Rules as Rules
-use Rattle.leduc_rules.specs.Reached as Reached
-use Rattle.leduc_tree.specs.Tree.{Position, start, dealt, acted, due, acts, ended, actor, choices, key, payoff, afterDeal, afterAction, Next, card, action, nothing}
-use Rattle.leduc_tree.specs.Tree.{next, each, below, fuel, leducTree}
+use Rattle.leduc_rules.specs.Moves as Reached
+use Rattle.leduc_tree.specs.Tree.{Position, start, dealt, acted, due, ended, actor, choices, key, payoff, afterDeal, afterAction, Next, card, action, nothing, next, each, below, fuel, leducTree}
+use Rattle.leduc_tree.specs.internal.Tree.{acts}
 use Rattle.leduc_tree.specs.Follows.{Follows, FollowsAll}
-use Rattle.leduc_tree.specs.Follows as Rule
+use Rattle.leduc_tree.specs.Positions as Rule
 use Rattle.leduc_tree.specs.Facts.{Reachable}
 
 -- ---- what comes next

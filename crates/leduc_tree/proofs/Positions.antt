@@ -12,7 +12,8 @@ use borrow.Author.Tests.{eq-eqb, ltb-true, not-true}
 use Rattle.prelude.specs.Finite.{and, or, sumℤ}
 use Rattle.prelude.proofs.Tests.{Tested, holds, fails, tested, true≢false, both, and-left, and-right, or-left, or-right, or-cases, or-false-left}
 use Rattle.game_tree.specs.Tree.{Tree, end, chance, decide, Trees, nil, cons}
-use Rattle.game_tree.specs.Sets.{size, EveryEnd, EveryEndAll}
+use Rattle.game_tree.specs.Sets.{size}
+use Rattle.game_tree.specs.Shape.{EveryEnd, EveryEndAll}
 use Rattle.game_tree.specs.Nodes.{nodes, nodesAll, nodeOf}
 use Rattle.game_tree.proofs.Counting.{In, in-left, in-right, in-append}
 use Rattle.game_tree.proofs.Nodes.{place-of, in-map, Along, along-append, along-length, along-at, length-nodes}
@@ -23,12 +24,13 @@ use Rattle.leduc_betting.specs.Betting.{closes, may, options, in-play, turn, en
 use Rattle.leduc_betting.specs.Cards.{hidden, seen, left, remaining}
 use Rattle.leduc_betting.proofs.Histories.{may-small}
 use Rattle.leduc_rules.specs.Rules.{public-due, due, live, legal, payoff}
-use Rattle.leduc_rules.specs.Reached.{Reached, start, deal, reveal, act₁, act₂}
+use Rattle.leduc_rules.specs.Moves.{Reached, start, deal, reveal, act₁, act₂}
 use Rattle.leduc_rules.proofs.Reaching.{nothing-closed, ended-dealt}
 use Rattle.leduc_rules.proofs.Moves.{none-acted, reached-parts, acting}
 use Rattle.leduc_rules.proofs.Facts.{zero-sum}
 use Rattle.leduc_tree.specs.Tree.{Position, leducTree}
-use Rattle.leduc_tree.specs.Follows.{position, dealt, acted, positions, positionsAll, positionOf, Follows, FollowsAll}
+use Rattle.leduc_tree.specs.Positions.{position, dealt, acted, positions, positionsAll, positionOf}
+use Rattle.leduc_tree.specs.Follows.{Follows, FollowsAll}
 use Rattle.leduc_tree.specs.Facts.{NodesReached, PayoffsBalance}
 use Rattle.leduc_tree.proofs.Growth.{Stands, leduc-follows}
 

@@ -2,16 +2,18 @@
 -- assumes nothing. Throughout: any ante and raises. The counts, and what the reply theorem asks of the tree, stand in leduc_tree_facts.
 use mathlib.Core.Path.{_≡_}
 use mathlib.Core.List.{List, [], map}
-use Prim.Native.Nat.{ℕ, _+_, _<_}
+use Prim.Native.Nat.{ℕ, _+_, _<_, _*_}
 use lib.IntN.{pos}
 use lib.ListN.{length}
 use Rattle.prelude.specs.Finite.{sumℤ}
-use Rattle.game_tree.specs.Sets.{size, sets, setActions, EveryEnd}
+use Rattle.game_tree.specs.Sets.{size, sets, setActions}
+use Rattle.game_tree.specs.Shape.{EveryEnd}
 use Rattle.leduc_betting.specs.declared.Public.{Public}
 use Rattle.leduc_betting.specs.declared.Public.the-variants.{Hidden}
-use Rattle.leduc_rules.specs.Reached.{Reached}
+use Rattle.leduc_rules.specs.Moves.{Reached}
 use Rattle.leduc_tree.specs.Tree.{Position, start, payoff, next, below, fuel, leducTree}
-use Rattle.leduc_tree.specs.Follows.{position, positions, positionOf, Follows}
+use Rattle.leduc_tree.specs.Positions.{position, positions, positionOf}
+use Rattle.leduc_tree.specs.Follows.{Follows}
 use Rattle.leduc_tree.specs.Turns.{firstTurns, decisionAt, actionsInOrder}
 
 -- 1. The tree follows the rules from the start: every node stands for a reachable position, ends just where the hand has ended.
@@ -45,3 +47,7 @@ FirstOfSet = (ante raise₁ raise₂ : ℕ) → sets (leducTree ante raise₁ ra
 -- The actions of each set, in set order, as a list that can be computed.
 abbrev pub ActionsInOrder : Type 0
 ActionsInOrder = (ante raise₁ raise₂ : ℕ) → setActions (leducTree ante raise₁ raise₂) ≡ actionsInOrder
+
+-- no seat gains or loses more: the ante and both raises of each round
+abbrev pub largestPayoff : (ante raise₁ raise₂ : ℕ) → ℕ
+largestPayoff ante raise₁ raise₂ = ante + 2 * raise₁ + 2 * raise₂

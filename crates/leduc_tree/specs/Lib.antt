@@ -3,3 +3,5 @@ pub mod Tree
 pub mod Follows
 pub mod Turns
 pub mod Facts
+pub mod Positions
+pub mod internal

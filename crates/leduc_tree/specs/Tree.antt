@@ -2,7 +2,7 @@
 -- (document 01, "The tree and its sets"). Definitions only; nothing is assumed.
 use mathlib.Core.Bool.{Bool, cond}
 use mathlib.Core.List.{List, [], _∷_, _++_, map}
-use Prim.Native.Nat.{ℕ, zero, suc, _+_, _*_}
+use Prim.Native.Nat.{ℕ, zero, suc, _+_}
 use lib.Dec.{ltb}
 use lib.IntN.{ℤ}
 use lib.ListN.{length}
@@ -40,9 +40,6 @@ acted q a = cond (closes (q .first))
 -- the rules, of a position: a card is due; a seat acts; the hand has ended; whose turn it is; what that seat may do; its key; the payoffs
 abbrev pub due : Position → Bool
 due q = Rules.due (q .cards) (q .public) (q .first) (q .second)
-
-abbrev pub acts : Position → Bool
-acts q = Rules.live (q .cards) (q .public) (q .first) (q .second)
 
 abbrev pub ended : Position → Bool
 ended q = Betting.ended (q .first) (q .second)
@@ -105,7 +102,3 @@ leducTree ante raise₁ raise₂ = below (payoff ante raise₁ raise₂) fuel (n
 -- the fans of the deal, multiplied: 6, 5 and 4 (document 01: C is 120)
 abbrev pub C : ℕ
 C = 120
-
--- no seat gains or loses more: the ante and both raises of each round
-abbrev pub largestPayoff : (ante raise₁ raise₂ : ℕ) → ℕ
-largestPayoff ante raise₁ raise₂ = ante + 2 * raise₁ + 2 * raise₂

@@ -8,9 +8,11 @@ use lib.ListN.{getD}
 use borrow.Author.Tests.{eqb-true, leb-true}
 use Rattle.prelude.specs.Finite.{and, or, some, those, has}
 use Rattle.prelude.proofs.Tests.{and-left, and-right}
-use Rattle.game_tree.specs.Tree.{Key, Tree, Splits, Every}
+use Rattle.game_tree.specs.Tree.{Key, Tree}
+use Rattle.game_tree.specs.Conditions.{Splits, Every}
 use Rattle.game_tree.specs.Recall.{Recall}
-use Rattle.game_tree.specs.Sets.{size, Heights, Levels}
+use Rattle.game_tree.specs.Sets.{size}
+use Rattle.game_tree.specs.Shape.{Heights, Levels}
 use Rattle.game_tree.proofs.Checked.{splits, splits-sound, every, every-sound, heights, heights-sound, levels, levels-sound, recall, recall-sound}
 use Rattle.leduc_betting.specs.Betting.{ends-with, folded, closes, behind, raises, may, options, in-play, turn, ended}
 use Rattle.leduc_betting.specs.Cards.{left, remaining}

@@ -11,7 +11,8 @@ use lib.ListN.{length}
 use borrow.Author.Tests.{ne-eqb, leb-true}
 use Rattle.prelude.specs.Finite.{and}
 use Rattle.prelude.proofs.Tests.{and-left, and-right}
-use Rattle.game_tree.specs.Tree.{Tree, end, chance, decide, Trees, nil, cons, Pays, PaysAll}
+use Rattle.game_tree.specs.Tree.{Tree, end, chance, decide, Trees, nil, cons}
+use Rattle.game_tree.specs.Conditions.{Pays, PaysAll}
 use Rattle.game_tree.proofs.Integers.{size-of-loss}
 use Rattle.leduc_betting.specs.Betting.{played}
 use Rattle.leduc_betting.proofs.Rounds.{all-of, rounds, round-rule}
@@ -20,9 +21,9 @@ use Rattle.leduc_rules.specs.Rules as Rules
 use Rattle.leduc_rules.specs.Facts.{raises-paid}
 use Rattle.leduc_rules.proofs.Money.{linear-in-stakes}
 use Rattle.leduc_rules.proofs.Moves.{reached-parts}
-use Rattle.leduc_tree.specs.Tree.{Position, start, payoff, leducTree, largestPayoff}
+use Rattle.leduc_tree.specs.Tree.{Position, start, payoff, leducTree}
+use Rattle.leduc_tree.specs.Facts.{largestPayoff, Reachable}
 use Rattle.leduc_tree.specs.Follows.{Follows, FollowsAll}
-use Rattle.leduc_tree.specs.Facts.{Reachable}
 use Rattle.leduc_tree.proofs.Growth.{Stands, leduc-follows}
 
 -- ---- a seat pays at most two raises of a round

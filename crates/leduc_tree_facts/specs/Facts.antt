@@ -6,12 +6,15 @@ use mathlib.Core.Path.{_≡_}
 use mathlib.Core.Bool.{true}
 use mathlib.Core.List.{[], _∷_}
 use Prim.Native.Nat.{ℕ, _≤_, _<_}
-use Rattle.game_tree.specs.Tree.{Key, Tree, U, chance, Splits, Pays, Every}
+use Rattle.game_tree.specs.Tree.{Key, Tree, U, chance}
+use Rattle.game_tree.specs.Conditions.{Splits, Pays, Every}
 use Rattle.game_tree.specs.Recall.{PerfectRecall}
-use Rattle.game_tree.specs.Sets.{size, Sized, SameActions, SameHeights, Levels}
+use Rattle.game_tree.specs.Sets.{size}
+use Rattle.game_tree.specs.Shape.{Sized, SameActions, SameHeights, Levels}
 use Rattle.game_tree.specs.Table.{Table, ValidTable, tableBest, replyTable, BestReply}
 use Rattle.leduc_betting.specs.Cards.{left}
-use Rattle.leduc_tree.specs.Tree.{start, afterDeal, each, leducTree, C, m, largestPayoff}
+use Rattle.leduc_tree.specs.Tree.{start, afterDeal, each, leducTree, C, m}
+use Rattle.leduc_tree.specs.Facts.{largestPayoff}
 use Rattle.leduc_tree_facts.specs.Shape.{bare, withCards, hand}
 
 -- 1. Document 01's table of counts, Leduc's row: nodes, sets, entries.

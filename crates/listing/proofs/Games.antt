@@ -9,9 +9,9 @@ use lib.Seq.{sets, sets-eq}
 use borrow.Author.Tests.{eq-eqb, ne-eqb}
 use Rattle.game_tree.specs.Sets.{size, setCount}
 use Rattle.kuhn_tree.specs.Tree.{kuhnTree}
-use Rattle.kuhn_tree.specs.Follows as Kuhn-tree
+use Rattle.kuhn_tree.specs.Positions as Kuhn-tree
 use Rattle.leduc_tree.specs.Tree.{leducTree}
-use Rattle.leduc_tree.specs.Follows as Leduc-tree
+use Rattle.leduc_tree.specs.Positions as Leduc-tree
 use Rattle.games.specs.declared.Game.{Game}
 use Rattle.games.specs.Games.{treeOf}
 use Rattle.games.specs.Seats.{seats-out}
@@ -20,9 +20,9 @@ use Rattle.games.proofs.Facts.{counted-games}
 use Rattle.listing_records.specs.Listing.{listing}
 use Rattle.listing_records.proofs.Bytes.{length-listing}
 use Rattle.kuhn_listing.specs.Listing as Kuhn
-use Rattle.kuhn_listing.specs.Listing.{kuhnListing}
+use Rattle.kuhn_listing.specs.Facts.{kuhnListing}
 use Rattle.leduc_listing.specs.Listing as Leduc
-use Rattle.leduc_listing.specs.Listing.{leducListing}
+use Rattle.leduc_listing.specs.Facts.{leducListing}
 use Rattle.listing.specs.Calls.{cardsAt, listingOf, answer, written}
 
 -- ---- which game is listed

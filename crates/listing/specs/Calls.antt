@@ -5,8 +5,8 @@ use mathlib.Core.List.{List, _++_}
 use Prim.Native.Nat.{ℕ, zero, suc}
 use lib.ListN.{length, drop}
 use Rattle.game_tree.specs.Sets.{size, setCount}
-use Rattle.kuhn_tree.specs.Follows as Kuhn-tree
-use Rattle.leduc_tree.specs.Follows as Leduc-tree
+use Rattle.kuhn_tree.specs.Positions as Kuhn-tree
+use Rattle.leduc_tree.specs.Positions as Leduc-tree
 use Rattle.games.specs.declared.Game.{Game}
 use Rattle.games.specs.Games.{isKuhn, treeOf}
 pub use Rattle.games.specs.Games.{gameOf}

@@ -5,8 +5,8 @@ use lib.ListN.{length}
 use Rattle.game_tree.specs.Sets.{setCount}
 use Rattle.games.specs.declared.Game.{Game}
 use Rattle.games.specs.Games.{treeOf}
-use Rattle.kuhn_listing.specs.Listing.{kuhnListing}
-use Rattle.leduc_listing.specs.Listing.{leducListing}
+use Rattle.kuhn_listing.specs.Facts.{kuhnListing}
+use Rattle.leduc_listing.specs.Facts.{leducListing}
 use Rattle.listing.specs.Calls.{listingOf, gameOf}
 
 -- number 0 lists Kuhn's sets, number 1 Leduc's

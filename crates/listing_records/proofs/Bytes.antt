@@ -8,7 +8,7 @@ use lib.ListN.{length, take, drop, set, replicate, length-append, length-replica
 use lib.Seq.{sets, sets-eq, length-sets, paste, length-take-le, take-all, take-append-add, take-append-seam, drop-append-add, set-append-seam, take-suc-set}
 use Rattle.game_tree.specs.Tree.{Tree}
 use Rattle.listing_records.specs.Listing.{padded, Cards, bytesOf, firstNode, flat, listing}
-use Rattle.listing_records.specs.Written.{joined, Wrote}
+use Rattle.listing_records.specs.internal.Written.{joined, Wrote}
 use Rattle.game_tree.specs.Sets.{Decision, setCount}
 use Rattle.game_tree.specs.Sets as Sets
 

@@ -9,7 +9,8 @@ use lib.ListN.{getD}
 use Rattle.prelude.proofs.Tests.{Tested, holds, fails, tested}
 use Rattle.game_tree.specs.Tree.{Key, Tree, end, chance, decide, Trees, fan}
 use Rattle.game_tree.specs.Reply.{same}
-use Rattle.game_tree.specs.Sets.{Decision, preorder, decisionOf, decisionsOf, isOf, met, firsts, sets, decides, numbers}
+use Rattle.game_tree.specs.Sets.{Decision, preorder, isOf, met, firsts, sets, decides, numbers}
+use Rattle.game_tree.specs.Shape.{decisionOf, decisionsOf}
 use Rattle.game_tree.proofs.Sets.{isOf-self, met-past, not-here, decisions-of-nodes}
 use Rattle.game_tree.proofs.Walk.{passed}
 use Rattle.listing_records.specs.Listing.{firstNode, flat}

@@ -5,7 +5,7 @@ use native.Mathlib.Omega.{arith}
 use lib.IntN.{pos, natAbs}
 use Rattle.game_tree.specs.Table.{Table}
 use Rattle.games.specs.declared.Game.{Game}
-use Rattle.games.specs.Facts.{rootUnits}
+use Rattle.games.specs.Games.{rootUnits}
 use Rattle.nash_conv_units.specs.declared.NashConvAnswer.{NashConvAnswer}
 use Rattle.nash_conv_units.specs.Calls.{nashConvOf, answer}
 

@@ -19,11 +19,11 @@ use Rattle.game_tree.specs.Table.{Table, tableWorth, tableBest, nashConv}
 use Rattle.game_tree.proofs.Integers.{size-of-sum}
 use Rattle.game_tree.proofs.TableTheorem.{table-bounds}
 use Rattle.games.specs.declared.Game.{Game}
-use Rattle.games.specs.Games.{treeOf, largestPayoff}
+use Rattle.games.specs.Games.{treeOf, rootUnits}
+use Rattle.games.specs.Facts.{largestPayoff}
 use Rattle.games.specs.Facts as Games
-use Rattle.games.specs.Facts.{rootUnits}
 use Rattle.games.proofs.Facts.{games-fit}
-use Rattle.units_best.specs.Best.{Unbeaten}
+use Rattle.units_best.specs.internal.Best.{Unbeaten}
 use Rattle.tree_refusals.specs.Accepted.{AcceptedTable}
 use Rattle.arena_store.proofs.Shaped.{games-shaped}
 use Rattle.units_worths.specs.Worths.{worthsOf}

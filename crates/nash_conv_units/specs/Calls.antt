@@ -4,8 +4,7 @@ use Prim.Native.Nat.{ℕ, zero, suc}
 use lib.IntN.{ℤ, pos, natAbs}
 use Rattle.game_tree.specs.Table.{Table, nashConv}
 use Rattle.games.specs.declared.Game.{Game}
-use Rattle.games.specs.Games.{treeOf}
-use Rattle.games.specs.Facts.{rootUnits}
+use Rattle.games.specs.Games.{treeOf, rootUnits}
 use Rattle.nash_conv_units.specs.declared.NashConvAnswer.{NashConvAnswer}
 
 -- NashConv of a table with D parts in each set: the sum of best − worth over the game's seats, from C × D^m units at the root

@@ -6,12 +6,12 @@ ghost use lib.IntN.{pos, _-ℤ_, natAbs};
 ghost use lib.ListN.{length};
 ghost use lib.Signed.{_≤ℤ_};
 ghost use Rattle.game_tree.specs.Table.{tableWorth, tableBest, nashConv};
-ghost use Rattle.games.specs.Games.{gameOf, treeOf};
-ghost use Rattle.games.specs.Facts.{nodesOf, rootUnits};
+ghost use Rattle.games.specs.Games.{gameOf, treeOf, rootUnits};
+ghost use Rattle.games.specs.Facts.{nodesOf};
 ghost use Rattle.tree_refusals.specs.Checks.{evaluation-refusal};
 ghost use Rattle.tree_refusals.specs.Accepted.{AcceptedTable};
 ghost use Rattle.arena_store.specs.Memory.{MemoryAfter};
-ghost use Rattle.arena_store.specs.Stored.{Stored};
+ghost use Rattle.arena_store.specs.internal.Stored.{Stored};
 ghost use Rattle.units_worths.specs.Worths.{worthsOf};
 ghost use Rattle.nash_conv_units.specs.Calls.{answer, Whole};
 

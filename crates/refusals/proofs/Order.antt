@@ -7,7 +7,7 @@ use native.Mathlib.Omega.{arith}
 use lib.Dec.{eqb}
 use borrow.Author.Tests.{ne-eqb}
 use Rattle.refusals.specs.Refusals.{Check, _refuses_, first}
-use Rattle.refusals.specs.Settled.{Settled}
+use Rattle.refusals.specs.internal.Settled.{Settled}
 
 -- a test that holds gives its number
 pub refused : {b : Bool} (k : ℕ) (cs : List Check) → b ≡ true → first ((b refuses k) ∷ cs) ≡ k

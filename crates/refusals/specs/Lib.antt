@@ -1,4 +1,4 @@
--- What a refusal is (document 01, "What comes back when a call is refused"). Settled serves private contracts.
+-- What a refusal is (document 01, "What comes back when a call is refused").
 pub mod Refusals
-pub mod Settled
 pub mod Facts
+pub mod internal

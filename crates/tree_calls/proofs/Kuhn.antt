@@ -16,7 +16,7 @@ use Rattle.game_tree.specs.Nodes.{nodeOf}
 use Rattle.game_tree.proofs.Counting.{In}
 use Rattle.kuhn_rules.specs.Rules.{PASS, BET, turn, due, live, over, remaining, legal, payoff}
 use Rattle.kuhn_rules.specs.Stakes.{payoffs-of}
-use Rattle.kuhn_rules.specs.Reached.{start}
+use Rattle.kuhn_rules.specs.Moves.{start}
 use Rattle.kuhn_positions.specs.Positions.{cardsOf, historyOf, initial, counted, seats-out, reachable}
 use Rattle.kuhn_positions.specs.declared.KuhnState.{KuhnState}
 use Rattle.kuhn.specs.declared.KuhnPoker.{KuhnPoker}
@@ -26,7 +26,7 @@ use Rattle.kuhn.proofs.Decides.{moved-number}
 use Rattle.kuhn.proofs.Facts.{reachable-by-moves}
 use Rattle.kuhn.proofs.Moving.{deals, steps}
 use Rattle.kuhn_tree.specs.Follows.{Follows, FollowsAll}
-use Rattle.kuhn_tree.specs.Follows as Rule
+use Rattle.kuhn_tree.specs.Positions as Rule
 use Rattle.kuhn_tree.proofs.Growth.{legal-acts, kuhn-follows}
 use Rattle.kuhn_tree.proofs.Positions.{node-follows}
 use Rattle.tree_calls.specs.Kuhn.{Played, Dealt, Stepped, tree, NodesPlayed, TreePlayed}

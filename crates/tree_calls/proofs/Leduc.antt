@@ -19,7 +19,7 @@ use Rattle.leduc_betting.specs.declared.Public.the-variants.{Card}
 use Rattle.leduc_betting.specs.Betting.{closes, may, options, counted, in-play, turn, ended}
 use Rattle.leduc_betting.specs.Cards.{remaining}
 use Rattle.leduc_rules.specs.Rules.{due, live, legal, payoff}
-use Rattle.leduc_rules.specs.Reached.{start}
+use Rattle.leduc_rules.specs.Moves.{start}
 use Rattle.leduc_positions.specs.Positions.{cardsOf, seenOf, roundOne, roundTwo, in-playOf, initial, reachable, legal-of}
 use Rattle.leduc_positions.specs.declared.LeducState.{LeducState}
 use Rattle.leduc.specs.Calls.{deal-refusal, dealt, step-refusal, stepped, payoff-answer, payoff-refusal, paid}
@@ -28,8 +28,9 @@ use Rattle.leduc.proofs.Decides.{moved-number}
 use Rattle.leduc.proofs.Facts.{reachable-by-moves}
 use Rattle.leduc.proofs.Moving.{deals, steps}
 use Rattle.leduc_tree.specs.Tree.{Position}
-use Rattle.leduc_tree.specs.Follows.{position, Follows, FollowsAll}
-use Rattle.leduc_tree.specs.Follows as Rule
+use Rattle.leduc_tree.specs.Positions.{position}
+use Rattle.leduc_tree.specs.Follows.{Follows, FollowsAll}
+use Rattle.leduc_tree.specs.Positions as Rule
 use Rattle.leduc_tree.proofs.Growth.{Stands, leduc-follows}
 use Rattle.leduc_tree.proofs.Positions.{node-follows}
 use Rattle.tree_calls.specs.Leduc.{Played, Dealt, Stepped, tree, NodesPlayed, TreePlayed}

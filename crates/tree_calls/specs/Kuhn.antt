@@ -18,7 +18,7 @@ use Rattle.kuhn.specs.declared.KuhnPoker.{KuhnPoker}
 use Rattle.kuhn.specs.Calls.{started, dealt, stepped, legal-of, key-of, paid}
 use Rattle.kuhn.specs.Facts.{Fit}
 use Rattle.kuhn_tree.specs.Tree.{kuhnTree}
-use Rattle.kuhn_tree.specs.Follows.{positionOf}
+use Rattle.kuhn_tree.specs.Positions.{positionOf}
 
 -- the tree below position s, played by the calls: an end pays what the payoff call answers; a chance node has a child for each outcome
 -- that a deal accepts; a decision has the key of the seat that has legal actions, and a child for each of these

@@ -15,7 +15,7 @@ use Rattle.leduc_positions.specs.declared.LeducState.{LeducState}
 use Rattle.leduc.specs.Calls.{started, dealt, stepped, key-of, paid}
 use Rattle.leduc.specs.Facts.{Fit}
 use Rattle.leduc_tree.specs.Tree.{leducTree}
-use Rattle.leduc_tree.specs.Follows.{position, positionOf}
+use Rattle.leduc_tree.specs.Positions.{position, positionOf}
 
 -- the tree below position s, played by the calls: an end pays what the payoff call answers; a chance node has a child for each outcome
 -- that a deal accepts; a decision has the key of the seat that has legal actions, and a child for each of these

@@ -13,7 +13,7 @@ use Rattle.game_tree.specs.Sums.{parts}
 use Rattle.game_tree.specs.Table.{addUp}
 use Rattle.games.specs.declared.Game.{Game}
 use Rattle.games.specs.Facts.{setsOf, entriesOf}
-use Rattle.games.specs.Actions.{actionsOf}
+use Rattle.games.specs.internal.Actions.{actionsOf}
 use Rattle.games.proofs.Totals.{total, total-more}
 use Rattle.games.proofs.Counts.{in-actions, part-room}
 

@@ -1,3 +1,4 @@
--- When a call that needs a tree is refused (document 01, "What comes back when a call is refused"). Accepted serves private contracts.
+-- When a call that needs a tree is refused (document 01, "What comes back when a call is refused").
 pub mod Checks
 pub mod Accepted
+pub mod internal

@@ -5,14 +5,14 @@ ghost use mathlib.Core.Bool.{false};
 ghost use mathlib.Core.List.{[], _∷_};
 ghost use Prim.Native.Nat.{_*_, _≤_, _<_};
 ghost use lib.ListN.{length, getD};
-ghost use Rattle.refusals.specs.Settled.{Settled};
+ghost use Rattle.refusals.specs.internal.Settled.{Settled};
 ghost use Rattle.game_tree.specs.Sums.{parts};
 ghost use Rattle.game_tree.specs.Sets.{entries};
 ghost use Rattle.game_tree.specs.Table.{addUp, ValidTable};
 ghost use Rattle.games.specs.Games.{treeOf, mostParts};
 ghost use Rattle.games.specs.Seats.{seats-out};
 ghost use Rattle.games.specs.Facts.{nodesOf, entriesOf};
-ghost use Rattle.games.specs.Actions.{actionsOf};
+ghost use Rattle.games.specs.internal.Actions.{actionsOf};
 ghost use Rattle.games.specs.Known.{Known};
 ghost use Rattle.tree_refusals.specs.Checks.{tree-checks, seat-check, parts-check, length-check, sum-check, output-check};
 

@@ -12,13 +12,14 @@ use games::Game;
 use refusals::earlier;
 ghost use Prim.Native.Nat.{_*_, _≤_, _<_};
 ghost use lib.ListN.{length};
-ghost use Rattle.refusals.specs.Settled.{Settled};
+ghost use Rattle.refusals.specs.internal.Settled.{Settled};
 ghost use Rattle.game_tree.specs.Sets.{setCount, entries};
 ghost use Rattle.games.specs.Games.{treeOf};
 ghost use Rattle.games.specs.Facts.{nodesOf};
 ghost use Rattle.games.specs.Known.{Known};
 ghost use Rattle.tree_refusals.specs.Checks.{listing-checks, evaluation-checks, reply-checks, value-checks, values-checks};
-ghost use Rattle.tree_refusals.specs.Accepted.{AcceptedTable, AcceptedProfile};
+ghost use Rattle.tree_refusals.specs.Accepted.{AcceptedTable};
+ghost use Rattle.tree_refusals.specs.internal.Accepted.{AcceptedProfile};
 
 // What refuses a listing into an output of room bytes, with so many words of work memory: 1 to 4, then 9.
 pub fn listing_refusal(g: Game, memory: usize, room: usize) -> u64

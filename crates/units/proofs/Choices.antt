@@ -8,7 +8,8 @@ use lib.Dec.{ltb}
 use lib.IntN.{ℤ, pos, _+ℤ_}
 use lib.Signed.{ltZ, ≤ℤ-refl, ltZ-no, ltZ-yes, clashℤ}
 use Rattle.game_tree.specs.Sums.{sumℕ}
-use Rattle.game_tree.specs.Tree.{Key, Tree, Strategy, all, Splits, Every, Pays, Valid}
+use Rattle.game_tree.specs.Tree.{Key, Tree, Strategy, all}
+use Rattle.game_tree.specs.Conditions.{Splits, Every, Pays, Valid}
 use Rattle.game_tree.specs.Reply.{Reply, replyTree, Choice, members, setSum, highest, lowest, actions, best}
 use Rattle.game_tree.specs.Recall.{PerfectRecall, RecallsOwn}
 use Rattle.game_tree.proofs.Integers.{+ℤ-mono, +ℤ-cancel}
@@ -17,8 +18,8 @@ use Rattle.game_tree.proofs.Units.{splits-fit}
 use Rattle.game_tree.proofs.Own.{own-actions}
 use Rattle.game_tree.proofs.Best.{lowest-of-greatest, best-decides}
 use Rattle.game_tree.proofs.Against.{every-both, own→every, recall-kept}
-use Rattle.units.specs.Gain.{Member, found, setGain, topmost}
-use Rattle.units.specs.Gains.{BestGains, GainBest}
+use Rattle.units.specs.internal.Gain.{Member, found, setGain, topmost}
+use Rattle.units.specs.internal.Gains.{BestGains, GainBest}
 use Rattle.units.proofs.Gains.{gain-value, set-gain-is}
 
 -- ---- a shift keeps the order, and with it the lowest of the greatest

@@ -9,10 +9,10 @@ use Rattle.game_tree.specs.Reply.{Replies, none, more, node, share, replyTree, 
 use Rattle.game_tree.specs.Sets.{size}
 use Rattle.game_tree.proofs.Tests.{Tested, is, isn't, tested, T-of, same→eq, eqb-is}
 use Rattle.game_tree.proofs.Members.{withKey-append}
-use Rattle.arena_walks.specs.Found as Walks
+use Rattle.arena_walks.specs.internal.Found as Walks
 use Rattle.arena_walks.proofs.Finding as Finding
-use Rattle.units.specs.Gain.{Member, given, found, foundAll}
-use Rattle.units.specs.Gains.{PlacesFound, MembersFound}
+use Rattle.units.specs.internal.Gain.{Member, given, found, foundAll}
+use Rattle.units.specs.internal.Gains.{PlacesFound, MembersFound}
 
 pub places-found : PlacesFound
 places-found D i s k t a u = Finding.places-found (λ u n. u / n) (given D s i) i k t a u

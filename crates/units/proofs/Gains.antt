@@ -10,7 +10,8 @@ use lib.IntN.{ℤ, pos, negsuc, _+ℤ_, natAbs}
 use lib.ListN.{length}
 use lib.Seq.{take-length}
 use Rattle.game_tree.specs.Sums.{sum, sumℕ, parts}
-use Rattle.game_tree.specs.Tree.{Key, Tree, end, chance, decide, Trees, nil, cons, fan, Strategy, all, Every, EveryAll, Pays, PaysAll, Valid}
+use Rattle.game_tree.specs.Tree.{Key, Tree, end, chance, decide, Trees, nil, cons, fan, Strategy, all}
+use Rattle.game_tree.specs.Conditions.{Every, EveryAll, Pays, PaysAll, Valid}
 use Rattle.game_tree.specs.Reply.{node, share, replyTree, replyKids, Choice, value, total, pick, Node, same, members, setSum}
 use Rattle.game_tree.specs.Recall.{PerfectRecall}
 use Rattle.game_tree.specs.Sets.{size, isOf}
@@ -18,11 +19,11 @@ use Rattle.game_tree.proofs.Tests.{eqb-is}
 use Rattle.game_tree.proofs.Sets.{isOf-seat, isOf-key}
 use Rattle.game_tree.proofs.Units.{Fits, FitsAll, fits-scale, fits-scale-all, splits-fit, of-fan, part-of}
 use Rattle.game_tree.proofs.Bounds.{members-units}
-use Rattle.arena_walks.specs.Found as Walks
+use Rattle.arena_walks.specs.internal.Found as Walks
 use Rattle.arena_walks.proofs.Finding.{EachMember, each-append, each-cond}
-use Rattle.units.specs.Lifted.{lift}
-use Rattle.units.specs.Gain.{Member, given, gain, gainAll, gainPick, found, foundAll, setGain}
-use Rattle.units.specs.Gains.{GainBound, SetGainBound, GainValue}
+use Rattle.units.specs.internal.Lifted.{lift}
+use Rattle.units.specs.internal.Gain.{Member, given, gain, gainAll, gainPick, found, foundAll, setGain}
+use Rattle.units.specs.internal.Gains.{GainBound, SetGainBound, GainValue}
 use Rattle.units.proofs.Lifting.{lift-times, add-up}
 use Rattle.units.proofs.Found.{replyRow, chance-row, decision-row, seen, members-found}
 

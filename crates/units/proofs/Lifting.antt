@@ -8,9 +8,10 @@ use lib.Dec.{ltb}
 use lib.IntN.{ℤ, pos, negsuc, _+ℤ_, _-ℤ_, natAbs, +ℤ-assoc}
 use Rattle.prelude.proofs.Tests.{Tested, holds, fails, tested}
 use Rattle.game_tree.specs.Sums.{_·_}
-use Rattle.game_tree.specs.Tree.{Key, Tree, end, chance, decide, Trees, nil, cons, fan, Strategy, all, worth, worthAll, worthKids, units, unitsAll, unitsKids, Pays, PaysAll}
+use Rattle.game_tree.specs.Tree.{Key, Tree, end, chance, decide, Trees, nil, cons, fan, Strategy, all, worth, worthAll, worthKids}
+use Rattle.game_tree.specs.Conditions.{units, unitsAll, unitsKids, Pays, PaysAll}
 use Rattle.game_tree.proofs.Integers.{·-sum, +ℤ-left-comm}
-use Rattle.units.specs.Lifted.{lift, lifted, liftedAll, liftedKids}
+use Rattle.units.specs.internal.Lifted.{lift, lifted, liftedAll, liftedKids}
 
 lift-is : (z : ℤ) → natAbs z ≤ 60 → pos (lift z) ≡ z +ℤ pos 64
 lift-is (pos a) h = refl

@@ -6,7 +6,7 @@ use native.Mathlib.Nat as NatL
 use native.Mathlib.Omega.{arith}
 use lib.ListN.{getD, take, drop}
 use Rattle.prelude.proofs.Parts.{part-at}
-use Rattle.units.specs.Readable.{Walkable}
+use Rattle.units.specs.internal.Readable.{Walkable}
 
 -- ---- units
 pub share-few : (u p d : ℕ) → p ≤ d → u * p / d ≤ u

@@ -4,11 +4,12 @@ use mathlib.Core.List.{List}
 use Prim.Native.Nat.{ℕ, _+_, _-_, _≤_, _<_}
 use native.Mathlib.Nat as NatL
 use native.Mathlib.Omega.{arith}
-use Rattle.game_tree.specs.Tree.{Key, Tree, chance, decide, Trees, cons, Every}
+use Rattle.game_tree.specs.Tree.{Key, Tree, chance, decide, Trees, cons}
+use Rattle.game_tree.specs.Conditions.{Every}
 use Rattle.game_tree.specs.Sets.{size, firstEntry}
-use Rattle.arena.specs.Held.{Held, HeldAll}
-use Rattle.arena.specs.Legible.{deep, deepAll}
-use Rattle.units.specs.Readable.{Readable, ReadableAll}
+use Rattle.arena.specs.internal.Held.{Held, HeldAll}
+use Rattle.arena.specs.internal.Legible.{deep, deepAll}
+use Rattle.units.specs.internal.Readable.{Readable, ReadableAll}
 
 module _ (n : ℕ) (T : Tree) (l : ℕ → ℕ → Key → ℕ) (w table : List ℕ) (D a d : ℕ) where
   -- the children of a chance node

@@ -9,7 +9,7 @@ use mir.Syntax.{w64}
 use mir.Val.{Fits}
 use Rattle.prelude.specs.Finite.{places}
 use Rattle.prelude.proofs.Lists.{getD-places}
-use Rattle.units.specs.Sums.{wrapped}
+use Rattle.units.specs.internal.Sums.{wrapped}
 
 pub six : (f : ℕ → ℕ) (a b c d e g : ℕ) → a ≡ f 0 % 2 ^ 64 → b ≡ f 1 % 2 ^ 64 → c ≡ f 2 % 2 ^ 64 → d ≡ f 3 % 2 ^ 64 → e ≡ f 4 % 2 ^ 64 → g ≡ f 5 % 2 ^ 64
     → a ∷ b ∷ c ∷ d ∷ e ∷ g ∷ [] ≡ wrapped f

@@ -4,8 +4,8 @@ use std::num::wrapping_add_u64;
 ghost use mathlib.Core.Path.{_≡_};
 ghost use Prim.Native.Nat.{_+_, _*_, _<_};
 ghost use lib.ListN.{getD, replicate};
-ghost use Rattle.arena.specs.Words.{byteOf};
-ghost use Rattle.units.specs.Sums.{wrapped};
+ghost use Rattle.arena.specs.internal.Words.{byteOf};
+ghost use Rattle.units.specs.internal.Sums.{wrapped};
 
 pub struct Sums {
     pub of: [u64; 6],

@@ -10,29 +10,30 @@ use mathlib.Core.Bool.{cond}
 use lib.Dec.{eqb}
 use lib.ListN.{length, getD}
 use lib.Seq.{sets}
-use Rattle.game_tree.specs.Tree.{Key, Strategy, Tree, Every, Pays, all, Valid}
+use Rattle.game_tree.specs.Tree.{Key, Strategy, Tree, all}
+use Rattle.game_tree.specs.Conditions.{Every, Pays, Valid}
 use Rattle.game_tree.specs.Reply.{Choice, pure, replyTree, best, bestValue, reply}
 use Rattle.game_tree.specs.Sets.{size, entries, firstEntry, setCount}
 use Rattle.game_tree.specs.Table.{Table, strategyOf, tableOf, tableBest, replyTable}
 use Rattle.game_tree.proofs.Against.{every-both}
 use Rattle.game_tree.proofs.TableTheorem.{table-valid}
 use Rattle.games.specs.declared.Game.{Game}
-use Rattle.games.specs.Games.{treeOf, C, m}
-use Rattle.games.specs.Facts.{nodesOf, entriesOf, setsOf, rootUnits}
+use Rattle.games.specs.Games.{treeOf, C, m, rootUnits}
+use Rattle.games.specs.Facts.{nodesOf, entriesOf, setsOf}
 use Rattle.games.proofs.Facts.{reply-best, games-fit, nodes-are, entries-are, counted-games}
-use Rattle.arena.specs.Index.{laterIn, Cleared}
-use Rattle.units.specs.Readable.{Readable}
-use Rattle.units.specs.Gain.{gain, setGain, topmost, Stocked}
+use Rattle.arena.specs.internal.Index.{laterIn, Cleared}
+use Rattle.units.specs.internal.Readable.{Readable}
+use Rattle.units.specs.internal.Gain.{gain, setGain, topmost, Stocked}
 use Rattle.units.proofs.Gains.{gain-bound, set-gain-bound}
 use Rattle.units.proofs.Choices.{best-gains, gain-best}
-use Rattle.units_collect.specs.Collected.{Storable, Collected}
+use Rattle.units_collect.specs.internal.Collected.{Storable, Collected}
 use Rattle.units_collect.proofs.Storing.{stocked-same}
-use Rattle.arena_walks.specs.Stage.{Stage, Noted}
-use Rattle.units_values.specs.Valued.{Scene, Valued, Walkable}
-use Rattle.units_reply.specs.Laid.{Tabled, replied, Laid}
+use Rattle.arena_walks.specs.internal.Stage.{Stage, Memo}
+use Rattle.units_values.specs.internal.Valued.{Scene, Valued, Walkable}
+use Rattle.units_reply.specs.internal.Laid.{Tabled, replied, Laid}
 use Rattle.units_values.proofs.Scenes.{root-here}
-use Rattle.arena_store.specs.Stored.{headsOf, Stored}
-use Rattle.arena_store.specs.Places.{reachAt, keptAt, placesOf}
+use Rattle.arena_store.specs.internal.Stored.{headsOf, Stored}
+use Rattle.arena_store.specs.internal.Places.{reachAt, keptAt, placesOf}
 use Rattle.arena_store.specs.declared.Places.{Places}
 use Rattle.arena_store.proofs.Shaped.{games-shaped, some-actions}
 use Rattle.arena_store.proofs.Room.{Roomy, roomy}
@@ -41,8 +42,9 @@ use Rattle.tree_refusals.specs.Accepted.{AcceptedTable}
 use Rattle.units_worths.proofs.Facts.{units-fit, games-readable}
 use Rattle.units_worths.proofs.Lowering.{pays-sixty, back, few-parts}
 use Rattle.units_worths.proofs.Standing as standing
-use Rattle.units_best.specs.Best.{Unbeaten, BestReply}
-use Rattle.units_best.specs.Staged.{Staged}
+use Rattle.units_best.specs.internal.Best.{Unbeaten}
+use Rattle.units_best.specs.Best.{BestReply}
+use Rattle.units_best.specs.internal.Staged.{Staged}
 
 module _ (g : Game) (D i : ℕ) (table : Table) (a : AcceptedTable g D table) (l : i < g .seats) where
   abbrev T : Tree
@@ -120,11 +122,11 @@ module _ (g : Game) (D i : ℕ) (table : Table) (a : AcceptedTable g D table) (l
             let b = best-gains (C g) (m g) D i s T (a .least) (games-fit g (a .game .known) (a .game .seats) .splits) (games-fit g (a .game .known) (a .game .seats) .recall i l) valid pays some in
             every-both (λ j y n. j ≡ i → (c y < n) × (c y ≡ topmost (setGain D s i c T U y) (pred n))) (λ j y n. 1 ≤ n) (λ j y n. j ≡ i → c y ≡ topmost (setGain D s i c T U y) (pred n)) (λ j y n e f q. e q .1) T b some
 
-    noted : Noted stage z
+    noted : Memo stage z
     noted = behind.none-noted g (a .game) i l c v z x long same length-is (r .zero)
 
     module _ (e : List ℕ) (sum : ℕ) (k : Valued i 32 (headsOf g) (reachAt g) (keptAt g) 0 z e sum) where
-      found : Noted stage e × (sum ≡ gain D s i c U T % 2 ^ 64)
+      found : Memo stage e × (sum ≡ gain D s i c U T % 2 ^ 64)
       unfolding behind.stage scene
       found = k scene noted T U 32 (NatL.le-refl 32) (root-here scene)
 

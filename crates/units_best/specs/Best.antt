@@ -4,12 +4,7 @@ use lib.IntN.{ℤ}
 use Rattle.game_tree.specs.Table.{Table}
 use Rattle.game_tree.specs.Table as AnyTree
 use Rattle.games.specs.declared.Game.{Game}
-use Rattle.games.specs.Games.{treeOf}
-use Rattle.games.specs.Facts.{rootUnits}
-
--- no valid table that differs from the given one at most in seat i's entries, mixed or not, is worth more to the seat
-abbrev pub Unbeaten : (g : Game) (D i : ℕ) (table : Table) (value : ℤ) → Type 0
-Unbeaten g D i table value = AnyTree.Unbeaten (treeOf g) D (rootUnits g D) i table value
+use Rattle.games.specs.Games.{treeOf, rootUnits}
 
 -- the reply is such a table: valid, with every other seat's entries as given; it is worth the value, and none is worth more
 abbrev pub BestReply : (g : Game) (D i : ℕ) (table : Table) (value : ℤ) (reply : Table) → Type 0

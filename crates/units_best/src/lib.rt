@@ -14,12 +14,13 @@ ghost use Prim.Native.Nat.{_*_, _≤_, _<_};
 ghost use lib.ListN.{length};
 ghost use lib.Seq.{sets};
 ghost use Rattle.game_tree.specs.Table.{tableBest, replyTable};
-ghost use Rattle.games.specs.Games.{treeOf};
-ghost use Rattle.games.specs.Facts.{nodesOf, rootUnits};
+ghost use Rattle.games.specs.Games.{treeOf, rootUnits};
+ghost use Rattle.games.specs.Facts.{nodesOf};
 ghost use Rattle.tree_refusals.specs.Accepted.{AcceptedTable};
-ghost use Rattle.arena_store.specs.Stored.{Stored};
-ghost use Rattle.units_best.specs.Best.{Unbeaten, BestReply};
-ghost use Rattle.units_best.specs.Staged.{Staged};
+ghost use Rattle.arena_store.specs.internal.Stored.{Stored};
+ghost use Rattle.units_best.specs.internal.Best.{Unbeaten};
+ghost use Rattle.units_best.specs.Best.{BestReply};
+ghost use Rattle.units_best.specs.internal.Staged.{Staged};
 
 // The best value of a seat against a table that is not refused.
 pub fn best_value(g: Game, words: &mut [u64], seat: usize, d: usize, table: &[u8]) -> i64

@@ -9,22 +9,23 @@ use lib.ListN.{length, getD, set, length-set}
 use lib.Seq.{getD-set-same, getD-set-other}
 use borrow.Author.Tests.{eq-eqb, eqb-true}
 use Rattle.prelude.proofs.Tests.{Tested, holds, fails, tested}
-use Rattle.game_tree.specs.Tree.{Key, Tree, end, chance, decide, Trees, nil, cons, fan, Every, Strategy}
+use Rattle.game_tree.specs.Tree.{Key, Tree, end, chance, decide, Trees, nil, cons, fan, Strategy}
+use Rattle.game_tree.specs.Conditions.{Every}
 use Rattle.game_tree.specs.Sets.{size, sizes, firstEntry}
 use Rattle.game_tree.specs.Table.{strategyOf}
 use Rattle.game_tree.specs.Reply.{share}
-use Rattle.arena.specs.Words.{END, CHANCE, kindOf, actorOf, actionsOf, setOf, nextOf}
-use Rattle.arena.specs.Held.{Says, Held, HeldAll}
-use Rattle.arena.specs.Walk.{Behind, Fan}
-use Rattle.arena.specs.Index.{Kept, Alike}
+use Rattle.arena.specs.internal.Words.{END, CHANCE, kindOf, actorOf, actionsOf, setOf, nextOf}
+use Rattle.arena.specs.internal.Held.{Says, Held, HeldAll}
+use Rattle.arena.specs.internal.Walk.{Behind, Fan}
+use Rattle.arena.specs.internal.Index.{Kept, Alike}
 use Rattle.arena.proofs.Building.{size-some, held-same, held-same-all, kept-none, kept-join, kept-set}
-use Rattle.units.specs.Readable.{Readable, ReadableAll}
-use Rattle.units.specs.Gain.{given, Stocked, StockedAll}
+use Rattle.units.specs.internal.Readable.{Readable, ReadableAll}
+use Rattle.units.specs.internal.Gain.{given, Stocked, StockedAll}
 use Rattle.arena.proofs.Reading.{deep-some}
 use Rattle.units.proofs.Reading.{chance-row, decide-row, first, rest, near}
 use Rattle.units.proofs.Passing.{walk-down, walk-along, walk-here}
 use Rattle.arena.proofs.Staying.{Same, alike-join, alike-held, alike-row}
-use Rattle.units_collect.specs.Collected.{Storable, Collected, CollectedAll, Each, Dealt, Moved, Shared}
+use Rattle.units_collect.specs.internal.Collected.{Storable, Collected, CollectedAll, Each, Dealt, Moved, Shared}
 
 -- ---- words that stay
 kept-at : (a b c d : ℕ) (v w : List ℕ) → a ≡ b → c ≡ d → Kept a c v w → Kept b d v w

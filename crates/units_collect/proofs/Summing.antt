@@ -9,15 +9,15 @@ use borrow.Author.Tests.{eq-eqb, ne-eqb}
 use Rattle.game_tree.specs.Tree.{Key, Tree, end, chance, decide, Trees, nil, cons, fan, Strategy}
 use Rattle.game_tree.specs.Reply.{share}
 use Rattle.game_tree.specs.Sets.{size, sizes}
-use Rattle.arena.specs.Words.{END, kindOf, actorOf, byteOf}
-use Rattle.arena.specs.Held.{Says, Held, HeldAll}
-use Rattle.units.specs.Lifted.{lift, lifted, liftedAll, liftedKids}
-use Rattle.units.specs.Gain.{given, Stocked, StockedAll}
-use Rattle.units.specs.Sums.{wrapped, Summed}
+use Rattle.arena.specs.internal.Words.{END, kindOf, actorOf, byteOf}
+use Rattle.arena.specs.internal.Held.{Says, Held, HeldAll}
+use Rattle.units.specs.internal.Lifted.{lift, lifted, liftedAll, liftedKids}
+use Rattle.units.specs.internal.Gain.{given, Stocked, StockedAll}
+use Rattle.units.specs.internal.Sums.{wrapped, Summed}
 use Rattle.units.proofs.Lifting.{lift-back}
 use Rattle.units.proofs.Passing.{share-few, quotient-few}
 use Rattle.units.proofs.Six.{wrapped-at, sum-wraps}
-use Rattle.units_collect.specs.Ends.{endGain, endGains, WithNode}
+use Rattle.units_collect.specs.internal.Ends.{endGain, endGains, WithNode}
 
 -- ---- one node's
 pub gain-none : (x y i : ℕ) → (kindOf x ≡ END → ⊥) → endGain x y i ≡ 0

@@ -8,8 +8,8 @@ use units::sums::add;
 use units::sums::earned;
 use units::sums::none;
 ghost use Prim.Native.Nat.{_≤_, _<_};
-ghost use Rattle.units.specs.Sums.{Summed};
-ghost use Rattle.units_collect.specs.Ends.{endGains, WithNode};
+ghost use Rattle.units.specs.internal.Sums.{Summed};
+ghost use Rattle.units_collect.specs.internal.Ends.{endGains, WithNode};
 
 // The sums, and what y units of the node with word x are worth.
 fn with_node(sums: Sums, x: u64, y: u64) -> Sums

@@ -15,7 +15,7 @@ use arena::words::word;
 use units::shares::share;
 ghost use Prim.Native.Nat.{_≤_};
 ghost use lib.ListN.{length};
-ghost use Rattle.units_collect.specs.Collected.{Collected, CollectedAll, Dealt, Each, Moved, Shared, Storable};
+ghost use Rattle.units_collect.specs.internal.Collected.{Collected, CollectedAll, Dealt, Each, Moved, Shared, Storable};
 
 // Stores the units of each node of the tree at place a, from u units: those of place p at place units + p.
 pub fn collect(

@@ -12,10 +12,11 @@ use lib.ListN.{length, getD, set, length-append}
 use lib.Seq.{sets}
 use Rattle.prelude.proofs.Tests.{Tested, holds, fails, tested}
 use Rattle.game_tree.specs.Sums.{sumℕ}
-use Rattle.game_tree.specs.Tree.{Key, Tree, end, chance, decide, Trees, nil, cons, fan, Strategy, Every, EveryAll}
+use Rattle.game_tree.specs.Tree.{Key, Tree, end, chance, decide, Trees, nil, cons, fan, Strategy}
+use Rattle.game_tree.specs.Conditions.{Every, EveryAll}
 use Rattle.game_tree.specs.Reply.{pure}
-use Rattle.game_tree.specs.Sets.{Levels, LevelsAll}
-use Rattle.game_tree.specs.Sets.{Decision, size, preorder, decisionOf, decisionsOf, isOf, decides, numbers, setMembers, before, entriesOf, firstEntry, setCount}
+use Rattle.game_tree.specs.Shape.{Levels, LevelsAll, decisionOf, decisionsOf}
+use Rattle.game_tree.specs.Sets.{Decision, size, preorder, isOf, decides, numbers, setMembers, before, entriesOf, firstEntry, setCount}
 use Rattle.game_tree.specs.Sets as Sets
 use Rattle.game_tree.specs.Table.{Table, listed, laidOut, tableOf}
 use Rattle.game_tree.proofs.Tests.{T-of, same→eq, same-self, eqb-is}
@@ -23,14 +24,14 @@ use Rattle.game_tree.proofs.Sets.{preorder-length, decisions-of-nodes, Distinct
 use Rattle.game_tree.proofs.Entries.{entriesOf-append}
 use Rattle.game_tree.proofs.Tables.{laidOut-length}
 use Rattle.game_tree.proofs.Counting.{In, in-right, each-in, sets-in}
-use Rattle.arena.specs.Words.{actorOf, actionsOf}
-use Rattle.arena.specs.Held.{Says}
-use Rattle.arena.specs.Index.{firstOf, laterIn}
+use Rattle.arena.specs.internal.Words.{actorOf, actionsOf}
+use Rattle.arena.specs.internal.Held.{Says}
+use Rattle.arena.specs.internal.Index.{firstOf, laterIn}
 use Rattle.arena.proofs.Nodes.{none, node, held-node}
-use Rattle.arena_walks.specs.Stage.{Stage, Known, Noted}
+use Rattle.arena_walks.specs.internal.Stage.{Stage, Known, Memo}
 use Rattle.arena_walks.proofs.Standing.{known-of, inside, same-fan}
-use Rattle.units_values.specs.Valued.{Scene, Chosen}
-use Rattle.units_reply.specs.Laid.{Tabled, replied, LaidSet, Laid}
+use Rattle.units_values.specs.internal.Valued.{Scene, Chosen}
+use Rattle.units_reply.specs.internal.Laid.{Tabled, replied, LaidSet, Laid}
 
 -- ---- no set stands deeper than its walk
 mutual
@@ -84,7 +85,7 @@ module _ (table : Table) (x e i D h b k : ℕ) (old : List ℕ) (out written : L
       own : j ≡ i
       own = sym z ∙ o
 
-      chosen : Noted (S .stage) new × (choice ≡ S .stage .choice y)
+      chosen : Memo (S .stage) new × (choice ≡ S .stage .choice y)
       chosen = C S m y (subst (λ j. Known (S .stage) j y n) own (subst (Known (S .stage) j y) (sym (c ∙ v)) g)) (l ∙ ap (λ j. firstEntry (S .stage .tree) j y) own)
           (known-of (S .stage) (λ j y n. S .stage .levels j y ≤ 32) (levels-most (S .stage .tree) (S .stage .levels) 32 32 (NatL.le-refl 32)
           (S .stage .level)) i y n (subst (λ j. Known (S .stage) j y n) own (subst (Known (S .stage) j y) (sym (c ∙ v)) g)))
@@ -126,7 +127,7 @@ first-number j y n a (t ∷ ts) m = at t m (tested (decides j y t)) (λ o. first
 
 module _ {i h k : ℕ} (S : Stage i h k) where
   -- the word of a set's first member: the seat that acts, and how many actions it has
-  head-says : (w : List ℕ) → Noted S w → (j : ℕ) (y : Key) (n : ℕ) → Known S j y n → (e : ℕ) → e ≡ firstEntry (S .tree) j y → (x : ℕ) → x ≡ getD w (getD w (h + e) 0 % 2097152) 0 → (actorOf x ≡ j) × (actionsOf x ≡ n)
+  head-says : (w : List ℕ) → Memo S w → (j : ℕ) (y : Key) (n : ℕ) → Known S j y n → (e : ℕ) → e ≡ firstEntry (S .tree) j y → (x : ℕ) → x ≡ getD w (getD w (h + e) 0 % 2097152) 0 → (actorOf x ≡ j) × (actionsOf x ≡ n)
   unfolding Says
   head-says w m j y n g e q x r = at (first-number j y n 0 (preorder (S .tree)) (subst (In (j, y, n)) (decisions-of-nodes (S .tree)) g))
     where
@@ -161,8 +162,8 @@ sets-join l (v ∷ vs) ws i = let e : i + length (v ∷ vs) ≡ suc i + length v
 module _ (table : Table) (count i D h b k : ℕ) (old out : List ℕ) where
   -- n sets are written, up to entry e
   abbrev pub Laying : (w written : List ℕ) (n e : ℕ) → Type 0
-  Laying w written n e = (S : Scene i h b k) → Noted (S .stage) old → Tabled S table D → count ≡ setCount (S .stage .tree)
-      → Noted (S .stage) w × (done : List Decision) × (rest : List Decision) × (Sets.sets (S .stage .tree) ≡ done ++ rest) × (n ≡ length done) × (e ≡ entriesOf done) × (written ≡ sets out 0 (laidOut done (replied S)))
+  Laying w written n e = (S : Scene i h b k) → Memo (S .stage) old → Tabled S table D → count ≡ setCount (S .stage .tree)
+      → Memo (S .stage) w × (done : List Decision) × (rest : List Decision) × (Sets.sets (S .stage .tree) ≡ done ++ rest) × (n ≡ length done) × (e ≡ entriesOf done) × (written ≡ sets out 0 (laidOut done (replied S)))
 
   pub laying-start : Laying old out 0 0
   unfolding laidOut entriesOf sumℕ
@@ -172,14 +173,14 @@ module _ (table : Table) (count i D h b k : ℕ) (old out : List ℕ) where
   unfolding laidOut entriesOf sumℕ In
   laying-more w new written more n e x l p q r S m t c = at (p S m t c)
     where
-      at : Noted (S .stage) w × (done : List Decision) × (rest : List Decision) × (Sets.sets (S .stage .tree) ≡ done ++ rest) × (n ≡ length done) × (e ≡ entriesOf done) × (written ≡ sets out 0 (laidOut done (replied S)))
-          → Noted (S .stage) new × (done : List Decision) × (rest : List Decision) × (Sets.sets (S .stage .tree) ≡ done ++ rest) × (n + 1 ≡ length done) × (e + actionsOf x ≡ entriesOf done) × (more ≡ sets out 0 (laidOut done (replied S)))
+      at : Memo (S .stage) w × (done : List Decision) × (rest : List Decision) × (Sets.sets (S .stage .tree) ≡ done ++ rest) × (n ≡ length done) × (e ≡ entriesOf done) × (written ≡ sets out 0 (laidOut done (replied S)))
+          → Memo (S .stage) new × (done : List Decision) × (rest : List Decision) × (Sets.sets (S .stage .tree) ≡ done ++ rest) × (n + 1 ≡ length done) × (e + actionsOf x ≡ entriesOf done) × (more ≡ sets out 0 (laidOut done (replied S)))
       at (A, done, [], B, C, E, F) = absurd (omega (arith, l, c, ap length (B ∙ append-nil done), C))
       at (A, done, d ∷ rest, B, C, E, F) =
           let known : Known (S .stage) (d .0) (d .1) (d .2) = sets-in (S .stage .tree) d (subst (In d) (sym B) (in-right d done (d ∷ rest) (inl refl))) in
           let entry : e ≡ firstEntry (S .stage .tree) (d .0) (d .1) = E ∙ ap entriesOf (sym (before-here done d rest (subst Distinct B (sets-distinct (S .stage .tree))))) ∙ ap (λ l. entriesOf (before (d .0) (d .1) l)) (sym B) in
           let says : (actorOf x ≡ d .0) × (actionsOf x ≡ d .2) = head-says (S .stage) w A (d .0) (d .1) (d .2) known e entry x q in
-          let laid : Noted (S .stage) new × (more ≡ sets written e (listed (d .2) (replied S (d .0) (d .1)))) = r S A t (d .0) (d .1) (d .2) known entry (says .0) (says .1) in (
+          let laid : Memo (S .stage) new × (more ≡ sets written e (listed (d .2) (replied S (d .0) (d .1)))) = r S A t (d .0) (d .1) (d .2) known entry (says .0) (says .1) in (
             laid .0,
             done ++ (d ∷ []),
             rest,
@@ -195,8 +196,8 @@ module _ (table : Table) (count i D h b k : ℕ) (old out : List ℕ) where
   pub laying-end : (w written : List ℕ) (n e : ℕ) → count ≤ n → Laying w written n e → Laid table count i D h b k old w out written
   laying-end w written n e l p S m t c = at (p S m t c)
     where
-      at : Noted (S .stage) w × (done : List Decision) × (rest : List Decision) × (Sets.sets (S .stage .tree) ≡ done ++ rest) × (n ≡ length done) × (e ≡ entriesOf done) × (written ≡ sets out 0 (laidOut done (replied S)))
-          → Noted (S .stage) w × (written ≡ sets out 0 (tableOf (S .stage .tree) (replied S)))
+      at : Memo (S .stage) w × (done : List Decision) × (rest : List Decision) × (Sets.sets (S .stage .tree) ≡ done ++ rest) × (n ≡ length done) × (e ≡ entriesOf done) × (written ≡ sets out 0 (laidOut done (replied S)))
+          → Memo (S .stage) w × (written ≡ sets out 0 (tableOf (S .stage .tree) (replied S)))
       at (A, done, [], B, C, E, F) = (A, F ∙ ap (λ z. sets out 0 (laidOut z (replied S))) (sym (B ∙ append-nil done)))
       at (A, done, d ∷ rest, B, C, E, F) = absurd (omega (arith, l, c, C, ap length B ∙ length-append done (d ∷ rest)))
 

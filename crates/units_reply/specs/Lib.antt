@@ -1,2 +1,2 @@
--- The reply as a table, over a stored tree. No public call cites these definitions.
-pub mod Laid
+-- The reply as a table, over a stored tree.
+pub mod internal

@@ -11,8 +11,8 @@ ghost use Prim.Native.Nat.{_≤_};
 ghost use lib.Dec.{eqb};
 ghost use lib.ListN.{getD, set, take};
 ghost use lib.Seq.{sets};
-ghost use Rattle.units_values.specs.Valued.{Walkable};
-ghost use Rattle.units_reply.specs.Laid.{LaidSet, Laid};
+ghost use Rattle.units_values.specs.internal.Valued.{Walkable};
+ghost use Rattle.units_reply.specs.internal.Laid.{LaidSet, Laid};
 
 // The byte at place i, 0 where there is none.
 fn byte(table: &[u8], i: usize) -> u8

@@ -12,15 +12,15 @@ use Rattle.game_tree.specs.Sums.{sumℕ}
 use Rattle.game_tree.proofs.Tests.{Tested, is, isn't, tested}
 use Rattle.game_tree.specs.Tree.{Key, fan}
 use Rattle.game_tree.specs.Sets.{firstEntry}
-use Rattle.arena.specs.Words.{laterOf}
-use Rattle.arena_walks.specs.Child.{nth, Child}
-use Rattle.arena_walks.specs.Stage.{Known, Noted}
+use Rattle.arena.specs.internal.Words.{laterOf}
+use Rattle.arena_walks.specs.internal.Child.{nth, Child}
+use Rattle.arena_walks.specs.internal.Stage.{Known, Memo}
 use Rattle.arena_walks.proofs.Standing.{known-of}
 use Rattle.arena_walks.proofs.Noting as Noting
 use Rattle.arena_walks.proofs.Remaining.{Remaining, remaining-start, remaining-more, remaining-child, remaining-none, remaining-some, remaining-rises}
-use Rattle.units.specs.Gain.{Member, given, gainPick, found, setGain, topmost}
+use Rattle.units.specs.internal.Gain.{Member, given, gainPick, found, setGain, topmost}
 use Rattle.units.proofs.Six.{sum-wraps}
-use Rattle.units_values.specs.Valued.{Scene, Here, gained, behindAction, Valued, Chosen, Totalled}
+use Rattle.units_values.specs.internal.Valued.{Scene, Here, gained, behindAction, Valued, Chosen, Totalled}
 use Rattle.units_values.proofs.Scenes.{given-whole, descent, root-here, pick-gain}
 
 -- ---- a choice on its way through the actions
@@ -55,8 +55,8 @@ module _ (i d h b k e n : ℕ) (old : List ℕ) where
 
   -- with the words w: a choice past the first x actions is at action c, with the sum s
   abbrev pub Led : List ℕ → (c s x : ℕ) → Type 0
-  Led w c s x = (S : Scene i h b k) → Noted (S .stage) old → (y : Key) → Known (S .stage) i y n → e ≡ firstEntry (S .stage .tree) i y → S .stage .levels i y ≤ d
-      → Noted (S .stage) w × (x ≤ n) × Passed (behindAction S y) c s x
+  Led w c s x = (S : Scene i h b k) → Memo (S .stage) old → (y : Key) → Known (S .stage) i y n → e ≡ firstEntry (S .stage .tree) i y → S .stage .levels i y ≤ d
+      → Memo (S .stage) w × (x ≤ n) × Passed (behindAction S y) c s x
 
   pub led-start : (c s : ℕ) → c ≡ 0 → s ≡ 0 → Led old c s 0
   unfolding Passed
@@ -65,7 +65,7 @@ module _ (i d h b k e n : ℕ) (old : List ℕ) where
   pub led-more : (w new : List ℕ) (c s x v a r : ℕ) → Led w c s x → x < n → Totalled i d h b k e x w new v → a ≡ cond (ltb s v) x c → r ≡ cond (ltb s v) v s → Led new a r (x + 1)
   led-more w new c s x v a r before more t p q S m y g l f =
       let A = before S m y g l f in
-      let B : Noted (S .stage) new × (v ≡ behindAction S y x) = t S (A .0) y n g l f more in
+      let B : Memo (S .stage) new × (v ≡ behindAction S y x) = t S (A .0) y n g l f more in
       let next : suc x ≡ x + 1 = omega arith in
       (B .0, omega (arith, more), subst (Passed (behindAction S y) a r) next (passed-more (behindAction S y) c s x v a r (A .2) (B .1) p q))
 
@@ -94,7 +94,7 @@ module _ {i h b k : ℕ} (S : Scene i h b k) (y : Key) (a : ℕ) where
     pub all : behindAction S y a ≡ done + adds ms
 
   -- all of them
-  rest-start : (old : List ℕ) → Noted (S .stage) old → (n : ℕ) → Known (S .stage) i y n → (c : ℕ) → c ≡ getD old (h + firstEntry (S .stage .tree) i y) 0 % 2097152
+  rest-start : (old : List ℕ) → Memo (S .stage) old → (n : ℕ) → Known (S .stage) i y n → (c : ℕ) → c ≡ getD old (h + firstEntry (S .stage .tree) i y) 0 % 2097152
       → Rest c 0 (found (S .parts) (S .strategy) i y 0 (S .root) (S .stage .tree))
   unfolding setGain
   rest-start old m n g c e = record {
@@ -105,9 +105,9 @@ module _ {i h b k : ℕ} (S : Scene i h b k) (y : Key) (a : ℕ) where
   }
 
   -- one after the other
-  module _ (n : ℕ) (g : Known (S .stage) i y n) (l : a < n) (cur new : List ℕ) (c q v s next sum : ℕ) (m : Noted (S .stage) cur) (o : Child cur c a q) (d : ℕ) (deep : S .stage .levels i y ≤ d) (w : Valued i d h b k q cur new v)
+  module _ (n : ℕ) (g : Known (S .stage) i y n) (l : a < n) (cur new : List ℕ) (c q v s next sum : ℕ) (m : Memo (S .stage) cur) (o : Child cur c a q) (d : ℕ) (deep : S .stage .levels i y ≤ d) (w : Valued i d h b k q cur new v)
       (e : s ≡ (sum + v) % 2 ^ 64) (z : next ≡ laterOf (getD new c 0)) where
-    rest-more : (x : Member) (ms : List Member) → Rest c sum (x ∷ ms) → Noted (S .stage) new × Rest next s ms
+    rest-more : (x : Member) (ms : List Member) → Rest c sum (x ∷ ms) → Memo (S .stage) new × Rest next s ms
     unfolding sumℕ
     rest-more (p, u, f) ms r = (
       value .0,
@@ -122,8 +122,8 @@ module _ {i h b k : ℕ} (S : Scene i h b k) (y : Key) (a : ℕ) where
         child : (a < fan f) × Here S (S .stage .levels i y) q (given (S .parts) (S .strategy) i u i y a) (nth f a)
         child = remaining-child (descent S) y cur m n g c a q (p, u, f) ms (r .left) o l
 
-        value : Noted (S .stage) new × (v ≡ gainPick (S .parts) (S .strategy) i (S .stage .choice) (λ z. u) 0 f a % 2 ^ 64)
-        value = let one : Noted (S .stage) new × (v ≡ gained S u (nth f a) % 2 ^ 64) = w S m (nth f a) u (S .stage .levels i y) deep (subst (λ j. Here S (S .stage .levels i y) q j (nth f a)) (given-whole S u y a) (child .1)) in
+        value : Memo (S .stage) new × (v ≡ gainPick (S .parts) (S .strategy) i (S .stage .choice) (λ z. u) 0 f a % 2 ^ 64)
+        value = let one : Memo (S .stage) new × (v ≡ gained S u (nth f a) % 2 ^ 64) = w S m (nth f a) u (S .stage .levels i y) deep (subst (λ j. Here S (S .stage .levels i y) q j (nth f a)) (given-whole S u y a) (child .1)) in
             (one .0, one .1 ∙ ap (λ j. j % 2 ^ 64) (sym (pick-gain S (λ z. u) f a (child .0))))
 
   -- none is left
@@ -134,8 +134,8 @@ module _ {i h b k : ℕ} (S : Scene i h b k) (y : Key) (a : ℕ) where
 module _ (i d h b k e a : ℕ) (old : List ℕ) where
   -- with the words w: the member at place c is next
   abbrev pub Summed : List ℕ → ℕ → ℕ → Type 0
-  Summed w c sum = (S : Scene i h b k) → Noted (S .stage) old → (y : Key) (n : ℕ) → Known (S .stage) i y n → e ≡ firstEntry (S .stage .tree) i y → S .stage .levels i y ≤ d → a < n
-      → Noted (S .stage) w × (ms : List Member) × Rest S y a c sum ms
+  Summed w c sum = (S : Scene i h b k) → Memo (S .stage) old → (y : Key) (n : ℕ) → Known (S .stage) i y n → e ≡ firstEntry (S .stage .tree) i y → S .stage .levels i y ≤ d → a < n
+      → Memo (S .stage) w × (ms : List Member) × Rest S y a c sum ms
 
   pub summed-start : (c : ℕ) → c ≡ getD old (h + e) 0 % 2097152 → Summed old c 0
   summed-start c q S m y n g l x z = (m, found (S .parts) (S .strategy) i y 0 (S .root) (S .stage .tree), rest-start S y a old m n g c (q ∙ ap (λ j. getD old (h + j) 0 % 2097152) l))
@@ -143,22 +143,22 @@ module _ (i d h b k e a : ℕ) (old : List ℕ) where
   pub summed-more : (w new : List ℕ) (c sum q v s next : ℕ) → Summed w c sum → 0 < c → Child w c a q → Valued i d h b k q w new v → s ≡ (sum + v) % 2 ^ 64 → next ≡ laterOf (getD new c 0) → Summed new next s
   summed-more w new c sum q v s next f p o r j x S m y n g l z t = at (f S m y n g l z t)
     where
-      at : Noted (S .stage) w × (ms : List Member) × Rest S y a c sum ms → Noted (S .stage) new × (ms : List Member) × Rest S y a next s ms
+      at : Memo (S .stage) w × (ms : List Member) × Rest S y a c sum ms → Memo (S .stage) new × (ms : List Member) × Rest S y a next s ms
       at (A, [], B) = absurd (omega (arith, p, remaining-none (descent S) y c (B .left)))
-      at (A, m ∷ ms, B) = let X : Noted (S .stage) new × Rest S y a next s ms = rest-more S y a n g t w new c q v s next sum A o d z r j x m ms B in (X .0, ms, X .1)
+      at (A, m ∷ ms, B) = let X : Memo (S .stage) new × Rest S y a next s ms = rest-more S y a n g t w new c q v s next sum A o d z r j x m ms B in (X .0, ms, X .1)
 
   pub summed-stuck : (w new : List ℕ) (c sum q v s next : ℕ) → Summed w c sum → 0 < c → Child w c a q → Valued i d h b k q w new v → s ≡ (sum + v) % 2 ^ 64 → next ≡ laterOf (getD new c 0) → next ≤ c → Totalled i d h b k e a old new s
   summed-stuck w new c sum q v s next f p o r j x u S m y n g l z t = at (f S m y n g l z t)
     where
-      at : Noted (S .stage) w × (ms : List Member) × Rest S y a c sum ms → Noted (S .stage) new × (s ≡ behindAction S y a)
+      at : Memo (S .stage) w × (ms : List Member) × Rest S y a c sum ms → Memo (S .stage) new × (s ≡ behindAction S y a)
       at (A, [], B) = absurd (omega (arith, p, remaining-none (descent S) y c (B .left)))
-      at (A, m ∷ [], B) = let X : Noted (S .stage) new × Rest S y a next s [] = rest-more S y a n g t w new c q v s next sum A o d z r j x m [] B in (X .0, rest-end S y a s next (X .1))
-      at (A, m ∷ (two ∷ ms), B) = let X : Noted (S .stage) new × Rest S y a next s (two ∷ ms) = rest-more S y a n g t w new c q v s next sum A o d z r j x m (two ∷ ms) B in
+      at (A, m ∷ [], B) = let X : Memo (S .stage) new × Rest S y a next s [] = rest-more S y a n g t w new c q v s next sum A o d z r j x m [] B in (X .0, rest-end S y a s next (X .1))
+      at (A, m ∷ (two ∷ ms), B) = let X : Memo (S .stage) new × Rest S y a next s (two ∷ ms) = rest-more S y a n g t w new c q v s next sum A o d z r j x m (two ∷ ms) B in
           absurd (omega (arith, remaining-rises (descent S) y c next m two ms (B .left) (X .1 .left), u))
 
   pub summed-end : (w : List ℕ) (c sum : ℕ) → Summed w c sum → (0 < c → ⊥) → Totalled i d h b k e a old w sum
   summed-end w c sum f z S m y n g l x t = at (f S m y n g l x t)
     where
-      at : Noted (S .stage) w × (ms : List Member) × Rest S y a c sum ms → Noted (S .stage) w × (sum ≡ behindAction S y a)
+      at : Memo (S .stage) w × (ms : List Member) × Rest S y a c sum ms → Memo (S .stage) w × (sum ≡ behindAction S y a)
       at (A, [], B) = (A, rest-end S y a sum c B)
       at (A, m ∷ ms, B) = absurd (z (remaining-some (descent S) y c m ms (B .left)))

@@ -6,15 +6,16 @@ use native.Mathlib.Nat as NatL
 use native.Mathlib.Omega.{arith}
 use lib.Dec.{eqb}
 use borrow.Author.Tests.{eq-eqb}
-use Rattle.game_tree.specs.Tree.{Key, Tree, chance, decide, Trees, nil, cons, fan, Pays}
+use Rattle.game_tree.specs.Tree.{Key, Tree, chance, decide, Trees, nil, cons, fan}
+use Rattle.game_tree.specs.Conditions.{Pays}
 use Rattle.game_tree.specs.Reply.{share}
 use Rattle.game_tree.specs.Sets.{size}
-use Rattle.arena_walks.specs.Child.{nth}
+use Rattle.arena_walks.specs.internal.Child.{nth}
 use Rattle.arena_walks.proofs.Standing as Standing
 use Rattle.arena_walks.proofs.Descending.{Descent}
-use Rattle.units.specs.Gain.{given, gain, gainPick, Stocked}
+use Rattle.units.specs.internal.Gain.{given, gain, gainPick, Stocked}
 use Rattle.units.proofs.Passing.{share-few, quotient-few}
-use Rattle.units_values.specs.Valued.{Scene, Here, HereAll, gained}
+use Rattle.units_values.specs.internal.Valued.{Scene, Here, HereAll, gained}
 
 module _ {i h b k : ℕ} (S : Scene i h b k) where
   -- no share is more than the whole

@@ -8,22 +8,23 @@ use native.Mathlib.Omega.{arith}
 use lib.Dec.{ltb}
 use lib.ListN.{getD}
 use borrow.Author.Tests.{eq-eqb, ne-eqb}
-use Rattle.game_tree.specs.Tree.{Key, Tree, end, chance, decide, Trees, nil, cons, fan, Every}
-use Rattle.game_tree.specs.Sets.{Levels}
+use Rattle.game_tree.specs.Tree.{Key, Tree, end, chance, decide, Trees, nil, cons, fan}
+use Rattle.game_tree.specs.Conditions.{Every}
+use Rattle.game_tree.specs.Shape.{Levels}
 use Rattle.game_tree.specs.Sets.{size, sizes}
-use Rattle.arena.specs.Words.{END, DECISION, kindOf, actorOf, actionsOf, setOf, nextOf, byteOf, payoffOf}
-use Rattle.arena.specs.Held.{Says, Held}
-use Rattle.arena.specs.Walk.{Behind}
+use Rattle.arena.specs.internal.Words.{END, DECISION, kindOf, actorOf, actionsOf, setOf, nextOf, byteOf, payoffOf}
+use Rattle.arena.specs.internal.Held.{Says, Held}
+use Rattle.arena.specs.internal.Walk.{Behind}
 use Rattle.arena.proofs.Building.{size-some}
-use Rattle.arena_walks.specs.Child.{nth, Child}
-use Rattle.arena_walks.specs.Stage.{Known, Noted}
+use Rattle.arena_walks.specs.internal.Child.{nth, Child}
+use Rattle.arena_walks.specs.internal.Stage.{Known, Memo}
 use Rattle.arena_walks.proofs.Standing.{levels-some, known-of, seen}
 use Rattle.arena_walks.proofs.Descending.{child-at, row-rest}
-use Rattle.units.specs.Lifted.{lift}
-use Rattle.units.specs.Gain.{given, gain, gainPick, Stocked, topmost}
+use Rattle.units.specs.internal.Lifted.{lift}
+use Rattle.units.specs.internal.Gain.{given, gain, gainPick, Stocked, topmost}
 use Rattle.units.proofs.Lifting.{lift-back}
 use Rattle.units.proofs.Six.{product, sum-wraps}
-use Rattle.units_values.specs.Valued.{Walkable, Scene, Here, HereAll, gained, gainedAll, behindAction, Valued, ValuedAll, ValuedOwn, Chosen}
+use Rattle.units_values.specs.internal.Valued.{Walkable, Scene, Here, HereAll, gained, gainedAll, behindAction, Valued, ValuedAll, ValuedOwn, Chosen}
 use Rattle.units_values.proofs.Scenes.{kids-chance, kids-decide, first, descent, pick-gain}
 
 -- ---- a node by its word
@@ -32,7 +33,7 @@ module _ (i d h b k a : ℕ) (old : List ℕ) where
   value-none r e S m t u y l g = absurd (omega (arith, l, levels-some (S .stage .levels) y t (g .stands .level)))
 
   module _ (x : ℕ) (e : x ≡ getD old a 0) where
-    says : (S : Scene i h b k) → Noted (S .stage) old → (t : Tree) (u y : ℕ) → Here S y a u t → x ≡ getD (S .stage .words) a 0
+    says : (S : Scene i h b k) → Memo (S .stage) old → (t : Tree) (u y : ℕ) → Here S y a u t → x ≡ getD (S .stage .words) a 0
     says S m t u y g = e ∙ seen (S .stage) old m y a t (g .stands)
 
     value-end : (y l v : ℕ) → kindOf x ≡ END → y ≡ getD old (b + a) 0 → (l ≡ byteOf x i) × (l < 128) → v ≡ y % 144115188075855872 * l → Valued i d h b k a old old v
@@ -82,11 +83,11 @@ module _ (i d h b k a : ℕ) (old : List ℕ) where
       value-own z y v S m (chance f) u lev le g = absurd (omega (arith, z, g .stands .held .0 .0, ap kindOf (says S m (chance f) u lev g)))
       value-own z y v S m (decide j n f) u lev le g = at j (sym (g .stands .held .0 .1) ∙ sym (ap actorOf (says S m (decide j n f) u lev g)) ∙ y) g
         where
-          at : (j : ℕ) → j ≡ i → Here S lev a u (decide j n f) → Noted (S .stage) new × (r ≡ gained S u (decide j n f) % 2 ^ 64)
+          at : (j : ℕ) → j ≡ i → Here S lev a u (decide j n f) → Memo (S .stage) new × (r ≡ gained S u (decide j n f) % 2 ^ 64)
           at j q g =
               let o : Here S lev a u (decide i n f) = subst (λ y. Here S lev a u (decide y n f)) q g in
               let p : lev ≡ suc (pred lev) = omega (arith, levels-some (S .stage .levels) lev (decide i n f) (o .stands .level)) in
-              subst (λ y. Noted (S .stage) new × (r ≡ gained S u (decide y n f) % 2 ^ 64)) (sym q)
+              subst (λ y. Memo (S .stage) new × (r ≡ gained S u (decide y n f) % 2 ^ 64)) (sym q)
               (v S m n u (pred lev) f (omega arith) (ap setOf (says S m (decide i n f) u lev o) ∙ o .stands .held .0 .3)
               (ap actionsOf (says S m (decide i n f) u lev o) ∙ o .stands .held .0 .2) (subst (λ y. Here S y a u (decide i n f)) p o))
 
@@ -94,8 +95,8 @@ module _ (i d h b k a : ℕ) (old : List ℕ) where
 module _ (i d h b k a z : ℕ) (old : List ℕ) where
   -- place c is reached with the words w: the sum so far, and a row to come
   abbrev pub Along : List ℕ → ℕ → ℕ → Type 0
-  Along w c sum = (S : Scene i h b k) → Noted (S .stage) old → (g : ℕ → ℕ) (f : Trees) (lev : ℕ) → lev ≤ d → HereAll S lev a g 0 f → z ≡ a + sizes f
-      → Noted (S .stage) w × (e : Trees) × (x : ℕ) × HereAll S lev c g x e × (z ≡ c + sizes e) × (y : ℕ) × (sum ≡ y % 2 ^ 64) × (gainedAll S g 0 f ≡ y + gainedAll S g x e)
+  Along w c sum = (S : Scene i h b k) → Memo (S .stage) old → (g : ℕ → ℕ) (f : Trees) (lev : ℕ) → lev ≤ d → HereAll S lev a g 0 f → z ≡ a + sizes f
+      → Memo (S .stage) w × (e : Trees) × (x : ℕ) × HereAll S lev c g x e × (z ≡ c + sizes e) × (y : ℕ) × (sum ≡ y % 2 ^ 64) × (gainedAll S g 0 f ≡ y + gainedAll S g x e)
 
   pub along-start : Along old a 0
   along-start S m g f lev le r q = (m, f, 0, r, q, 0, refl, sym (NatL.zero-add (gainedAll S g 0 f)))
@@ -104,8 +105,8 @@ module _ (i d h b k a z : ℕ) (old : List ℕ) where
   unfolding size gain
   along-more w new c sum v s p h l o n q S m g f lev le r e = at (h S m g f lev le r e)
     where
-      at : Noted (S .stage) w × (e : Trees) × (x : ℕ) × HereAll S lev c g x e × (z ≡ c + sizes e) × (y : ℕ) × (sum ≡ y % 2 ^ 64) × (gainedAll S g 0 f ≡ y + gainedAll S g x e)
-          → Noted (S .stage) new × (e : Trees) × (x : ℕ) × HereAll S lev p g x e × (z ≡ p + sizes e) × (y : ℕ) × (s ≡ y % 2 ^ 64) × (gainedAll S g 0 f ≡ y + gainedAll S g x e)
+      at : Memo (S .stage) w × (e : Trees) × (x : ℕ) × HereAll S lev c g x e × (z ≡ c + sizes e) × (y : ℕ) × (sum ≡ y % 2 ^ 64) × (gainedAll S g 0 f ≡ y + gainedAll S g x e)
+          → Memo (S .stage) new × (e : Trees) × (x : ℕ) × HereAll S lev p g x e × (z ≡ p + sizes e) × (y : ℕ) × (s ≡ y % 2 ^ 64) × (gainedAll S g 0 f ≡ y + gainedAll S g x e)
       at (A, nil, x, B, C, y, E, F) = absurd (omega arith)
       at (A, cons t u, x, B, C, y, E, F) =
           let G = o S A t (g x) lev le (first S lev c g x t u B) in
@@ -124,8 +125,8 @@ module _ (i d h b k a z : ℕ) (old : List ℕ) where
   unfolding size gain
   along-end w c sum h l S m g f lev le r e = at (h S m g f lev le r e)
     where
-      at : Noted (S .stage) w × (e : Trees) × (x : ℕ) × HereAll S lev c g x e × (z ≡ c + sizes e) × (y : ℕ) × (sum ≡ y % 2 ^ 64) × (gainedAll S g 0 f ≡ y + gainedAll S g x e)
-          → Noted (S .stage) w × (sum ≡ gainedAll S g 0 f % 2 ^ 64)
+      at : Memo (S .stage) w × (e : Trees) × (x : ℕ) × HereAll S lev c g x e × (z ≡ c + sizes e) × (y : ℕ) × (sum ≡ y % 2 ^ 64) × (gainedAll S g 0 f ≡ y + gainedAll S g x e)
+          → Memo (S .stage) w × (sum ≡ gainedAll S g 0 f % 2 ^ 64)
       at (A, nil, x, B, C, y, E, F) = (A, E ∙ ap (λ j. j % 2 ^ 64) (sym (F ∙ NatL.add-zero y)))
       at (A, cons t u, x, B, C, y, E, F) = absurd (omega (arith, size-some t))
 
@@ -134,8 +135,8 @@ module _ (i d h b k a z : ℕ) (old : List ℕ) where
   unfolding size
   along-stuck w new c sum v s p h l o q y S m g f lev le r e = at (h S m g f lev le r e)
     where
-      at : Noted (S .stage) w × (e : Trees) × (x : ℕ) × HereAll S lev c g x e × (z ≡ c + sizes e) × (y : ℕ) × (sum ≡ y % 2 ^ 64) × (gainedAll S g 0 f ≡ y + gainedAll S g x e)
-          → Noted (S .stage) new × (s ≡ gainedAll S g 0 f % 2 ^ 64)
+      at : Memo (S .stage) w × (e : Trees) × (x : ℕ) × HereAll S lev c g x e × (z ≡ c + sizes e) × (y : ℕ) × (sum ≡ y % 2 ^ 64) × (gainedAll S g 0 f ≡ y + gainedAll S g x e)
+          → Memo (S .stage) new × (s ≡ gainedAll S g 0 f % 2 ^ 64)
       at (A, nil, x, B, C, y, E, F) = absurd (omega arith)
       at (A, cons t u, x, B, C, j, E, F) =
           let G = o S A t (g x) lev le (first S lev c g x t u B) in
@@ -159,7 +160,7 @@ choice-few {i} S y n g =
     let e : S .stage .choice y ≡ topmost (behindAction S y) (pred n) = known-of (S .stage) (λ j y n. j ≡ i → S .stage .choice y ≡ topmost (behindAction S y) (pred n)) (S .decided) i y n g refl in
     omega (arith, e, topmost-few (behindAction S y) (pred n), few .0)
 
-module _ (i d h b k a x : ℕ) (old mid new : List ℕ) (c at r : ℕ) (q : Child mid a c at) (v : Valued i d h b k at mid new r) (S : Scene i h b k) (m : Noted (S .stage) mid) (y : Key) (u lev : ℕ) (le : lev ≤ d) (f : Trees)
+module _ (i d h b k a x : ℕ) (old mid new : List ℕ) (c at r : ℕ) (q : Child mid a c at) (v : Valued i d h b k at mid new r) (S : Scene i h b k) (m : Memo (S .stage) mid) (y : Key) (u lev : ℕ) (le : lev ≤ d) (f : Trees)
     (g : Here S (suc lev) a u (decide i y f)) (e : c ≡ S .stage .choice y) where
   abbrev to : ℕ → ℕ
   to = given (S .parts) (S .strategy) i u i y
@@ -168,11 +169,11 @@ module _ (i d h b k a x : ℕ) (old mid new : List ℕ) (c at r : ℕ) (q : Chil
   unfolding Every
   inside = omega (arith, choice-few S y (fan f) (g .stands .known .0))
 
-  child-value : Noted (S .stage) new × (r ≡ gainPick (S .parts) (S .strategy) i (S .stage .choice) to 0 f c % 2 ^ 64)
-  child-value = let one : Noted (S .stage) new × (r ≡ gained S (to c) (nth f c) % 2 ^ 64) = v S m (nth f c) (to c) lev le (child-at (descent S) mid m lev a u i y f g c at q inside) in
+  child-value : Memo (S .stage) new × (r ≡ gainPick (S .parts) (S .strategy) i (S .stage .choice) to 0 f c % 2 ^ 64)
+  child-value = let one : Memo (S .stage) new × (r ≡ gained S (to c) (nth f c) % 2 ^ 64) = v S m (nth f c) (to c) lev le (child-at (descent S) mid m lev a u i y f g c at q inside) in
       (one .0, one .1 ∙ ap (λ j. j % 2 ^ 64) (sym (pick-gain S to f c inside)))
 
-  own-value : Noted (S .stage) new × (r ≡ gained S u (decide i y f) % 2 ^ 64)
+  own-value : Memo (S .stage) new × (r ≡ gained S u (decide i y f) % 2 ^ 64)
   unfolding gain
   own-value = (
     child-value .0,
@@ -183,7 +184,7 @@ module _ (i d h b k a x : ℕ) (old mid new : List ℕ) (c at r : ℕ) (q : Chil
 pub own-is : (i d h b k a x : ℕ) (old mid new : List ℕ) (c at r : ℕ) → Chosen i d h b k (setOf x) (actionsOf x) old mid c → Child mid a c at → Valued i d h b k at mid new r → ValuedOwn i d h b k a x old new r
 unfolding Every Levels
 own-is i d h b k a x old mid new c at r p q v S m y u z f le e n g =
-    let o : Noted (S .stage) mid × (c ≡ S .stage .choice y) = p S m y (subst (Known (S .stage) i y) (sym n) (g .stands .known .0)) e (NatL.le-trans (NatL.le-of-eq (g .stands .level .1)) le) in
+    let o : Memo (S .stage) mid × (c ≡ S .stage .choice y) = p S m y (subst (Known (S .stage) i y) (sym n) (g .stands .known .0)) e (NatL.le-trans (NatL.le-of-eq (g .stands .level .1)) le) in
     own-value i d h b k a x old mid new c at r q v S (o .0) y u z le f g (o .1)
 
 -- ---- numbers in range

@@ -22,8 +22,8 @@ use units::UNITS;
 ghost use mathlib.Core.Path.{_≡_};
 ghost use Prim.Native.Nat.{_+_, _*_, _%_, _<_};
 ghost use lib.ListN.{getD};
-ghost use Rattle.arena.specs.Words.{byteOf};
-ghost use Rattle.units_values.specs.Valued.{Walkable, Valued, ValuedAll, ValuedOwn, Totalled, Chosen};
+ghost use Rattle.arena.specs.internal.Words.{byteOf};
+ghost use Rattle.units_values.specs.internal.Valued.{Walkable, Valued, ValuedAll, ValuedOwn, Totalled, Chosen};
 
 // The lifted value of the end at place a with word x.
 fn ended(w: &[u64], a: usize, x: u64, seat: usize, units: usize) -> u64

@@ -17,7 +17,7 @@ use Rattle.games.specs.Games.{treeOf, mostParts}
 use Rattle.games.specs.Known.{Known}
 use Rattle.games.proofs.Known.{kuhn-two, kuhn-six, leduc-two}
 use Rattle.arena_store.proofs.Shaped.{games-legible}
-use Rattle.units_worths.specs.Facts.{Fits, Units-fit, Games-readable}
+use Rattle.units_worths.specs.internal.Facts.{Fits, Units-fit, Games-readable}
 use Rattle.units_worths.proofs.Entries.{entries-few}
 
 -- ---- the units of Kuhn's root

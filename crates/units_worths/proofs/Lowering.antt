@@ -11,16 +11,18 @@ use lib.ListN.{getD, set, replicate}
 use borrow.Author.Tests.{lt-ltb, le-ltb, ltb-true}
 use Rattle.prelude.proofs.Lists.{filled-none, filled-more, places-same}
 use Rattle.prelude.proofs.Tests.{Tested, holds, fails, tested}
-use Rattle.game_tree.specs.Tree.{Tree, end, chance, decide, Trees, nil, cons, Pays, PaysAll}
+use Rattle.game_tree.specs.Tree.{Tree, end, chance, decide, Trees, nil, cons}
+use Rattle.game_tree.specs.Conditions.{Pays, PaysAll}
 use Rattle.game_tree.specs.Table.{Table, strategyOf, tableWorth}
 use Rattle.game_tree.proofs.TableTheorem.{table-units-add-up, table-bounds}
 use Rattle.games.specs.declared.Game.{Game}
-use Rattle.games.specs.Games.{isKuhn, treeOf, C, m, largestPayoff}
-use Rattle.games.specs.Facts.{rootUnits}
+use Rattle.games.specs.Games.{isKuhn, treeOf, C, m, rootUnits}
+use Rattle.games.specs.Facts.{largestPayoff}
 use Rattle.games.proofs.Facts.{games-fit}
-use Rattle.units.specs.Lifted.{lifted}
+use Rattle.units.specs.internal.Lifted.{lifted}
 use Rattle.units.proofs.Lifting.{lifted-is}
-use Rattle.units_worths.specs.Worths.{worthsOf, loweredOf}
+use Rattle.units_worths.specs.Worths.{worthsOf}
+use Rattle.units_worths.specs.internal.Worths.{loweredOf}
 use Rattle.tree_refusals.specs.Accepted.{AcceptedTable}
 use Rattle.arena_store.proofs.Shaped.{games-shaped}
 use Rattle.units_worths.proofs.Facts.{units-fit}

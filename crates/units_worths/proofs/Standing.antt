@@ -5,23 +5,24 @@ use Prim.Native.Nat.{ℕ, _+_, _*_, _%_, _^_, _≤_, _<_}
 use native.Mathlib.Nat as NatL
 use native.Mathlib.Omega.{arith}
 use lib.ListN.{length, getD}
-use Rattle.game_tree.specs.Tree.{Tree, Every}
+use Rattle.game_tree.specs.Tree.{Tree}
+use Rattle.game_tree.specs.Conditions.{Every}
 use Rattle.game_tree.specs.Sets.{size, entries, firstEntry}
 use Rattle.game_tree.specs.Table.{Table, strategyOf}
 use Rattle.games.specs.declared.Game.{Game}
-use Rattle.games.specs.Games.{treeOf}
-use Rattle.games.specs.Facts.{nodesOf, entriesOf, rootUnits}
+use Rattle.games.specs.Games.{treeOf, rootUnits}
+use Rattle.games.specs.Facts.{nodesOf, entriesOf}
 use Rattle.games.proofs.Facts.{nodes-are, entries-are}
-use Rattle.arena.specs.Index.{laterIn}
-use Rattle.units.specs.Readable.{Readable}
-use Rattle.units.specs.Lifted.{lifted}
-use Rattle.units.specs.Sums.{Summed}
-use Rattle.units_collect.specs.Collected.{Storable, Collected}
-use Rattle.units_collect.specs.Ends.{endGains}
+use Rattle.arena.specs.internal.Index.{laterIn}
+use Rattle.units.specs.internal.Readable.{Readable}
+use Rattle.units.specs.internal.Lifted.{lifted}
+use Rattle.units.specs.internal.Sums.{Summed}
+use Rattle.units_collect.specs.internal.Collected.{Storable, Collected}
+use Rattle.units_collect.specs.internal.Ends.{endGains}
 use Rattle.units_collect.proofs.Summing.{gains-lifted}
 use Rattle.tree_refusals.specs.Accepted.{AcceptedTable}
-use Rattle.arena_store.specs.Stored.{headsOf, Stored}
-use Rattle.arena_store.specs.Places.{reachAt}
+use Rattle.arena_store.specs.internal.Stored.{headsOf, Stored}
+use Rattle.arena_store.specs.internal.Places.{reachAt}
 use Rattle.arena_store.proofs.Shaped.{games-shaped, some-actions}
 use Rattle.arena_store.proofs.Room.{Roomy, roomy}
 use Rattle.arena_store.proofs.Stored.{indexed-same}

@@ -1,3 +1,3 @@
--- Whole units by game number (document 01, "Whole units"): the worths of a table. Facts serves private contracts.
+-- Whole units by game number (document 01, "Whole units"): the worths of a table.
 pub mod Worths
-pub mod Facts
+pub mod internal

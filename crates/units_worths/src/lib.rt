@@ -4,8 +4,7 @@ pub mod worths;
 use games::Game;
 ghost use mathlib.Core.Path.{_≡_};
 ghost use Prim.Native.Nat.{_*_, _^_, _≤_, _<_};
-ghost use Rattle.games.specs.Games.{mostParts};
-ghost use Rattle.games.specs.Facts.{rootUnits};
+ghost use Rattle.games.specs.Games.{mostParts, rootUnits};
 ghost use Rattle.games.specs.Known.{Known};
 
 // c × d^m, which is below 2^57.

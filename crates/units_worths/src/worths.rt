@@ -11,9 +11,10 @@ ghost use Prim.Native.Nat.{ℕ, _*_, _≤_, _<_};
 ghost use lib.IntN.{pos, _-ℤ_};
 ghost use lib.ListN.{length, getD};
 ghost use Rattle.games.specs.Facts.{nodesOf};
-ghost use Rattle.arena_store.specs.Stored.{Stored};
+ghost use Rattle.arena_store.specs.internal.Stored.{Stored};
 ghost use Rattle.tree_refusals.specs.Accepted.{AcceptedTable};
-ghost use Rattle.units_worths.specs.Worths.{worthsOf, loweredOf};
+ghost use Rattle.units_worths.specs.Worths.{worthsOf};
+ghost use Rattle.units_worths.specs.internal.Worths.{loweredOf};
 
 // No actor's number: its field holds 0 to 7.
 const NOBODY: usize = 8;

@@ -3,7 +3,7 @@ use mathlib.Core.Path.{sym, ap, _∙_}
 use denote.Ref.{now}
 use Prim.Native.Nat.{_+_}
 use lib.ListN.{getD}
-use Rattle.arena.specs.Words.{kindOf, setOf}
+use Rattle.arena.specs.internal.Words.{kindOf, setOf}
 use Rattle.arena_index.proofs.Steps.{linked-kind, linked-unknown, linked-by}
 use Rattle.arena_index.proofs.link_node.Statement.{statement}
 use Rattle.arena_index.proofs.link_node.Tie as tie

@@ -4,8 +4,7 @@ use native.Mathlib.Omega.{arith}
 use mathlib.Core.Path.{_≡_, sym, _∙_, subst}
 use mir.Val.{toZ, ofZ}
 use mir.Syntax.{w64}
-use Rattle.games.specs.Games.{gameOf, treeOf}
-use Rattle.games.specs.Facts.{rootUnits}
+use Rattle.games.specs.Games.{gameOf, treeOf, rootUnits}
 use Rattle.game_tree.specs.Table.{replyTable}
 use Rattle.arena_store.proofs.Memory.{memory-kept, front-fits, front-length, front-long, rest-kept}
 use Rattle.units_best.specs.Best.{BestReply}

@@ -6,8 +6,7 @@ use mir.Val.{toZ, ofZ}
 use mir.Syntax.{w64}
 use Rattle.units_best.specs.Best.{BestReply}
 use Rattle.game_tree.specs.Table.{replyTable}
-use Rattle.games.specs.Games.{treeOf}
-use Rattle.games.specs.Facts.{rootUnits}
+use Rattle.games.specs.Games.{treeOf, rootUnits}
 use borrow.Author.Needs.{needs}
 use Rattle.best_reply.proofs.evaluate.Statement.{statement}
 use Rattle.best_reply.proofs.evaluate.Tie as tie

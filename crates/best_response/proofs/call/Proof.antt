@@ -1,7 +1,7 @@
 -- The values from the tree that is stored in the words for it. Assumes nothing.
 use native.Mathlib.Omega.{arith}
 use Rattle.arena_store.proofs.Memory.{memory-kept, front-fits, front-length, front-long, rest-kept}
-use Rattle.best_response.specs.Asked.{countOf, valuesOf}
+use Rattle.best_response.specs.internal.Asked.{countOf, valuesOf}
 use Rattle.best_response.proofs.Outcome.{passed-by, not-valued, valued}
 use borrow.Author.Needs.{needs}
 use Rattle.best_response.proofs.call.Statement.{statement}

@@ -3,7 +3,7 @@ use mathlib.Core.Path.{sym, ap, _∙_, subst}
 use denote.Ref.{now}
 use native.Mathlib.Omega.{arith}
 use Rattle.best_response.specs.Calls.{single}
-use Rattle.best_response.specs.Asked.{SeatOf, valuesOf}
+use Rattle.best_response.specs.internal.Asked.{SeatOf, valuesOf}
 use borrow.Author.Needs.{needs}
 use Rattle.best_response.proofs.evaluate.Statement.{statement}
 use Rattle.best_response.proofs.evaluate.Tie as tie

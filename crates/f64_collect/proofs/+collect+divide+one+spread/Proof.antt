@@ -4,7 +4,7 @@ use denote.Ref.{now}
 use mathlib.Core.Path.{_≡_, sym, _∙_}
 use native.Mathlib.Omega.{arith}
 use borrow.Author.Needs.{needs}
-use Rattle.f64_collect.specs.Reached.{Storable, Each, Divided}
+use Rattle.f64_collect.specs.internal.Reached.{Storable, Each, Divided}
 use lib.Ieee.{nan}
 use Rattle.prelude.proofs.Parts.{part-length, part-at}
 use Rattle.f64_collect.proofs.Storing as storing

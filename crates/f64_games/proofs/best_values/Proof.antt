@@ -5,7 +5,7 @@ use denote.Ref.{now}
 use lib.ListN.{length}
 use native.Mathlib.Omega.{arith}
 use borrow.Author.Needs.{needs}
-use Rattle.arena_store.specs.Stored.{Stored}
+use Rattle.arena_store.specs.internal.Stored.{Stored}
 use Rattle.f64_games.specs.Values.{bestOf}
 use Rattle.f64_games.proofs.Seats.{few-seats, front, front-none, front-more, all-bests}
 use Rattle.f64_games.proofs.best_values.Statement.{statement}

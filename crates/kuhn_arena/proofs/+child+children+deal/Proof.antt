@@ -6,8 +6,8 @@ use mathlib.Core.Path.{_≡_, sym, _∙_, subst}
 use Prim.Native.Nat.{_+_, _*_, _-_, _≤_}
 use native.Mathlib.Omega.{arith}
 use borrow.Author.Needs.{needs}
-use Rattle.arena.specs.Built.{Row}
-use Rattle.kuhn_arena_layout.specs.Layout.{codeOf, childrenTo}
+use Rattle.arena.specs.internal.Built.{Row}
+use Rattle.kuhn_arena_layout.specs.internal.Layout.{codeOf, childrenTo}
 use Rattle.kuhn_arena_layout.proofs.Deals as deals
 use Rattle.arena.proofs.Building as building
 use Rattle.kuhn_arena.proofs.child.Reads as child

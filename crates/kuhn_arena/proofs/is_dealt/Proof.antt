@@ -6,7 +6,7 @@ use borrow.Author.Tests.{eq-eqb, ne-eqb}
 use lib.Dec.{eqb}
 use Rattle.prelude.specs.Finite.{some}
 use Rattle.prelude.proofs.Tests.{some-none, none-more, none-passed, some-here}
-use Rattle.kuhn_arena_layout.specs.Layout.{cardAt}
+use Rattle.kuhn_arena_layout.specs.internal.Layout.{cardAt}
 use Rattle.kuhn_arena_layout.proofs.Numbers.{cards-have}
 use Rattle.kuhn_arena.proofs.is_dealt.Statement.{statement}
 use Rattle.kuhn_arena.proofs.is_dealt.Tie as tie

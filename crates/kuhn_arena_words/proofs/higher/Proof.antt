@@ -3,7 +3,7 @@ use borrow.Author.Tests.{lt-ltb, le-ltb}
 use mathlib.Core.Bool.{cond}
 use mathlib.Core.Path.{sym, ap}
 use native.Mathlib.Omega.{arith}
-use Rattle.kuhn_arena_layout.specs.Layout.{cardAt}
+use Rattle.kuhn_arena_layout.specs.internal.Layout.{cardAt}
 use Rattle.kuhn_arena_words.proofs.higher.Statement.{statement}
 use Rattle.kuhn_arena_words.proofs.higher.Tie as tie
 

@@ -2,7 +2,7 @@ use Prim.Native.Nat.{_≤_, _-_}
 use borrow.Author.Needs.{needs}
 use mathlib.Core.Path.{subst}
 use native.Mathlib.Omega.{arith}
-use Rattle.kuhn_arena_layout.specs.Layout.{Top}
+use Rattle.kuhn_arena_layout.specs.internal.Layout.{Top}
 use Rattle.kuhn_arena_layout.proofs.Numbers.{top-one, top-more}
 use Rattle.kuhn_arena_words.proofs.highest.Statement.{statement}
 use Rattle.kuhn_arena_words.proofs.highest.Tie as tie

@@ -2,7 +2,7 @@
 use Prim.Native.Nat.{_≤_, _-_}
 use borrow.Author.Needs.{needs}
 use lib.ListN.{take}
-use Rattle.kuhn_rules.specs.Highest.{Highest}
+use Rattle.kuhn_rules.specs.internal.Highest.{Highest}
 use Rattle.kuhn_rules.proofs.Winner.{highest-none, highest-more, highest-all}
 use Rattle.kuhn_money.proofs.highest.Statement.{statement}
 use Rattle.kuhn_money.proofs.highest.Tie as tie

@@ -7,8 +7,8 @@ use lib.Dec.{eqb}
 use borrow.Author.Needs.{needs}
 use borrow.Author.Tests.{eq-eqb, ne-eqb}
 use Rattle.game_tree.specs.Sets.{size}
-use Rattle.arena.specs.Built.{Row}
-use Rattle.leduc_arena_layout.specs.Layout.{plain, rowTo, dealTree}
+use Rattle.arena.specs.internal.Built.{Row}
+use Rattle.leduc_arena_layout.specs.internal.Layout.{plain, rowTo, dealTree}
 use Rattle.leduc_arena_layout.proofs.Laying.{place-fits, first-room, row-fits, lays-chance, passes, keeps, kept-room, row-start, row-done, row-on, child-room, none-left, some-left}
 use Prim.Native.Nat.{ℕ, _+_, _*_, _-_, _≤_, _<_}
 use borrow.Fn.Kinds.{In}

@@ -11,7 +11,7 @@ use borrow.Fn.PlainCycle.{Measures, is, falls, and}
 use Rattle.leduc_arena_round2.proofs.raised.Reads as raised
 use Rattle.leduc_arena_round2.proofs.raised.Kinds as raised-kinds
 use Rattle.leduc_arena_round2.proofs.+raised.Lts-raised as raised-lts
-use Rattle.leduc_arena_round2.proofs.words.choose.Reads as choose-reads
+use Rattle.leduc_arena_round2.proofs.words.write_decision.Reads as write-decision-reads
 use Rattle.leduc_arena_round2.proofs.words.end.Reads as end-reads
 use Rattle.leduc_arena_round2.proofs.+raised.{statement}
 use Rattle.leduc_arena_round2.proofs.+raised.Tie.{close}
@@ -26,7 +26,7 @@ abbrev raised-below : ℕ → In 1 raised-kinds.ps
 raised-below t = and 1 raised-kinds.ps (falls 1 raised-kinds.ps _<_ μ-raised t) raised.Pre
 
 abbrev raised-callees : ℕ → raised-lts.Claims
-raised-callees t = (end-reads.Asked, end-reads.Learnt, choose-reads.Asked, choose-reads.Learnt, raised-below t, raised.Post)
+raised-callees t = (end-reads.Asked, end-reads.Learnt, write-decision-reads.Asked, write-decision-reads.Learnt, raised-below t, raised.Post)
 
 raised-add-more : (t : ℕ) → raised-lts.Need-add-more (raised-callees t) (raised-at t) raised.Post
 raised-add-more t c = search needs
@@ -45,9 +45,9 @@ raised-end-requires-2 : (t : ℕ) → raised-lts.Need-end-requires-2 (raised-cal
 raised-end-requires-2 t c κs = let s1 = c .before .before .before in let s0 = s1 .before .before .before in let a = s0 .args in
     (s0.pre.1.0.2, second-few a.n a.paid a.left s0.pre.1.0.4 s0.pre.1.0.5 .2, call-room _ _ _ _ _ _ _ _ _ s1.end.ensures a.left s0.pre.1.1)
 
-raised-choose-requires : (t : ℕ) → raised-lts.Need-choose-requires (raised-callees t) (raised-at t) raised.Post
+raised-write-decision-requires : (t : ℕ) → raised-lts.Need-write-decision-requires (raised-callees t) (raised-at t) raised.Post
 unfolding IsLe
-raised-choose-requires t c κs = let s2 = c .before .before .before .before in let s1 = s2 .before .before .before .before in
+raised-write-decision-requires t c κs = let s2 = c .before .before .before .before in let s1 = s2 .before .before .before .before in
     let s0 = s1 .before .before .before in let a = s0 .args in (
       (s0.pre.1.0.3, le-by-compare 3 4 tt, s0.pre.1.0.0, s0.pre.1.0.1, second-few a.n a.paid a.left s0.pre.1.0.4 s0.pre.1.0.5 .0),
       last-fits _ _ _ _ _ _ _ _ _ s1.end.ensures s2.end2.ensures a.left c.before.if1.taken s0.pre.1.1,
@@ -60,7 +60,7 @@ raised-returns : (t : ℕ) → raised-lts.Need-returns (raised-callees t) (raise
 raised-returns t c = let s3 = c .before .before .before .before in let s2 = s3 .before .before .before in
     let s1 = s2 .before .before .before .before in let s0 = s1 .before .before .before in
     lays-last _ _ _ _ _ _ _ _ _ s1.end.ensures s2.end2.ensures s0.args.left s3.if1.taken s0.pre.1.1 (sym (NatL.add-zero s0.args.n))
-    c.before.before.choose.ensures
+    c.before.before.write-decision.ensures
 
 raised-sub-raised : (t : ℕ) → raised-lts.Need-sub-raised (raised-callees t) (raised-at t) raised.Post
 raised-sub-raised t c = search needs
@@ -85,9 +85,9 @@ raised-raised-requires t c κs = let s3 = c .before in let s2 = s3 .before .befo
       ),
     )
 
-raised-choose-requires-2 : (t : ℕ) → raised-lts.Need-choose-requires-2 (raised-callees t) (raised-at t) raised.Post
+raised-write-decision-requires-2 : (t : ℕ) → raised-lts.Need-write-decision-requires-2 (raised-callees t) (raised-at t) raised.Post
 unfolding IsLe
-raised-choose-requires-2 t c κs = let s3 = c .before .before .before in let s2 = s3 .before .before .before .before .before in
+raised-write-decision-requires-2 t c κs = let s3 = c .before .before .before in let s2 = s3 .before .before .before .before .before in
     let s1 = s2 .before .before .before .before in let s0 = s1 .before .before .before in let a = s0 .args in (
       (s0.pre.1.0.3, le-by-compare 4 4 tt, s0.pre.1.0.0, s0.pre.1.0.1, second-few a.n a.paid a.left s0.pre.1.0.4 s0.pre.1.0.5 .0),
       again-fits _ _ _ _ _ _ _ _ _ s1.end.ensures s2.end2.ensures a.left (omega (arith, s3.before.before.if1.left)) s0.pre.1.1 s3.raised.ensures,
@@ -100,12 +100,12 @@ raised-returns-2 : (t : ℕ) → raised-lts.Need-returns-2 (raised-callees t) (r
 raised-returns-2 t c = let s3 = c .before .before .before .before .before .before in let s2 = s3 .before .before .before .before .before in
     let s1 = s2 .before .before .before .before in let s0 = s1 .before .before .before in
     lays-again _ _ _ _ _ _ _ _ _ s1.end.ensures s2.end2.ensures s0.args.left (omega (arith, s3.before.before.if1.left)) s0.pre.1.1 s3.raised.ensures
-    (sym (NatL.add-zero s0.args.n)) c.before.before.choose2.ensures
+    (sym (NatL.add-zero s0.args.n)) c.before.before.write-decision2.ensures
 
 pub +raised-spec : {M : Type 1} → statement M
 +raised-spec =
     close μ-raised
     λ t. raised-lts.spec (raised-callees t) (raised-at t) raised.Post (raised-add-more t) (raised-add-end t) (raised-mul-end t) (raised-end-requires
-    t) (raised-end-requires-2 t) (raised-choose-requires t) (raised-same-length t) (raised-returns t) (raised-sub-raised t) (raised-mul-raised t)
-    (raised-add-raised t) (raised-sub-raised-2 t) (raised-raised-requires t) (raised-choose-requires-2 t) (raised-same-length-2 t) (raised-returns-2
+    t) (raised-end-requires-2 t) (raised-write-decision-requires t) (raised-same-length t) (raised-returns t) (raised-sub-raised t) (raised-mul-raised t)
+    (raised-add-raised t) (raised-sub-raised-2 t) (raised-raised-requires t) (raised-write-decision-requires-2 t) (raised-same-length-2 t) (raised-returns-2
     t)

@@ -2,7 +2,7 @@
 use Prim.Native.Nat.{_-_}
 use native.Mathlib.Bridge.{le-by-compare, IsLe}
 use borrow.Author.Needs.{needs}
-use Rattle.leduc_arena_layout.specs.Layout.{roundTree}
+use Rattle.leduc_arena_layout.specs.internal.Layout.{roundTree}
 use Rattle.leduc_arena_layout.proofs.Laying.{place-fits, room-one, room-two, two-fit, lays-two, start-few}
 use Rattle.leduc_arena_round2.proofs.round.Statement.{statement}
 use Rattle.leduc_arena_round2.proofs.round.Tie as tie
@@ -21,9 +21,9 @@ raised-requires c κs = let s1 = c .before .before .before in let s0 = s1 .befor
   room-two _ _ _ _ _ s1.called.ensures s0.pre.1,
 )
 
-choose-requires : tie.Need-choose-requires
+write-decision-requires : tie.Need-write-decision-requires
 unfolding roundTree IsLe
-choose-requires c κs = let s2 = c .before .before .before in let s1 = s2 .before .before .before .before in let s0 = s1 .before .before .before in
+write-decision-requires c κs = let s2 = c .before .before .before in let s1 = s2 .before .before .before .before in let s0 = s1 .before .before .before in
     ((le-by-compare 1 2 tt, le-by-compare 3 4 tt, s0.pre.0.0, s0.pre.0.1, le-by-compare 0 4656 tt), two-fit _ _ s1.called.ensures s2.raised.ensures s0.pre.1)
 
 same-length : tie.Need-same-length
@@ -32,7 +32,7 @@ same-length c = search needs
 returns : tie.Need-returns
 unfolding roundTree
 returns c = let s1 = c .before .before .before .before .before .before in let s0 = s1 .before .before .before .before in
-    lays-two _ _ s0.called.ensures s1.raised.ensures s0.before.before.before.pre.1 c.before.before.choose.ensures
+    lays-two _ _ s0.called.ensures s1.raised.ensures s0.before.before.before.pre.1 c.before.before.write-decision.ensures
 
 pub round-spec : {M : Type 1} → statement M
-round-spec = tie.close (tie.spec add-called called-requires raised-requires choose-requires same-length returns)
+round-spec = tie.close (tie.spec add-called called-requires raised-requires write-decision-requires same-length returns)

@@ -2,7 +2,7 @@
 use mathlib.Core.Path.{refl}
 use native.Mathlib.Omega.{arith}
 use borrow.Author.Tests.{eq-eqb, ne-eqb, lt-ltb, le-ltb}
-use Rattle.leduc_arena_layout.specs.Layout.{showdownFor}
+use Rattle.leduc_arena_layout.specs.internal.Layout.{showdownFor}
 use Rattle.leduc_arena_round2.proofs.showdown.Statement.{statement}
 use Rattle.leduc_arena_round2.proofs.showdown.Tie as tie
 

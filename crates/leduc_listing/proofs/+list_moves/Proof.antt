@@ -4,7 +4,7 @@ use native.Mathlib.Omega.{arith}
 use borrow.Author.Needs.{needs}
 use borrow.Author.Tests.{not-true, not-false}
 use Rattle.listing_records.proofs.Bytes.{wrote-as, wrote-nothing}
-use Rattle.leduc_listing_positions.specs.Spots.{placed}
+use Rattle.leduc_listing_positions.specs.internal.Spots.{placed}
 use Rattle.leduc_listing.proofs.Steps.{moves-none, moves-spent, moves-passed, fewer-moves, moves-length, wrote-moves}
 use Prim.Native.Nat.{ℕ, _+_, _*_, _<_}
 use borrow.Fn.Kinds.{In}

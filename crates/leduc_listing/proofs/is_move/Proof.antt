@@ -3,8 +3,8 @@ use mathlib.Core.Path.{sym, ap, _∙_}
 use mathlib.Core.Bool.{cond}
 use Rattle.leduc_betting.specs.Cards.{seen, left}
 use Rattle.leduc_betting.specs.Betting.{may, in-play}
-use Rattle.leduc_listing_positions.specs.Spots.{placed}
-use Rattle.leduc_listing.specs.Walk.{isMove}
+use Rattle.leduc_listing_positions.specs.internal.Spots.{placed}
+use Rattle.leduc_listing.specs.internal.Walk.{isMove}
 use borrow.Author.Needs.{needs}
 use Rattle.leduc_listing.proofs.is_move.Statement.{statement}
 use Rattle.leduc_listing.proofs.is_move.Tie as tie

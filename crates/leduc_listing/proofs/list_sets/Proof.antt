@@ -5,7 +5,7 @@ use native.Mathlib.Omega.{arith}
 use lib.ListN.{length}
 use lib.Seq.{sets}
 use Rattle.leduc_tree.specs.Tree.{start}
-use Rattle.leduc_listing.specs.Walk.{nextRecords}
+use Rattle.leduc_listing.specs.internal.Walk.{nextRecords}
 use Rattle.leduc_listing.proofs.Steps.{from-start}
 use Rattle.leduc_listing.proofs.list_sets.Statement.{statement}
 use Rattle.leduc_listing.proofs.list_sets.Tie as tie

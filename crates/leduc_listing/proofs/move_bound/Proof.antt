@@ -4,8 +4,8 @@ use mathlib.Core.Bool.{cond}
 use Prim.Native.Nat.{_+_}
 use native.Mathlib.Omega.{arith}
 use Rattle.leduc_tree.specs.Tree.{ended}
-use Rattle.leduc_listing_positions.specs.Spots.{placed}
-use Rattle.leduc_listing.specs.Walk.{moveBound}
+use Rattle.leduc_listing_positions.specs.internal.Spots.{placed}
+use Rattle.leduc_listing.specs.internal.Walk.{moveBound}
 use borrow.Author.Needs.{needs}
 use Rattle.leduc_listing.proofs.move_bound.Statement.{statement}
 use Rattle.leduc_listing.proofs.move_bound.Tie as tie

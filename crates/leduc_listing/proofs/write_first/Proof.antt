@@ -5,7 +5,7 @@ use lib.ListN.{length, take}
 use borrow.Author.Tests.{not-true, not-false}
 use Rattle.listing_records.specs.Listing.{padded}
 use Rattle.listing_records.proofs.Bytes.{wrote-nothing}
-use Rattle.leduc_listing_positions.specs.Spots.{placed}
+use Rattle.leduc_listing_positions.specs.internal.Spots.{placed}
 use Rattle.leduc_listing_positions.proofs.Spots.{two-dealt, key-count}
 use Rattle.leduc_listing.proofs.Steps.{node-idle, node-later, node-length, wrote-node}
 use borrow.Author.Needs.{needs}

@@ -5,7 +5,7 @@ use native.Mathlib.Omega.{arith}
 use lib.ListN.{length}
 use Rattle.leduc_betting.specs.Betting.{in-play, may}
 use Rattle.leduc_betting.proofs.Deals.{front-length}
-use Rattle.leduc_listing_positions.specs.Spots.{placed}
+use Rattle.leduc_listing_positions.specs.internal.Spots.{placed}
 use borrow.Author.Needs.{needs}
 use Rattle.leduc_listing_positions.proofs.action_legal.Statement.{statement}
 use Rattle.leduc_listing_positions.proofs.action_legal.Tie as tie

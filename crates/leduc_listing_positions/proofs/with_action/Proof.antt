@@ -3,7 +3,7 @@ use mathlib.Core.Path.{_≡_, refl, sym, _∙_}
 use native.Mathlib.Omega.{arith}
 use lib.ListN.{length}
 use Rattle.leduc_betting.proofs.Deals.{front-length}
-use Rattle.leduc_listing_positions.specs.Spots.{placed}
+use Rattle.leduc_listing_positions.specs.internal.Spots.{placed}
 use Rattle.leduc_listing_positions.proofs.Spots.{action-in-second, action-in-first}
 use borrow.Author.Needs.{needs}
 use Rattle.leduc_listing_positions.proofs.with_action.Statement.{statement}

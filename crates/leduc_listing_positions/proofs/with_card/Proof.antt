@@ -4,7 +4,7 @@ use native.Mathlib.Omega.{arith}
 use Prim.Native.Nat.{_≤_}
 use lib.ListN.{length}
 use lib.Seq.{length-take-le}
-use Rattle.leduc_listing_positions.specs.Spots.{placed}
+use Rattle.leduc_listing_positions.specs.internal.Spots.{placed}
 use Rattle.leduc_listing_positions.proofs.Spots.{card-to-seat, card-for-all}
 use borrow.Author.Needs.{needs}
 use Rattle.leduc_listing_positions.proofs.with_card.Statement.{statement}

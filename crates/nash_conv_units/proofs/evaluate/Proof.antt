@@ -6,9 +6,8 @@ use lib.IntN.{pos}
 use lib.ListN.{length}
 use denote.Ref.{now}
 use Rattle.game_tree.specs.Table.{nashConv}
-use Rattle.games.specs.Games.{treeOf}
-use Rattle.games.specs.Facts.{rootUnits}
-use Rattle.arena_store.specs.Stored.{Stored}
+use Rattle.games.specs.Games.{treeOf, rootUnits}
+use Rattle.arena_store.specs.internal.Stored.{Stored}
 use Rattle.nash_conv_units.proofs.Seats.{two-seats, few-seats, no-seats, one-seat-more, sum-fits, all-seats}
 use borrow.Author.Needs.{needs}
 use Rattle.nash_conv_units.proofs.evaluate.Statement.{statement}

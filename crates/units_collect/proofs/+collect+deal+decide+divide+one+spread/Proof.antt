@@ -4,7 +4,7 @@ use denote.Ref.{now}
 use mathlib.Core.Path.{refl, _≡_, sym, _∙_}
 use native.Mathlib.Omega.{arith}
 use borrow.Author.Needs.{needs}
-use Rattle.units_collect.specs.Collected.{Storable, Each, Shared}
+use Rattle.units_collect.specs.internal.Collected.{Storable, Each, Shared}
 use borrow.Fn.Kinds.{In}
 use borrow.Fn.PlainCycle.{Measures, is, falls, and}
 use Rattle.units_collect.proofs.+collect+deal+decide+divide+one+spread.{statement}

@@ -1,6 +1,6 @@
 use native.Mathlib.Omega.{arith}
 use Rattle.arena.proofs.Bytes.{lowered-fits, lowered}
-use Rattle.arena.specs.Words.{byteOf}
+use Rattle.arena.specs.internal.Words.{byteOf}
 use borrow.Author.Needs.{needs}
 use Rattle.arena.proofs.payoffs.payoff.Statement.{statement}
 use Rattle.arena.proofs.payoffs.payoff.Tie as tie

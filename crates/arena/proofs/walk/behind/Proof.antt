@@ -1,8 +1,8 @@
 use borrow.Author.Needs.{needs}
 use denote.Ref.{now}
 use mathlib.Core.Path.{sym, ap, _∙_, subst}
-use Rattle.arena.specs.Words.{kindOf, nextOf}
-use Rattle.arena.specs.Walk.{Behind}
+use Rattle.arena.specs.internal.Words.{kindOf, nextOf}
+use Rattle.arena.specs.internal.Walk.{Behind}
 use Rattle.arena.proofs.Walking.{at-end, elsewhere}
 use Rattle.arena.proofs.walk.behind.Statement.{statement}
 use Rattle.arena.proofs.walk.behind.Tie as tie

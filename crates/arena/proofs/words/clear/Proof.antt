@@ -3,7 +3,7 @@ use mathlib.Core.Path.{_≡_, subst}
 use Prim.Native.Nat.{_-_, _≤_}
 use native.Mathlib.Omega.{arith}
 use borrow.Author.Needs.{needs}
-use Rattle.arena.specs.Index.{Cleared}
+use Rattle.arena.specs.internal.Index.{Cleared}
 use Rattle.arena.proofs.Clearing.{clear-none, clear-more}
 use Rattle.arena.proofs.words.clear.Statement.{statement}
 use Rattle.arena.proofs.words.clear.Tie as tie

@@ -6,9 +6,9 @@ use lib.Ieee.{lt}
 use lib.ListN.{length}
 use denote.Ref.{now}
 use borrow.Author.Needs.{needs}
-use Rattle.arena.specs.Words.{actionsOf, laterOf}
+use Rattle.arena.specs.internal.Words.{actionsOf, laterOf}
 use Rattle.game_tree_f64.specs.Values.{nought, plus}
-use Rattle.f64_values.specs.Valued.{Chosen, Dealt}
+use Rattle.f64_values.specs.internal.Valued.{Chosen, Dealt}
 use Rattle.argmax.proofs.Past.{past-few}
 use Rattle.f64_values.proofs.Valuing as valuing
 use Rattle.f64_values.proofs.Choosing as choosing

@@ -33,8 +33,8 @@ returns-2 : tie.Need-returns-2
 returns-2 c = rw (payoff-early c.before.before.before.before.before.args.state (sym c.before.before.before.before.is-reachable.ensures ∙ not-false _
     c.before.before.before.if1.left) (sym c.before.before.hand-over.ensures ∙ not-true _ c.before.if2.taken)) c.no-payoffs2.ensures
 
-state-gains-requires : tie.Need-state-gains-requires
-state-gains-requires c κs =
+state-payoffs-requires : tie.Need-state-payoffs-requires
+state-payoffs-requires c κs =
     let e = sym (c .before .before .before .is-reachable .ensures) ∙ not-false _ (c .before .before .if1 .left) in
     let w = reachable-short (c .before .before .before .before .args .state) e in (
       dealt-in-full (c .before .before .before .before .args .state) (search needs) (search needs) e (sym (c .before .hand-over .ensures) ∙ not-false _ (c .if2 .left)),
@@ -45,13 +45,13 @@ state-gains-requires c κs =
 
 returns-3 : tie.Need-returns-3
 returns-3 c = let s2 = c .before in let s1 = s2 .before .before in let s0 = s1 .before .before in
-    let back : toZ w64 (ofZ w64 s2.state-gains.result.zero) ≡ s2.state-gains.result.zero = search needs in
-    let back₂ : toZ w64 (ofZ w64 s2.state-gains.result.one) ≡ s2.state-gains.result.one = search needs in
+    let back : toZ w64 (ofZ w64 s2.state-payoffs.result.zero) ≡ s2.state-payoffs.result.zero = search needs in
+    let back₂ : toZ w64 (ofZ w64 s2.state-payoffs.result.one) ≡ s2.state-payoffs.result.one = search needs in
     rw (payoff-accepted s0.before.args.state (sym s0.is-reachable.ensures ∙ not-false _ s1.before.if1.left) (sym s1.hand-over.ensures ∙ not-false
     _ s2.before.if2.left)) (ap₂ (λ x y. record { refusal = 0; state = s0.before.args.state; count = 2; payoffs = x ∷ y ∷ replicate 8 (pos 0) })
-    (back ∙ s2.state-gains.ensures.0) (back₂ ∙ s2.state-gains.ensures.1))
+    (back ∙ s2.state-payoffs.ensures.0) (back₂ ∙ s2.state-payoffs.ensures.1))
 
 pub payouts-spec : {M : Type 1} → statement M
 payouts-spec =
-    tie.close (tie.spec is-reachable-requires no-payoffs-requires returns hand-over-requires no-payoffs-requires-2 returns-2 state-gains-requires
+    tie.close (tie.spec is-reachable-requires no-payoffs-requires returns hand-over-requires no-payoffs-requires-2 returns-2 state-payoffs-requires
     returns-3)

@@ -11,7 +11,7 @@ use Rattle.leduc_arena.proofs.first.raised.Reads as raised
 use Rattle.leduc_arena.proofs.first.raised.Kinds as raised-kinds
 use Rattle.leduc_arena.proofs.first.+raised.Lts-raised as raised-lts
 use Rattle.leduc_arena.proofs.first.public.Reads as public-reads
-use Rattle.leduc_arena_round2.proofs.words.choose.Reads as choose-reads
+use Rattle.leduc_arena_round2.proofs.words.write_decision.Reads as write-decision-reads
 use Rattle.leduc_arena_round2.proofs.words.end.Reads as end-reads
 use Rattle.leduc_arena.proofs.first.+raised.{statement}
 use Rattle.leduc_arena.proofs.first.+raised.Tie.{close}
@@ -26,7 +26,7 @@ abbrev raised-below : ℕ → In 1 raised-kinds.ps
 raised-below t = and 1 raised-kinds.ps (falls 1 raised-kinds.ps _<_ μ-raised t) raised.Pre
 
 abbrev raised-callees : ℕ → raised-lts.Claims
-raised-callees t = (end-reads.Asked, end-reads.Learnt, public-reads.Asked, public-reads.Learnt, choose-reads.Asked, choose-reads.Learnt, raised-below t, raised.Post)
+raised-callees t = (end-reads.Asked, end-reads.Learnt, public-reads.Asked, public-reads.Learnt, write-decision-reads.Asked, write-decision-reads.Learnt, raised-below t, raised.Post)
 
 raised-add-more : (t : ℕ) → raised-lts.Need-add-more (raised-callees t) (raised-at t) raised.Post
 raised-add-more t c = search needs
@@ -53,12 +53,12 @@ raised-public-requires t c κs = let s1 = c .before .before .before in let s0 = 
   call-room _ _ _ _ _ _ _ _ _ s1.end.ensures a.left s0.pre.1.1,
 )
 
-raised-add-choose : (t : ℕ) → raised-lts.Need-add-choose (raised-callees t) (raised-at t) raised.Post
-raised-add-choose t c = search needs
+raised-add-write-decision : (t : ℕ) → raised-lts.Need-add-write-decision (raised-callees t) (raised-at t) raised.Post
+raised-add-write-decision t c = search needs
 
-raised-choose-requires : (t : ℕ) → raised-lts.Need-choose-requires (raised-callees t) (raised-at t) raised.Post
+raised-write-decision-requires : (t : ℕ) → raised-lts.Need-write-decision-requires (raised-callees t) (raised-at t) raised.Post
 unfolding IsLe
-raised-choose-requires t c κs = let s2 = c .before .before .before .before in let s1 = s2 .before .before .before .before in
+raised-write-decision-requires t c κs = let s2 = c .before .before .before .before in let s1 = s2 .before .before .before .before in
     let s0 = s1 .before .before .before in let a = s0 .args in (
       (s0.pre.1.0.2, le-by-compare 3 4 tt, card-few s0.pre.1.0.0, card-few s0.pre.1.0.1, first-few a.n a.paid a.left s0.pre.1.0.3 s0.pre.1.0.4 .0),
       last-fits _ _ _ _ _ _ _ _ _ s1.end.ensures s2.public.ensures a.left c.before.if1.taken s0.pre.1.1,
@@ -70,7 +70,7 @@ raised-same-length t c = search needs
 raised-returns : (t : ℕ) → raised-lts.Need-returns (raised-callees t) (raised-at t) raised.Post
 raised-returns t c = let s3 = c .before .before .before .before in let s2 = s3 .before .before .before in
     let s1 = s2 .before .before .before .before in let s0 = s1 .before .before .before in
-    lays-last _ _ _ _ _ _ _ _ _ s1.end.ensures s2.public.ensures s0.args.left s3.if1.taken s0.pre.1.1 refl c.before.before.choose.ensures
+    lays-last _ _ _ _ _ _ _ _ _ s1.end.ensures s2.public.ensures s0.args.left s3.if1.taken s0.pre.1.1 refl c.before.before.write-decision.ensures
 
 raised-sub-raised : (t : ℕ) → raised-lts.Need-sub-raised (raised-callees t) (raised-at t) raised.Post
 raised-sub-raised t c = search needs
@@ -95,12 +95,12 @@ raised-raised-requires t c κs = let s3 = c .before in let s2 = s3 .before .befo
       ),
     )
 
-raised-add-choose-2 : (t : ℕ) → raised-lts.Need-add-choose-2 (raised-callees t) (raised-at t) raised.Post
-raised-add-choose-2 t c = search needs
+raised-add-write-decision-2 : (t : ℕ) → raised-lts.Need-add-write-decision-2 (raised-callees t) (raised-at t) raised.Post
+raised-add-write-decision-2 t c = search needs
 
-raised-choose-requires-2 : (t : ℕ) → raised-lts.Need-choose-requires-2 (raised-callees t) (raised-at t) raised.Post
+raised-write-decision-requires-2 : (t : ℕ) → raised-lts.Need-write-decision-requires-2 (raised-callees t) (raised-at t) raised.Post
 unfolding IsLe
-raised-choose-requires-2 t c κs = let s3 = c .before .before .before in let s2 = s3 .before .before .before .before .before in
+raised-write-decision-requires-2 t c κs = let s3 = c .before .before .before in let s2 = s3 .before .before .before .before .before in
     let s1 = s2 .before .before .before .before in let s0 = s1 .before .before .before in let a = s0 .args in (
       (s0.pre.1.0.2, le-by-compare 4 4 tt, card-few s0.pre.1.0.0, card-few s0.pre.1.0.1, first-few a.n a.paid a.left s0.pre.1.0.3 s0.pre.1.0.4 .0),
       again-fits _ _ _ _ _ _ _ _ _ s1.end.ensures s2.public.ensures a.left (omega (arith, s3.before.before.if1.left)) s0.pre.1.1 s3.raised.ensures,
@@ -113,12 +113,12 @@ raised-returns-2 : (t : ℕ) → raised-lts.Need-returns-2 (raised-callees t) (r
 raised-returns-2 t c = let s3 = c .before .before .before .before .before .before in let s2 = s3 .before .before .before .before .before in
     let s1 = s2 .before .before .before .before in let s0 = s1 .before .before .before in
     lays-again _ _ _ _ _ _ _ _ _ s1.end.ensures s2.public.ensures s0.args.left (omega (arith, s3.before.before.if1.left)) s0.pre.1.1 s3.raised.ensures
-    refl c.before.before.choose2.ensures
+    refl c.before.before.write-decision2.ensures
 
 pub +raised-spec : {M : Type 1} → statement M
 +raised-spec =
     close μ-raised
     λ t. raised-lts.spec (raised-callees t) (raised-at t) raised.Post (raised-add-more t) (raised-add-end t) (raised-mul-end t) (raised-end-requires
-    t) (raised-mul-public t) (raised-add-public t) (raised-public-requires t) (raised-add-choose t) (raised-choose-requires t) (raised-same-length t)
+    t) (raised-mul-public t) (raised-add-public t) (raised-public-requires t) (raised-add-write-decision t) (raised-write-decision-requires t) (raised-same-length t)
     (raised-returns t) (raised-sub-raised t) (raised-mul-raised t) (raised-add-raised t) (raised-sub-raised-2 t) (raised-raised-requires t)
-    (raised-add-choose-2 t) (raised-choose-requires-2 t) (raised-same-length-2 t) (raised-returns-2 t)
+    (raised-add-write-decision-2 t) (raised-write-decision-requires-2 t) (raised-same-length-2 t) (raised-returns-2 t)

@@ -5,8 +5,8 @@ use native.Mathlib.Nat as NatL
 use native.Mathlib.Omega.{arith}
 use borrow.Author.Needs.{needs}
 use Rattle.game_tree.specs.Sets.{size}
-use Rattle.arena.specs.Built.{Row}
-use Rattle.leduc_arena_layout.specs.Layout.{plain, rowTo, other, secondTree, publicTree}
+use Rattle.arena.specs.internal.Built.{Row}
+use Rattle.leduc_arena_layout.specs.internal.Layout.{plain, rowTo, other, secondTree, publicTree}
 use Rattle.leduc_arena_layout.proofs.Laying.{place-fits, first-room, row-fits, lays-chance, row-start, row-done, row-on, child-room}
 use Rattle.leduc_arena.proofs.first.public.Statement.{statement}
 use Rattle.leduc_arena.proofs.first.public.Tie as tie

@@ -5,7 +5,7 @@ use Prim.Native.Nat.{_-_}
 use native.Mathlib.Omega.{arith}
 use borrow.Author.Tests.{eq-eqb, ne-eqb}
 use borrow.Author.Needs.{needs}
-use Rattle.leduc_arena_layout.specs.Layout.{other, secondTree}
+use Rattle.leduc_arena_layout.specs.internal.Layout.{other, secondTree}
 use Rattle.leduc_arena_layout.proofs.Laying.{passes, keeps, kept-room}
 use Rattle.leduc_arena.proofs.first.shown.Statement.{statement}
 use Rattle.leduc_arena.proofs.first.shown.Tie as tie

@@ -3,7 +3,7 @@ use mathlib.Core.Path.{refl}
 use native.Mathlib.Omega.{arith}
 use borrow.Author.Needs.{needs}
 use borrow.Author.Tests.{eq-eqb, ne-eqb}
-use Rattle.leduc_arena_layout.specs.Layout.{byteFor}
+use Rattle.leduc_arena_layout.specs.internal.Layout.{byteFor}
 use Rattle.leduc_arena_round2.proofs.words.byte.Statement.{statement}
 use Rattle.leduc_arena_round2.proofs.words.byte.Tie as tie
 

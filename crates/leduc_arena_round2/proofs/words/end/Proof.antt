@@ -2,7 +2,7 @@
 use Prim.Native.Nat.{_-_}
 use borrow.Author.Needs.{needs}
 use Rattle.game_tree.specs.Sets.{size}
-use Rattle.leduc_arena_layout.specs.Layout.{endTree}
+use Rattle.leduc_arena_layout.specs.internal.Layout.{endTree}
 use Rattle.leduc_arena_layout.proofs.Laying.{place-fits, lays-end}
 use Rattle.leduc_arena_round2.proofs.words.end.Statement.{statement}
 use Rattle.leduc_arena_round2.proofs.words.end.Tie as tie

@@ -5,7 +5,7 @@ use borrow.Author.Needs.{needs}
 use native.Mathlib.Omega.{arith}
 use lib.ListN.{take}
 use Rattle.game_tree.specs.Table.{addUp}
-use Rattle.games.specs.Actions.{actionsOf}
+use Rattle.games.specs.internal.Actions.{actionsOf}
 use Rattle.games.proofs.Totals.{total, total-none}
 use Rattle.games.proofs.Counts.{actions-counted}
 use Rattle.tree_refusals.proofs.Parts.{rest, rest-all, rest-none, part-inside, part-few, next-part, sum-differs, sum-agrees}

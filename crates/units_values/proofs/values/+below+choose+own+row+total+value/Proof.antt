@@ -6,9 +6,9 @@ use lib.Dec.{ltb}
 use lib.ListN.{length}
 use denote.Ref.{now}
 use borrow.Author.Needs.{needs}
-use Rattle.arena.specs.Words.{actionsOf, laterOf}
+use Rattle.arena.specs.internal.Words.{actionsOf, laterOf}
 use Rattle.argmax.proofs.Past.{past-few}
-use Rattle.units_values.specs.Valued.{Chosen, ValuedAll}
+use Rattle.units_values.specs.internal.Valued.{Chosen, ValuedAll}
 use Rattle.units_values.proofs.Valuing as valuing
 use Rattle.units_values.proofs.Choosing as choosing
 use borrow.Fn.Kinds.{In}

@@ -5,7 +5,7 @@ use borrow.Author.Needs.{needs}
 use native.Mathlib.Omega.{arith}
 use mir.Syntax.{w64}
 use mir.Val.{toZ, ofZ}
-use Rattle.units_worths.specs.Worths.{loweredOf}
+use Rattle.units_worths.specs.internal.Worths.{loweredOf}
 use Rattle.units_worths.proofs.Lowering.{lowered-none, lowered-more, lowered-full}
 use Rattle.units_worths.proofs.worths.lowered_all.Statement.{statement}
 use Rattle.units_worths.proofs.worths.lowered_all.Tie as tie

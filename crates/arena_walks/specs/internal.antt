@@ -1,0 +1,4 @@
+-- What stands between functions: no public contract and no statement for readers reaches it.
+pub mod Child
+pub mod Stage
+pub mod Found

@@ -1,0 +1,3 @@
+-- What stands between functions: no public contract and no statement for readers reaches it.
+pub mod Walk
+pub mod Facts
