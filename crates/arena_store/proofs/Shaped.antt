@@ -10,7 +10,7 @@ use Rattle.game_tree.specs.Conditions.{Every}
 use Rattle.game_tree.specs.Sets.{size, sets, entries, firstEntry}
 use Rattle.game_tree.specs.Shape.{Levels, SameActions, SameHeights}
 use Rattle.game_tree.proofs.Against.{every-both}
-use Rattle.game_tree.proofs.Sets.{SubtreeAt, sets-stand}
+use Rattle.game_tree.proofs.Sets.{Stands, sets-stand}
 use Rattle.game_tree.proofs.Tables.{seats-at}
 use Rattle.kuhn_tree.specs.Tree as Kuhn
 use Rattle.kuhn_tree.specs.Counts.{kuhnNodes}
@@ -30,7 +30,7 @@ use Rattle.arena_store.proofs.Levels.{deep-levels, more-levels}
 -- ---- where the entries of a set stand
 module _ (t : Tree) (h : SameActions t) (f : Every (λ j k n. (2 ≤ n) × (n ≤ 3)) t) where
   entries-inside : Every (λ j k n. firstEntry t j k + n ≤ entries t) t
-  entries-inside = every-both (λ j k n. SubtreeAt j k n (sets t)) (λ j k n. (2 ≤ n) × (n ≤ 3)) (λ j k n. firstEntry t j k + n ≤ entries t)
+  entries-inside = every-both (λ j k n. Stands j k n (sets t)) (λ j k n. (2 ≤ n) × (n ≤ 3)) (λ j k n. firstEntry t j k + n ≤ entries t)
       (λ j k n s (a, b). let l = seats-at j k n (sets t) s (n - 1) (omega arith) .1 in omega arith) t (sets-stand t h) f
 
   all-entered : (E : ℕ) → E ≡ entries t → Every (Entered t E) t
