@@ -2,9 +2,9 @@
 use mathlib.Core.Path.{_≡_}
 use Prim.Native.Nat.{ℕ, _<_}
 use native.Mathlib.Omega.{arith}
-use Rattle.arena.specs.internal.Words.{DECISION, CHANCE, kindOf, actorOf, actionsOf, setOf, nextOf, laterOf, decisionWord, chanceWord}
+use Rattle.arena.specs.internal.Words.{DECISION, CHANCE, kindOf, actorOf, actionsOf, setOf, nextOf, laterOf, decisionWord, chanceWord, PLACES}
 
-module _ (actor actions set next later : ℕ) (p : actor < 8) (q : actions < 4) (r : set < 16384) (s : next < 2097152) (t : later < 2097152) where
+module _ (actor actions set next later : ℕ) (p : actor < 8) (q : actions < 4) (r : set < 16384) (s : next < PLACES) (t : later < PLACES) where
   pub kind-of : kindOf (decisionWord actor actions set next later) ≡ DECISION
   kind-of = omega arith
 
@@ -26,5 +26,5 @@ module _ (actor actions set next later : ℕ) (p : actor < 8) (q : actions < 4) 
 pub chance-kind : (next : ℕ) → kindOf (chanceWord next) ≡ CHANCE
 chance-kind next = omega arith
 
-pub chance-next : (next : ℕ) → next < 2097152 → nextOf (chanceWord next) ≡ next
+pub chance-next : (next : ℕ) → next < PLACES → nextOf (chanceWord next) ≡ next
 chance-next next s = omega arith

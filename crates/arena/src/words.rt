@@ -3,13 +3,16 @@ ghost use mathlib.Core.Path.{_≡_};
 ghost use Prim.Native.Nat.{_+_, _*_, _<_, _≤_};
 ghost use lib.ListN.{getD, set};
 ghost use Rattle.arena.specs.internal.Index.{Cleared};
-ghost use Rattle.arena.specs.internal.Words.{kindOf, actorOf, actionsOf, setOf, nextOf, laterOf, decisionWord, chanceWord};
+ghost use Rattle.arena.specs.internal.Words.{kindOf, actorOf, actionsOf, setOf, nextOf, laterOf, decisionWord, chanceWord, PLACES};
 
 pub const END: u64 = 0;
 
 pub const CHANCE: u64 = 1;
 
 pub const DECISION: u64 = 2;
+
+// Places of the tree in memory: a word has 21 bits for one.
+pub const PLACES: u64 = 2097152;
 
 // What a node is.
 pub fn kind(x: u64) -> u64
@@ -43,35 +46,35 @@ pub fn set(x: u64) -> usize
 pub fn next(x: u64) -> usize
     ensures { λ r. ⌜ r ≡ nextOf x ⌝ }
 {
-    (x / 2097152 % 2097152) as usize
+    (x / PLACES % PLACES) as usize
 }
 
 // The next member of its set, 0 at the last.
 pub fn later(x: u64) -> usize
     ensures { λ r. ⌜ r ≡ laterOf x ⌝ }
 {
-    (x / 4398046511104 % 2097152) as usize
+    (x / 4398046511104 % PLACES) as usize
 }
 
 // The word of a decision.
 pub fn decision(actor: usize, actions: usize, set: usize, next: usize, later: usize) -> u64
-    requires { ⌜ (actor < 8) × (actions < 4) × (set < 16384) × (next < 2097152) × (later < 2097152) ⌝ }
+    requires { ⌜ (actor < 8) × (actions < 4) × (set < 16384) × (next < PLACES) × (later < PLACES) ⌝ }
     ensures { λ r. ⌜ r ≡ decisionWord actor actions set next later ⌝ }
 {
     2
         + 4 * actor as u64
         + 32 * actions as u64
         + 128 * set as u64
-        + 2097152 * next as u64
+        + PLACES * next as u64
         + 4398046511104 * later as u64
 }
 
 // The word of a chance node.
 pub fn chance(next: usize) -> u64
-    requires { ⌜ next < 2097152 ⌝ }
+    requires { ⌜ next < PLACES ⌝ }
     ensures { λ r. ⌜ r ≡ chanceWord next ⌝ }
 {
-    1 + 2097152 * next as u64
+    1 + PLACES * next as u64
 }
 
 // The word at place i, 0 where there is none.

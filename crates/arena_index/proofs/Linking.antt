@@ -17,7 +17,7 @@ use Rattle.game_tree.specs.Shape.{decisionOf, decisionsOf}
 use Rattle.game_tree.proofs.Sets.{preorder-length, clash, isOf-seat, isOf-key, isOf-self}
 use Rattle.game_tree.proofs.Counting.{In, in-left, in-right, every-in, in-every}
 use Rattle.game_tree.proofs.Entries.{entry-inside, entry-apart}
-use Rattle.arena.specs.internal.Words.{actorOf, actionsOf, setOf, nextOf}
+use Rattle.arena.specs.internal.Words.{actorOf, actionsOf, setOf, nextOf, PLACES}
 use Rattle.arena.specs.internal.Held.{Says, SaysAll}
 use Rattle.arena.specs.internal.Index.{firstOf, laterIn, unlinked, Coded, Indexed}
 use Rattle.arena_index.specs.internal.Indexing.{Numbered, isKnown, entryOf, relinked, pushed, linked}
@@ -45,7 +45,7 @@ first-few j k a (t ∷ ts) most h g = at (decides j k t) (first-few j k (suc a) 
     at true f = omega (arith, NatL.add-suc a (length ts))
     at false f = f
 
-module _ (n : ℕ) (code : ℕ → Key → ℕ) (m : ℕ) (bare old : List ℕ) (t : Tree) (small : size t ≤ 2097152) (c : Coded n code m bare t) (g : Numbered code m bare old t) where
+module _ (n : ℕ) (code : ℕ → Key → ℕ) (m : ℕ) (bare old : List ℕ) (t : Tree) (small : size t ≤ PLACES) (c : Coded n code m bare t) (g : Numbered code m bare old t) where
   -- the nodes from place a on are linked
   pub record From (a : ℕ) (w : List ℕ) : Type 0 where
     pub low : (i : ℕ) → i < a → getD w i 0 ≡ getD old i 0
@@ -122,9 +122,9 @@ module _ (n : ℕ) (code : ℕ → Key → ℕ) (m : ℕ) (bare old : List ℕ) 
       abbrev later : ℕ
       later = laterIn t a j k
 
-      later-few : later < 2097152
+      later-few : later < PLACES
       unfolding laterIn
-      later-few = first-few j k (suc a) rest 2097152 (omega (arith, length-drop (suc a) (preorder t), preorder-length t)) (omega arith)
+      later-few = first-few j k (suc a) rest PLACES (omega (arith, length-drop (suc a) (preorder t), preorder-length t)) (omega arith)
 
       at-code : getD w (size t + setOf x) 0 ≡ suc e
       unfolding Says
@@ -134,9 +134,9 @@ module _ (n : ℕ) (code : ℕ → Key → ℕ) (m : ℕ) (bare old : List ℕ) 
       entry-is : entryOf w (size t) x ≡ e
       entry-is = ap (λ i. (i - 1) % 16384) at-code ∙ omega (arith, e-few)
 
-      later-is : getD w (size t + m + e) 0 % 2097152 ≡ later
+      later-is : getD w (size t + m + e) 0 % PLACES ≡ later
       unfolding laterIn
-      later-is = ap (λ i. i % 2097152) (h .firsts me here) ∙ omega (arith, later-few)
+      later-is = ap (λ i. i % PLACES) (h .firsts me here) ∙ omega (arith, later-few)
 
       abbrev new : List ℕ
       new = set (set w a (relinked x e later)) (size t + m + e) a
@@ -210,7 +210,7 @@ module _ (n : ℕ) (code : ℕ → Key → ℕ) (m : ℕ) (bare old : List ℕ) 
 
 -- ---- whatever tree is held
 abbrev pub Linked : (nodes heads : ℕ) (old w : List ℕ) (a : ℕ) → Type 0
-Linked nodes heads old w a = (n : ℕ) (code : ℕ → Key → ℕ) (m : ℕ) (bare : List ℕ) (t : Tree) → size t ≡ nodes → nodes + m ≡ heads → (s : size t ≤ 2097152) (c : Coded n code m bare t) (g : Numbered code m bare old t)
+Linked nodes heads old w a = (n : ℕ) (code : ℕ → Key → ℕ) (m : ℕ) (bare : List ℕ) (t : Tree) → size t ≡ nodes → nodes + m ≡ heads → (s : size t ≤ PLACES) (c : Coded n code m bare t) (g : Numbered code m bare old t)
     → From n code m bare old t s c g a w
 
 pub linked-end : (nodes heads : ℕ) (old : List ℕ) → Linked nodes heads old old nodes
@@ -220,9 +220,9 @@ pub linked-more : (nodes heads : ℕ) (old w new : List ℕ) (a b : ℕ) → a <
 linked-more nodes heads old w new a b h q l e n code m bare t f k s c g = rw (e, ← k, ← f)
     (from-more n code m bare old t s c g a (rw f h) w (subst (λ i. From n code m bare old t s c g i w) q (l n code m bare t f k s c g)))
 
-pub linked-start : (nodes heads : ℕ) (old w : List ℕ) (a : ℕ) → a ≡ 0 → nodes ≤ 2097152 → Linked nodes heads old w a → (n : ℕ) (code : ℕ → Key → ℕ) (m : ℕ) (bare : List ℕ) (t : Tree) → size t ≡ nodes → nodes + m ≡ heads
+pub linked-start : (nodes heads : ℕ) (old w : List ℕ) (a : ℕ) → a ≡ 0 → nodes ≤ PLACES → Linked nodes heads old w a → (n : ℕ) (code : ℕ → Key → ℕ) (m : ℕ) (bare : List ℕ) (t : Tree) → size t ≡ nodes → nodes + m ≡ heads
     → Coded n code m bare t → Numbered code m bare old t → Indexed n heads w t
-linked-start nodes heads old w a z h l n code m bare t e f c g = let s : size t ≤ 2097152 = rw e h in
+linked-start nodes heads old w a z h l n code m bare t e f c g = let s : size t ≤ PLACES = rw e h in
     rw (← f, ← e) (from-start n code m bare old t s c g w (subst (λ i. From n code m bare old t s c g i w) z (l n code m bare t e f s c g)))
 
 pub linked-long : (nodes heads a : ℕ) (w : List ℕ) → length (linked nodes heads a w) ≡ length w
@@ -230,7 +230,7 @@ unfolding linked
 linked-long nodes heads a w = at (isKnown w nodes (getD w a 0))
   where
     x : ℕ
-    x = relinked (getD w a 0) (entryOf w nodes (getD w a 0)) (getD w (heads + entryOf w nodes (getD w a 0)) 0 % 2097152)
+    x = relinked (getD w a 0) (entryOf w nodes (getD w a 0)) (getD w (heads + entryOf w nodes (getD w a 0)) 0 % PLACES)
 
     at : (b : Bool) → length (cond b (set (set w a x) (heads + entryOf w nodes (getD w a 0)) a) w) ≡ length w
     at true = length-set (set w a x) (heads + entryOf w nodes (getD w a 0)) a ∙ length-set w a x

@@ -7,7 +7,7 @@ use lib.ListN.{getD, set}
 use borrow.Author.Tests.{eq-eqb, ne-eqb}
 use Rattle.prelude.specs.Finite.{and}
 use Rattle.prelude.proofs.Tests.{both, and-left-fails, and-right-fails}
-use Rattle.arena.specs.internal.Words.{DECISION, kindOf, actionsOf, setOf}
+use Rattle.arena.specs.internal.Words.{DECISION, kindOf, actionsOf, setOf, PLACES}
 use Rattle.arena_index.specs.internal.Indexing.{isNew, Met, isKnown, entryOf, relinked, pushed, linked}
 
 -- ---- a set is entered, or not
@@ -57,5 +57,5 @@ module _ (nodes heads a : ℕ) (w : List ℕ) where
   linked-by y known new e k f z g = rw (g, f, e) (sym (linked-known (rw (← e) k) λ q. z (f ∙ rw e q)))
 
 -- a node is put before the members of its set, by what is read and written step by step
-pub pushed-by : (heads a x e l v : ℕ) (w mid new : List ℕ) → l ≡ getD w (heads + e) 0 → v ≡ relinked x e (l % 2097152) → mid ≡ set w a v → new ≡ set mid (heads + e) a → new ≡ pushed heads a x e w
+pub pushed-by : (heads a x e l v : ℕ) (w mid new : List ℕ) → l ≡ getD w (heads + e) 0 → v ≡ relinked x e (l % PLACES) → mid ≡ set w a v → new ≡ set mid (heads + e) a → new ≡ pushed heads a x e w
 pushed-by heads a x e l v w mid new f g h i = rw (i, h, g, f) refl

@@ -1,5 +1,6 @@
 // The index of a tree in work memory: each set gets its first entry, and its members are linked.
 use arena::words::DECISION;
+use arena::words::PLACES;
 use arena::words::actions;
 use arena::words::actor;
 use arena::words::decision;
@@ -11,10 +12,11 @@ use arena::words::word;
 ghost use mathlib.Core.Path.{_≡_};
 ghost use Prim.Native.Nat.{_≤_, _<_};
 ghost use Rattle.arena_index.specs.internal.Indexing.{Numbers, Links, Indexes, Met, pushed, linked};
+ghost use Rattle.arena.specs.internal.Words.{PLACES};
 
 // Enters the set of word x, if it is a decision's and new, with the next entry; the entry after it.
 fn meet(w: &mut [u64], nodes: usize, x: u64, entry: usize) -> usize
-    requires { ⌜ (nodes ≤ 2097152) × (entry ≤ 8388608) ⌝ }
+    requires { ⌜ (nodes ≤ PLACES) × (entry ≤ 8388608) ⌝ }
     ensures { λ r. ⌜ Met nodes x entry (now (w .entry)) (now (w .exit)) r ⌝ }
 {
     if kind(x) != DECISION {
@@ -30,7 +32,7 @@ fn meet(w: &mut [u64], nodes: usize, x: u64, entry: usize) -> usize
 
 // Gives each set its first entry, in the order of the nodes.
 fn number(w: &mut [u64], nodes: usize)
-    requires { ⌜ nodes ≤ 2097152 ⌝ }
+    requires { ⌜ nodes ≤ PLACES ⌝ }
     ensures { λ _. ⌜ Numbers nodes (now (w .entry)) (now (w .exit)) ⌝ }
 {
     let mut entry = 0;
@@ -48,7 +50,7 @@ fn push(w: &mut [u64], heads: usize, a: usize, x: u64, entry: usize)
     ensures { λ _. ⌜ now (w .exit) ≡ pushed heads a x entry (now (w .entry)) ⌝ }
 {
     let head = heads + entry;
-    let later = word(w, head) % 2097152;
+    let later = word(w, head) % PLACES;
     put(
         w,
         a,
@@ -59,7 +61,7 @@ fn push(w: &mut [u64], heads: usize, a: usize, x: u64, entry: usize)
 
 // Puts the node at place a, if it is a decision, before the members of its set.
 fn link_node(w: &mut [u64], nodes: usize, heads: usize, a: usize)
-    requires { ⌜ (nodes ≤ 2097152) × (heads ≤ 4194304) ⌝ }
+    requires { ⌜ (nodes ≤ PLACES) × (heads ≤ 4194304) ⌝ }
     ensures { λ _. ⌜ now (w .exit) ≡ linked nodes heads a (now (w .entry)) ⌝ }
 {
     let x = word(w, a);
@@ -75,7 +77,7 @@ fn link_node(w: &mut [u64], nodes: usize, heads: usize, a: usize)
 
 // Links the members of each set, from the last node to the first.
 fn link(w: &mut [u64], nodes: usize, heads: usize)
-    requires { ⌜ (nodes ≤ 2097152) × (heads ≤ 4194304) ⌝ }
+    requires { ⌜ (nodes ≤ PLACES) × (heads ≤ 4194304) ⌝ }
     ensures { λ _. ⌜ Links nodes heads (now (w .entry)) (now (w .exit)) ⌝ }
 {
     let mut a = nodes;
@@ -87,7 +89,7 @@ fn link(w: &mut [u64], nodes: usize, heads: usize)
 
 // Indexes a tree of so many nodes, whose sets have codes below codes.
 pub fn index(w: &mut [u64], nodes: usize, codes: usize)
-    requires { ⌜ (nodes ≤ 2097152) × (codes ≤ 16384) ⌝ }
+    requires { ⌜ (nodes ≤ PLACES) × (codes ≤ 16384) ⌝ }
     ensures { λ _. ⌜ Indexes nodes codes (now (w .entry)) (now (w .exit)) ⌝ }
 {
     number(w, nodes);

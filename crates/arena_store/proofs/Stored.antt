@@ -36,6 +36,7 @@ use Rattle.games.proofs.Known.{leduc-two}
 use Rattle.arena_store.specs.internal.Stored.{codeOf, codesOf, Stored}
 use Rattle.arena_store.proofs.Shaped.{some-actions}
 use Rattle.arena_store.proofs.Room.{roomy}
+use Rattle.arena.specs.internal.Words.{PLACES}
 
 -- ---- an index stands where its words do
 pub indexed-same : (n h : ℕ) (v w : List ℕ) (t : Tree) → Every (λ j k a. 1 ≤ a) t → size t ≤ h → ((p : ℕ) → p < h + entries t → getD w p 0 ≡ getD v p 0) → Indexed n h v t → Indexed n h w t
@@ -79,7 +80,7 @@ module _ (g : Game) (a : Known g) where
     entries-is : entries (treeOf g) ≡ E
     entries-is = entries-are g (a .seats) ∙ sym p
 
-    pub nodes-near : n ≤ 2097152
+    pub nodes-near : n ≤ PLACES
     nodes-near = omega (arith, nodes-is, roomy g a .nodes)
 
     pub codes-near : m ≤ 16384

@@ -10,7 +10,7 @@ use Rattle.game_tree.specs.Tree.{Key, decide, fan}
 use Rattle.game_tree.specs.Conditions.{Every}
 use Rattle.game_tree.specs.Sets.{size, preorder, firstEntry, setMembers}
 use Rattle.game_tree.proofs.Counting.{In}
-use Rattle.arena.specs.internal.Words.{DECISION, kindOf, laterOf}
+use Rattle.arena.specs.internal.Words.{DECISION, kindOf, laterOf, PLACES}
 use Rattle.arena.specs.internal.Held.{Says, Held}
 use Rattle.arena.specs.internal.Index.{firstOf, Linked}
 use Rattle.arena.proofs.Members.{members-linked}
@@ -35,14 +35,14 @@ module _ {i h k : ℕ} {S : Stage i h k} {W : Type 0} {deal : W → ℕ → W} {
   standing c m ms r = (r .here, D .stands (suc (S .levels i y)) (m .0) (m .1) (decide i y (m .2)) (r .each .0))
 
   -- all of them
-  pub remaining-start : (old : List ℕ) → Memo S old → (n : ℕ) → Known S i y n → (u : W) → D .Here 32 0 u (S .tree) → (c : ℕ) → c ≡ getD old (h + firstEntry (S .tree) i y) 0 % 2097152
+  pub remaining-start : (old : List ℕ) → Memo S old → (n : ℕ) → Known S i y n → (u : W) → D .Here 32 0 u (S .tree) → (c : ℕ) → c ≡ getD old (h + firstEntry (S .tree) i y) 0 % PLACES
       → Remaining c (found deal move i y 0 u (S .tree))
   unfolding EachMember firstOf size
   remaining-start old m n g u r c e = record {
     each = each;
     linked = rw where-found (members-linked (S .seats) h (S .words) (S .tree) (S .indexed) i y);
     rising = rw where-found (numbers-rise i y 0 (preorder (S .tree)));
-    here = e ∙ ap (λ j. j % 2097152) head ∙ NatL.mod-eq-of-lt (near (found deal move i y 0 u (S .tree)) each);
+    here = e ∙ ap (λ j. j % PLACES) head ∙ NatL.mod-eq-of-lt (near (found deal move i y 0 u (S .tree)) each);
   }
     where
       each : EachFound D y (found deal move i y 0 u (S .tree))
@@ -55,7 +55,7 @@ module _ {i h k : ℕ} {S : Stage i h k} {W : Type 0} {deal : W → ℕ → W} {
       head = m .words (h + firstEntry (S .tree) i y) (omega (arith, inside S i y n g, S .before))
           ∙ known-of S (λ j y n. getD (S .words) (h + firstEntry (S .tree) j y) 0 ≡ firstOf (setMembers (S .tree) j y)) (S .indexed .heads) i y n g ∙ ap firstOf (sym where-found)
 
-      near : (ms : List (Member W)) → EachFound D y ms → firstOf (places ms) < 2097152
+      near : (ms : List (Member W)) → EachFound D y ms → firstOf (places ms) < PLACES
       near [] q = omega arith
       near (x ∷ ms) q = omega (arith, D .stands (suc (S .levels i y)) (x .0) (x .1) (decide i y (x .2)) (q .0) .room, S .room)
 

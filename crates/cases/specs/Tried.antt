@@ -34,4 +34,5 @@ calls = callsAt firstTurns
 -- It is accepted with D 1, and for each seat the reply is a rival table that is worth the best value, and no rival table is worth more.
 abbrev pub LeducTried : Type 0
 LeducTried = AcceptedTable leduc 1 calls
-    × ((i : ℕ) → i < 2 → BestReply leduc 1 i calls (tableBest (treeOf leduc) 1 (rootUnits leduc 1) calls i) (replyTable (treeOf leduc) 1 (rootUnits leduc 1) calls i))
+    × ((i : ℕ) → i < 2 → BestReply leduc 1 i calls (tableBest (treeOf leduc) 1 (rootUnits leduc 1) calls i)
+    (replyTable (treeOf leduc) 1 (rootUnits leduc 1) calls i))

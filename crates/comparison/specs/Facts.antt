@@ -1,4 +1,5 @@
--- What the comparison of a / u with b / v is, by cross products alone, with no fraction and no division (document 02, Nine). Proved in proofs/Facts.antt.
+-- What the comparison of a / u with b / v is, by cross products alone, with no fraction and no division (document 02, Nine). Proved in
+-- proofs/Facts.antt.
 use mathlib.Core.Path.{_≡_}
 use mathlib.Core.Logic.{_⊎_, _↔_}
 use Prim.Native.Nat.{ℕ, _*_, _<_}
@@ -59,7 +60,8 @@ Comparable = (a u b v : ℕ) → NotGreater (comparedQuotients a u b v) ⊎ NotG
 
 -- and neither is exactly if they compare equal
 abbrev pub Neither-greater : Type 0
-Neither-greater = (a u b v : ℕ) → (NotGreater (comparedQuotients a u b v) × NotGreater (comparedQuotients b v a u)) ↔ (comparedQuotients a u b v ≡ Equal)
+Neither-greater = (a u b v : ℕ)
+    → (NotGreater (comparedQuotients a u b v) × NotGreater (comparedQuotients b v a u)) ↔ (comparedQuotients a u b v ≡ Equal)
 
 -- ---- for units above 0
 
@@ -71,4 +73,5 @@ Transitive = (a u b v c w : ℕ) → Units u → Units v → Units w
 -- and less as soon as one of the two steps is
 abbrev pub Less-onward : Type 0
 Less-onward = (a u b v c w : ℕ) → Units u → Units v → Units w
-    → NotGreater (comparedQuotients a u b v) → NotGreater (comparedQuotients b v c w) → (comparedQuotients a u b v ≡ Less) ⊎ (comparedQuotients b v c w ≡ Less) → comparedQuotients a u c w ≡ Less
+    → NotGreater (comparedQuotients a u b v) → NotGreater (comparedQuotients b v c w) → (comparedQuotients a u b v ≡ Less)
+    ⊎ (comparedQuotients b v c w ≡ Less) → comparedQuotients a u c w ≡ Less

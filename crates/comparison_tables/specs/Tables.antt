@@ -1,5 +1,5 @@
--- Among evaluated tables, of any games, seats and D, the comparison of NashConv / U is an order in which every two can be compared, and it agrees with the cross products over
--- whole numbers (document 02, Nine). Proved in proofs/Tables.antt.
+-- Among evaluated tables, of any games, seats and D, the comparison of NashConv / U is an order in which every two can be compared, and it
+-- agrees with the cross products over whole numbers (document 02, Nine). Proved in proofs/Tables.antt.
 use mathlib.Core.Path.{_≡_}
 use mathlib.Core.Logic.{_⊎_, _↔_}
 use Prim.Native.Nat.{ℕ}
@@ -58,4 +58,5 @@ Transitive = (x y z : Evaluated) → NotGreater (between x y) → NotGreater (be
 
 -- and less as soon as one of the two steps is
 abbrev pub Less-onward : Type 0
-Less-onward = (x y z : Evaluated) → NotGreater (between x y) → NotGreater (between y z) → (between x y ≡ Less) ⊎ (between y z ≡ Less) → between x z ≡ Less
+Less-onward = (x y z : Evaluated) → NotGreater (between x y) → NotGreater (between y z) → (between x y ≡ Less) ⊎ (between y z ≡ Less)
+    → between x z ≡ Less

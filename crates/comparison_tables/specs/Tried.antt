@@ -1,4 +1,5 @@
--- The comparison tried on tables: what the call for NashConv answers of some, and how these quotients compare. Proved in proofs/Tried.antt by computing.
+-- The comparison tried on tables: what the call for NashConv answers of some, and how these quotients compare. Proved in proofs/Tried.antt
+-- by computing.
 use mathlib.Core.Path.{_≡_}
 use mathlib.Core.List.{List, [], _∷_, map}
 use Prim.Native.Nat.{ℕ}
@@ -42,8 +43,9 @@ given (try a u b v c) = comparedQuotients a u b v
 abbrev pub said : Try → Comparison
 said (try a u b v c) = c
 
--- Always PASS in Kuhn 2 has the same quotient with D 1 and D 2, and as Leduc's first actions have with D 1; of Leduc further 956821248 of 201553920 units is D 6 with even parts,
--- 74975788562120704 of 33776997205278720 is D 64 with 1 part on each action but the first, and the last two are first actions with D 7 and D 15.
+-- Always PASS in Kuhn 2 has the same quotient with D 1 and D 2, and as Leduc's first actions have with D 1; of Leduc further 956821248 of
+-- 201553920 units is D 6 with even parts, 74975788562120704 of 33776997205278720 is D 64 with 1 part on each action but the first, and the
+-- last two are first actions with D 7 and D 15.
 abbrev pub tries : List Try
 tries =
     try 12 6 96 48 Equal

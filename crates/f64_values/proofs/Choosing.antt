@@ -8,7 +8,7 @@ use lib.Ieee.{Float, inf, binary64, ofBits, lt}
 use lib.ListN.{getD, set}
 use Rattle.game_tree.specs.Tree.{Key, Tree, chance, decide, Trees, cons, fan}
 use Rattle.game_tree.specs.Sets.{size, firstEntry}
-use Rattle.arena.specs.internal.Words.{laterOf}
+use Rattle.arena.specs.internal.Words.{laterOf, PLACES}
 use Rattle.arena.specs.internal.Index.{firstOf}
 use Rattle.game_tree_f64.specs.Values.{one, nought, plus, times, weight, picked, passed, lead, summed, setSum}
 use Rattle.arena_walks.specs.internal.Child.{nth, Child}
@@ -106,7 +106,7 @@ module _ {P : List Float} {i h b k : ℕ} (S : Scene P i h b k) (y : Key) (a : �
     pub remaining : Remaining (reaching S) y c ms
     pub all : behindAction S y a ≡ summed (entries S) i (S .stage .choice) a sum (map (reached (entries S) i y) ms)
 
-  rest-start : (old : List ℕ) → Memo (S .stage) old → (n : ℕ) → Known (S .stage) i y n → (c : ℕ) → c ≡ getD old (h + firstEntry (S .stage .tree) i y) 0 % 2097152
+  rest-start : (old : List ℕ) → Memo (S .stage) old → (n : ℕ) → Known (S .stage) i y n → (c : ℕ) → c ≡ getD old (h + firstEntry (S .stage .tree) i y) 0 % PLACES
       → Rest c nought (found dealt (passed (entries S) i) i y 0 one (S .stage .tree))
   unfolding setSum
   rest-start old m n g c e = record {
@@ -146,8 +146,8 @@ module _ (P : List Float) (i d h b k e a : ℕ) (old : List ℕ) where
   Summed w c sum = (S : Scene P i h b k) → Memo (S .stage) old → (y : Key) (n : ℕ) → Known (S .stage) i y n → e ≡ firstEntry (S .stage .tree) i y → S .stage .levels i y ≤ d → a < n
       → Memo (S .stage) w × (ms : List (Member Float)) × Rest S y a c sum ms
 
-  pub summed-start : (c : ℕ) → c ≡ getD old (h + e) 0 % 2097152 → Summed old c nought
-  summed-start c q S m y n g l x z = (m, found dealt (passed (entries S) i) i y 0 one (S .stage .tree), rest-start S y a old m n g c (q ∙ ap (λ j. getD old (h + j) 0 % 2097152) l))
+  pub summed-start : (c : ℕ) → c ≡ getD old (h + e) 0 % PLACES → Summed old c nought
+  summed-start c q S m y n g l x z = (m, found dealt (passed (entries S) i) i y 0 one (S .stage .tree), rest-start S y a old m n g c (q ∙ ap (λ j. getD old (h + j) 0 % PLACES) l))
 
   module _ (w new : List ℕ) (c : ℕ) (sum : Float) (q : ℕ) (v s : Float) (next : ℕ) (f : Summed w c sum) (p : 0 < c) (o : Child w c a q) (r : Gained P i d h b k q w new v)
       (j : s ≡ plus sum (times (ofBits binary64 (getD new (b + c) 0)) v)) (x : next ≡ laterOf (getD new c 0)) where

@@ -6,6 +6,7 @@ use arena::walk::behind;
 use arena::walk::fan;
 use arena::words::CHANCE;
 use arena::words::END;
+use arena::words::PLACES;
 use arena::words::actions;
 use arena::words::actor;
 use arena::words::kind;
@@ -225,7 +226,7 @@ fn total(
     ensures { λ r. ⌜ Totalled (now (profile .entry)) seat depth heads reach kept first action (now (w .entry)) (now (w .exit)) r ⌝ }
 {
     let mut sum = 0.0;
-    let mut at = (word(w, heads + first) % 2097152) as usize;
+    let mut at = (word(w, heads + first) % PLACES) as usize;
     while 0 < at {
         let place = child(w, at, action);
         let g = gain(w, profile, place, seat, depth, heads, reach, kept);

@@ -13,7 +13,7 @@ use Rattle.prelude.proofs.Lists.{those-kept, those-passed}
 use Rattle.prelude.proofs.Tests.{Tested, holds, fails, tested, both}
 use Rattle.game_tree.specs.Tree.{Tree, chance, Trees, nil, cons}
 use Rattle.game_tree.specs.Sets.{size, sizes}
-use Rattle.arena.specs.internal.Words.{chanceWord}
+use Rattle.arena.specs.internal.Words.{chanceWord, PLACES}
 use Rattle.arena.specs.internal.Held.{Says}
 use Rattle.arena.specs.internal.Built.{Built, Row, Room}
 use Rattle.arena.proofs.Packing.{chance-kind, chance-next}
@@ -148,7 +148,7 @@ module _ (n x d k at : ℕ) (w : List ℕ) (p : Dealing n x d k) (g : Room at w 
     row-room = record { words = omega (arith, g .words, chance-size n x d k (k - 1) deal-chance); places = omega (arith, g .places, chance-size n x d k (k - 1) deal-chance) }
 
     module _ (v : List ℕ) (r : ℕ) (b : Row n (codeOf n) (at + 1) w v (childrenTo n x d (k - 1) (n + 1)) r) where
-      pub behind-few : r < 2097152
+      pub behind-few : r < PLACES
       behind-few = omega (arith, b .next, g .places, chance-size n x d k (k - 1) deal-chance)
 
       pub deal-goes-on : (y : ℕ) (new : List ℕ) → y ≡ chanceWord r → new ≡ set v at y → Built n (codeOf n) at w new (dealAt n x d k) r

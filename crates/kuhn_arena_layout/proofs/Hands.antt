@@ -12,7 +12,7 @@ use Rattle.prelude.specs.Finite.{sum}
 use Rattle.prelude.proofs.Tests.{Tested, holds, fails, tested, neither}
 use Rattle.game_tree.specs.Tree.{Tree, end, decide, Trees, nil, cons, fan}
 use Rattle.game_tree.specs.Sets.{size}
-use Rattle.arena.specs.internal.Words.{decisionWord}
+use Rattle.arena.specs.internal.Words.{decisionWord, PLACES}
 use Rattle.arena.specs.internal.Held.{Says}
 use Rattle.arena.specs.internal.Index.{unlinked}
 use Rattle.arena.specs.internal.Built.{Built, Row, Room}
@@ -174,7 +174,7 @@ abbrev pub node : (n cards number : ℕ) → Tree → Tree → Tree
 node n cards number t u = decide (turn n (historyAt number)) (key (cardsIn n cards) (historyAt number) (turn n (historyAt number))) (cons t (cons u nil))
 
 -- the word of a decision says what the node is
-decision-says : (n cards number seat at next : ℕ) (f : Trees) → n ≤ 6 → seat < n → seat ≡ turn n (historyAt number) → number ≤ 2046 → next < 2097152 → fan f ≡ 2
+decision-says : (n cards number seat at next : ℕ) (f : Trees) → n ≤ 6 → seat < n → seat ≡ turn n (historyAt number) → number ≤ 2046 → next < PLACES → fan f ≡ 2
     → next ≡ at + size (decide (turn n (historyAt number)) (key (cardsIn n cards) (historyAt number) (turn n (historyAt number))) f)
     → Says n (codeOf n) unlinked (decisionWord seat 2 (number * (n + 1) + cardAt cards seat) next 0) at (decide (turn n (historyAt number)) (key (cardsIn n cards) (historyAt number) (turn n (historyAt number))) f)
 unfolding Says codeOf
@@ -206,7 +206,7 @@ module _ (n cards number : ℕ) {at : ℕ} {w : List ℕ} {whole t u : Tree} (e 
       behind : q ≡ at + size whole
       behind = omega (arith, b .next, c .next, node-size)
 
-      pub behind-few : q < 2097152
+      pub behind-few : q < PLACES
       behind-few = omega (arith, behind, g .places)
 
       row : Row n (codeOf n) (suc at) w y (cons t (cons u nil)) q
@@ -312,7 +312,7 @@ module _ (cards number : ℕ) {n seat pays pot win at : ℕ} {w : List ℕ} (b :
         second-end = subst (λ p. Built n (codeOf n) (at + 1 + 1) v u (afterAt n cards (2 * number + 2) 0) p) (let s : at + 1 + 1 + 1 ≡ at + 3 = omega arith in s)
             (after-ends cards (2 * number + 2) last-bet last-room refl y u q (j ∙ ap (λ p. set v p y) (let s : at + 2 ≡ at + 1 + 1 = omega arith in s)))
 
-        pub last-few : at + 3 < 2097152
+        pub last-few : at + 3 < PLACES
         last-few = behind-few n cards number last-node g first-end second-end
 
         pub last-decision : (z : ℕ) (new : List ℕ) → number ≤ 2046 → z ≡ decisionWord seat 2 (number * (n + 1) + cardAt cards seat) (at + 3) 0 → new ≡ set u at z → Built n (codeOf n) at w new (afterAt n cards number 1) (at + 3)

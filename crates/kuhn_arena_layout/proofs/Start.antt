@@ -15,6 +15,7 @@ use Rattle.kuhn_tree.specs.Counts.{dealNodes, kuhnNodes}
 use Rattle.kuhn_tree.proofs.Shape.{kuhn-deals}
 use Rattle.kuhn_tree.proofs.Facts.{counted}
 use Rattle.kuhn_arena_layout.specs.internal.Layout.{codeOf, cardsIn, dealAt, Dealing}
+use Rattle.arena.specs.internal.Words.{PLACES}
 
 -- the five numbers of seats, one by one
 pub by-seats : (P : ℕ → Type 0) → P 2 → P 3 → P 4 → P 5 → P 6 → (n : ℕ) → 2 ≤ n → n ≤ 6 → P n
@@ -28,9 +29,9 @@ by-seats P a b c d e (suc (suc (suc (suc (suc (suc zero)))))) l k = e
 by-seats P a b c d e (suc (suc (suc (suc (suc (suc (suc n))))))) l k = absurd (omega arith)
 
 -- with up to six seats the nodes fit the field of a place
-pub nodes-few : (n : ℕ) → 2 ≤ n → n ≤ 6 → kuhnNodes n < 2097152
+pub nodes-few : (n : ℕ) → 2 ≤ n → n ≤ 6 → kuhnNodes n < PLACES
 unfolding dealNodes
-nodes-few = by-seats (λ n. kuhnNodes n < 2097152) (omega arith) (omega arith) (omega arith) (omega arith) (omega arith)
+nodes-few = by-seats (λ n. kuhnNodes n < PLACES) (omega arith) (omega arith) (omega arith) (omega arith) (omega arith)
 
 module _ (n : ℕ) (two : 2 ≤ n) (six : n ≤ 6) where
   pub starts : Dealing n 0 0 n

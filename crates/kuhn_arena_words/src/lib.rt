@@ -4,7 +4,7 @@ ghost use mathlib.Core.Path.{_≡_};
 ghost use mathlib.Core.Bool.{cond};
 ghost use Prim.Native.Nat.{_+_, _*_, _%_, _<_, _≤_};
 ghost use lib.Dec.{ltb};
-ghost use Rattle.arena.specs.internal.Words.{decisionWord};
+ghost use Rattle.arena.specs.internal.Words.{decisionWord, PLACES};
 ghost use Rattle.kuhn_arena_layout.specs.internal.Layout.{cardAt, unitOf, Top};
 
 // The card of a seat, of cards in four bits each.
@@ -34,7 +34,7 @@ pub fn end_word(pays: u64, pot: u64, win: usize) -> u64
 
 // The word of the decision of a seat, of a history with the given number.
 pub fn decision_word(n: usize, cards: u64, number: usize, seat: usize, next: usize) -> u64
-    requires { ⌜ (n ≤ 6) × (number ≤ 2046) × (seat < n) × (next < 2097152) ⌝ }
+    requires { ⌜ (n ≤ 6) × (number ≤ 2046) × (seat < n) × (next < PLACES) ⌝ }
     ensures { λ r. ⌜ r ≡ decisionWord seat 2 (number * (n + 1) + cardAt cards seat) next 0 ⌝ }
 {
     let set = number * (n + 1) + card_of(cards, seat);

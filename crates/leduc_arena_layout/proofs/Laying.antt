@@ -12,7 +12,7 @@ use mir.Syntax.{w64}
 use mir.Val.{Fits}
 use Rattle.game_tree.specs.Tree.{Key, Tree, chance, decide, Trees, nil, cons, fan}
 use Rattle.game_tree.specs.Sets.{size, sizes}
-use Rattle.arena.specs.internal.Words.{byteOf, chanceWord, decisionWord}
+use Rattle.arena.specs.internal.Words.{byteOf, chanceWord, decisionWord, PLACES}
 use Rattle.arena.specs.internal.Held.{Says}
 use Rattle.arena.specs.internal.Built.{Built, Row, Room}
 use Rattle.arena.proofs.Packing.{kind-of, actor-of, actions-of, set-of, next-of, later-of, chance-kind, chance-next}
@@ -42,10 +42,10 @@ module _ {at z : ℕ} {w : List ℕ} (g : Room at w z) where
 
   -- over the whole row of its children
   module _ {v : List ℕ} {f : Trees} {r : ℕ} (b : Row 2 plain (at + 1) w v f r) (e : suc (sizes f) ≡ z) where
-    behind-few : r < 2097152
+    behind-few : r < PLACES
     behind-few = omega (arith, g .places, b .next)
 
-    pub row-fits : (r < 2097152) × (at < length v)
+    pub row-fits : (r < PLACES) × (at < length v)
     row-fits = (behind-few, rw (b .kept .long) (omega (arith, g .words)))
 
     behind : r ≡ at + suc (sizes f)
@@ -64,7 +64,7 @@ module _ {at z : ℕ} {w : List ℕ} (g : Room at w z) where
         let a : j < 8 = omega (arith, c .seat) in
         let m : n < 4 = c .few in
         let d : k < 16384 = c .small in
-        let o : 0 < 2097152 = omega arith in
+        let o : 0 < PLACES = omega arith in
         built-decide 2 plain at (decisionWord j n k r 0) w v u j (k ∷ []) f r row (omega (arith, g .words)) (c .word) (
           kind-of j n k r 0 a m d behind-few o,
           actor-of j n k r 0 a m d behind-few o,
@@ -99,7 +99,7 @@ module _ {at : ℕ} {w : List ℕ} (j : ℕ) (k : Key) (t s : Tree) (f : Trees) 
       room-three o g = next-room g (row-two h i) (size o) (omega arith)
 
 module _ {at r q : ℕ} {w v u : List ℕ} (j : ℕ) (k : Key) {t s : Tree} (h : Built 2 plain (at + 1) w v t r) (i : Built 2 plain r v u s q) where
-  pub two-fit : Room at w (size (decide j k (cons t (cons s nil)))) → (q < 2097152) × (at < length u)
+  pub two-fit : Room at w (size (decide j k (cons t (cons s nil)))) → (q < PLACES) × (at < length u)
   unfolding size
   two-fit g = row-fits g (row-two h i) refl
 
@@ -108,7 +108,7 @@ module _ {at r q : ℕ} {w v u : List ℕ} (j : ℕ) (k : Key) {t s : Tree} (h :
   lays-two g c = lays-decision g (row-two h i) refl refl c
 
   module _ {x : List ℕ} {p : ℕ} {o : Tree} (l : Built 2 plain q u x o p) where
-    pub three-fit : Room at w (size (decide j k (cons t (cons s (cons o nil))))) → (p < 2097152) × (at < length x)
+    pub three-fit : Room at w (size (decide j k (cons t (cons s (cons o nil))))) → (p < PLACES) × (at < length x)
     unfolding size
     three-fit g = row-fits g (row-three h i l) refl
 
@@ -132,7 +132,7 @@ module _ (k₀ k₁ base step inc : ℕ) (close : ℕ → ℕ → Tree) (j n x :
 
     -- and its CALL
     module _ {u : List ℕ} {p : ℕ} (i : Built 2 plain q v u (close (2 * n + step) (x + inc)) p) where
-      pub last-fits : (r : ℕ) → r ≡ 0 → Room at w (size (raisedTree k₀ k₁ base step inc close r j n x)) → (p < 2097152) × (at < length u)
+      pub last-fits : (r : ℕ) → r ≡ 0 → Room at w (size (raisedTree k₀ k₁ base step inc close r j n x)) → (p < PLACES) × (at < length u)
       unfolding raisedTree
       last-fits zero e g = two-fit _ _ h i g
       last-fits (suc r) e g = absurd (omega arith)
@@ -151,7 +151,7 @@ module _ (k₀ k₁ base step inc : ℕ) (close : ℕ → ℕ → Tree) (j n x :
       -- and its RAISE
       module _ {z : List ℕ} {o : ℕ} where
         pub again-fits : (r : ℕ) → 0 < r → Room at w (size (raisedTree k₀ k₁ base step inc close r j n x)) → Built 2 plain p u z
-            (raisedTree k₀ k₁ base step inc close (r - 1) (1 - j) (2 * n + 2 * step) (x + inc)) o → (o < 2097152) × (at < length z)
+            (raisedTree k₀ k₁ base step inc close (r - 1) (1 - j) (2 * n + 2 * step) (x + inc)) o → (o < PLACES) × (at < length z)
         unfolding raisedTree
         again-fits zero l g b = absurd (omega arith)
         again-fits (suc r) l g b = let e : suc r - 1 ≡ r = omega arith in three-fit _ _ h i (rw e at b) g

@@ -8,6 +8,7 @@ ghost use lib.ListN.{length, set};
 ghost use Rattle.game_tree.specs.Sets.{size};
 ghost use Rattle.arena.specs.internal.Built.{Built, Room};
 ghost use Rattle.leduc_arena_layout.specs.internal.Layout.{plain, byteFor, endTree, Chosen};
+ghost use Rattle.arena.specs.internal.Words.{PLACES};
 
 // How an end goes for a seat.
 pub const LOSS: usize = 0;
@@ -77,7 +78,7 @@ pub fn write_decision(
     next: usize,
 )
     requires { ⌜ (seat < 2) × (actions < 4) × (zero ≤ 9743) × (one ≤ 9743) × (number ≤ 4656) ⌝ }
-    requires { ⌜ (next < 2097152) × (at < length (now w)) ⌝ }
+    requires { ⌜ (next < PLACES) × (at < length (now w)) ⌝ }
     ensures { λ _. ⌜ Chosen at seat actions (cond (eqb seat 0) zero one + number) next (now (w .entry)) (now (w .exit)) ⌝ }
 {
     let code = own(seat, zero, one) + number;

@@ -65,7 +65,8 @@ fn options_at(h: &[u8], agent: usize) -> Legal
 // The legal actions of a seat: none unless it is its turn.
 pub fn legal_in(round1: &[u8], round2: &[u8], live: bool, agent: usize) -> Legal
     ensures within { λ r. ⌜ r .count ≤ 3 ⌝ }
-    ensures whole { λ r. ⌜ take (r .count) (r .actions) ≡ cond (and live (eqb agent (turn (now (round1 .entry)) (now (round2 .entry))))) (options (in-play (now (round1 .entry)) (now (round2 .entry)))) [] ⌝ }
+    ensures whole { λ r. ⌜ take (r .count) (r .actions) ≡ cond
+        (and live (eqb agent (turn (now (round1 .entry)) (now (round2 .entry))))) (options (in-play (now (round1 .entry)) (now (round2 .entry)))) [] ⌝ }
 {
     if !live {
         return Legal {

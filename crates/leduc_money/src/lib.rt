@@ -13,7 +13,7 @@ ghost use Prim.Native.Nat.{_+_, _-_, _≤_};
 ghost use lib.ListN.{length};
 ghost use Rattle.leduc_rules.specs.Stakes.{ante, raise₁, raise₂};
 ghost use Rattle.leduc_rules.specs.Rules.{folds, pairs, beats, wins, payoff};
-ghost use Rattle.leduc_rules.proofs.Pots.{matched, seated, after-round, pot, Begins-level};
+ghost use Rattle.leduc_rules.specs.internal.Pots.{matched, seated, after-round, pot, Begins-level};
 
 // What the seat to act has paid after an action.
 fn paid_after(acting: usize, other: usize, size: usize, action: u8) -> usize
@@ -157,21 +157,22 @@ pub fn gain(wins: bool, loses: bool, mine: usize, theirs: usize) -> i64
     0
 }
 
-// What each seat gains.
-pub struct Gains {
+// What each seat is paid.
+pub struct Payoffs {
     pub zero: i64,
     pub one: i64,
 }
 
 // At a position that legal moves reach round 2 begins with equal contributions, if it has begun.
-pub fn settled(cards: [u8; 2], public: Public, round1: &[u8], round2: &[u8]) -> Gains
+pub fn settled(cards: [u8; 2], public: Public, round1: &[u8], round2: &[u8]) -> Payoffs
     requires { ⌜ (length (now round1) ≤ 4) × (length (now round2) ≤ 4) × Begins-level (now round1) (now round2) ⌝ }
-    ensures { λ r. ⌜ (r .zero ≡ payoff ante raise₁ raise₂ cards public (now (round1 .entry)) (now (round2 .entry)) 0) × (r .one ≡ payoff ante raise₁ raise₂ cards public (now (round1 .entry)) (now (round2 .entry)) 1) ⌝ }
+    ensures { λ r. ⌜ (r .zero ≡ payoff ante raise₁ raise₂ cards public (now (round1 .entry)) (now (round2 .entry)) 0)
+        × (r .one ≡ payoff ante raise₁ raise₂ cards public (now (round1 .entry)) (now (round2 .entry)) 1) ⌝ }
 {
     let pot = contributions(round1, round2);
     let first = is_winner(cards, public, round1, round2, 0, 1);
     let second = is_winner(cards, public, round1, round2, 1, 0);
     let zero = gain(first, second, pot.acting, pot.other);
     let one = gain(second, first, pot.other, pot.acting);
-    Gains { zero, one }
+    Payoffs { zero, one }
 }

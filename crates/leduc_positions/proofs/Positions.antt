@@ -15,7 +15,7 @@ use Rattle.leduc_rules.specs.Rules.{live}
 use Rattle.leduc_betting.specs.Cards.{hidden, strange, twice}
 use Rattle.leduc_rules.proofs.Reaching.{Possible, possible-parts, live-open, ended-dealt}
 use Rattle.leduc_rules.proofs.Moves.{closed-or-none}
-use Rattle.leduc_rules.proofs.Pots.{Begins-level}
+use Rattle.leduc_rules.specs.internal.Pots.{Begins-level}
 use Rattle.leduc_rules.specs.Reached.{possible}
 use Rattle.leduc_positions.specs.Positions.{cardsOf, seenOf, roundOne, roundTwo, reachable}
 use Rattle.leduc_positions.specs.declared.LeducState.{LeducState}

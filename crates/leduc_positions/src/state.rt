@@ -8,7 +8,7 @@ use leduc_betting::cards::all_seen;
 use leduc_betting::cards::nth_remaining;
 use leduc_betting::options::Legal;
 use leduc_betting::options::legal_in;
-use leduc_money::Gains;
+use leduc_money::Payoffs;
 use leduc_money::settled;
 use leduc_rules::play::cards_fit;
 use leduc_rules::play::is_due;
@@ -20,8 +20,9 @@ ghost use lib.ListN.{getD, take};
 ghost use Rattle.leduc_betting.specs.Betting.{closes, ended, counted};
 ghost use Rattle.leduc_betting.specs.Cards.{remaining};
 ghost use Rattle.leduc_rules.specs.Rules.{due, live};
-ghost use Rattle.leduc_rules.proofs.Pots.{Begins-level};
-ghost use Rattle.leduc_positions.specs.Positions.{reachable, cardsOf, seenOf, roundOne, roundTwo, in-playOf, legal-of, with-card, with-action, payoff-of, mark};
+ghost use Rattle.leduc_rules.specs.internal.Pots.{Begins-level};
+ghost use Rattle.leduc_positions.specs.Positions.{reachable, cardsOf, seenOf, roundOne, roundTwo, in-playOf};
+ghost use Rattle.leduc_positions.specs.Positions.{legal-of, with-card, with-action, payoff-of, mark};
 
 // Whether a position can be reached from the start by legal moves.
 pub fn is_reachable(state: LeducState) -> bool
@@ -198,7 +199,7 @@ pub fn end_mark(state: LeducState) -> u64
 }
 
 // What each seat gains.
-pub fn state_payoffs(state: LeducState) -> Gains
+pub fn state_payoffs(state: LeducState) -> Payoffs
     requires { ⌜ (state .dealt ≡ 2) × (state .acted1 ≤ 4) × (state .acted2 ≤ 4) × Begins-level (roundOne state) (roundTwo state) ⌝ }
     ensures { λ r. ⌜ (r .zero ≡ payoff-of state 0) × (r .one ≡ payoff-of state 1) ⌝ }
 {

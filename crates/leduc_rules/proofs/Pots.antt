@@ -15,27 +15,9 @@ use Rattle.leduc_betting.specs.Betting.{CALL, RAISE, closes}
 use Rattle.leduc_rules.specs.Rules.{after-action, put-in, added, contribution, wins, payoff}
 use Rattle.leduc_betting.specs.declared.Public.{Public}
 use Rattle.leduc_rules.specs.declared.Pot.{Pot}
+use Rattle.leduc_rules.specs.internal.Pots.{matched, bet, seated, after-round, pot-of, pot, Begins-level}
 use Rattle.leduc_rules.proofs.Gains.{gained}
 use Rattle.leduc_rules.proofs.Money.{acting, other, acting-more, other-more, even-turn, odd-turn, closed-level}
-
--- ---- the loop: what the seat to act has paid after an action, what both have after a round, and that with seat 0 first
-
-unfoldable pub matched : (size : ℕ) → Pot → ℕ → ℕ
-matched size q a = cond (eqb a CALL) (q .other) (cond (eqb a RAISE) (q .other + size) (q .acting))
-
-unfoldable pub bet : (size : ℕ) → Pot → List ℕ → Pot
-bet size q [] = q
-bet size q (a ∷ h) = bet size (record { acting = q .other; other = matched size q a }) h
-
--- seat 0 begins the round, so after an odd number of actions it is the other
-unfoldable pub seated : ℕ → Pot → Pot
-seated n q = cond (eqb (n % 2) 0) q (record { acting = q .other; other = q .acting })
-
-unfoldable pub after-round : (size : ℕ) → Pot → List ℕ → Pot
-after-round size q h = seated (length h) (bet size q h)
-
-abbrev pub pot-of : ℕ → ℕ → Pot
-pot-of a o = record { acting = a; other = o }
 
 -- one action more, as a loop bets
 pub bet-step : (size a o : ℕ) (h : List ℕ) (i : ℕ) → i < length h → bet size (pot-of a o) (drop i h) ≡ bet size (pot-of o (matched size (pot-of a o) (getD h i 0))) (drop (i + 1) h)
@@ -138,14 +120,7 @@ module _ (size u : ℕ) where
       ap (seated (length h)) (sym (bet-from h (length h) (omega arith)) ∙ bet-end size (u + acting size h (length h)) (u + other size h (length h)) h (length h) (omega arith))
       ∙ by-seat h (length h)
 
--- round 2 begins with both seats level, or has not begun
-abbrev pub Begins-level : List ℕ → List ℕ → Type 0
-Begins-level h₁ h₂ = (closes h₁ ≡ true) ⊎ (h₂ ≡ [])
-
 module _ (ante raise₁ raise₂ : ℕ) (h₁ h₂ : List ℕ) where
-  abbrev pub pot : Pot
-  pot = after-round raise₂ (after-round raise₁ (pot-of ante ante) h₁) h₂
-
   -- what seat s has paid before round 2
   abbrev before : ℕ → ℕ
   before s = ante + added raise₁ h₁ s
@@ -160,7 +135,7 @@ module _ (ante raise₁ raise₂ : ℕ) (h₁ h₂ : List ℕ) where
       let e : before 0 ≡ before 1 = ap (λ x. ante + x) (closed-level raise₁ h₁ c) in
       ap (λ x. after-round raise₂ (pot-of (before 0) x) h₂) (sym e) ∙ round-adds raise₂ (before 0) h₂ ∙ ap (λ x. pot-of (before 0 + added raise₂ h₂ 0) (x + added raise₂ h₂ 1)) e
 
-  pub pot-paid : Begins-level h₁ h₂ → pot ≡ pot-of (contribution ante raise₁ raise₂ h₁ h₂ 0) (contribution ante raise₁ raise₂ h₁ h₂ 1)
+  pub pot-paid : Begins-level h₁ h₂ → pot ante raise₁ raise₂ h₁ h₂ ≡ pot-of (contribution ante raise₁ raise₂ h₁ h₂ 0) (contribution ante raise₁ raise₂ h₁ h₂ 1)
   unfolding contribution
   pot-paid w = ap (λ q. after-round raise₂ q h₂) (round-adds raise₁ ante h₁) ∙ ⊎-elim level-added none-added w
 

@@ -5,3 +5,4 @@ pub mod Stakes
 pub mod Reached
 pub mod Facts
 pub mod Moves
+pub mod internal

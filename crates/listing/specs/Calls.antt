@@ -17,7 +17,8 @@ use Rattle.listing.specs.declared.ListingAnswer.{ListingAnswer}
 
 -- the cards of a node of the game's tree, by its number: those of its position
 unfoldable pub cardsAt : Game → ℕ → Cards
-cardsAt g a = cond (isKuhn g) (Kuhn.cardsOf (Kuhn-tree.positionOf (treeOf g) (g .seats) a)) (Leduc.cardsOf (Leduc-tree.positionOf (treeOf g) a))
+cardsAt g a = cond (isKuhn g) (Kuhn.cardsOf (Kuhn-tree.positionOf (treeOf g) (g .seats) a))
+    (Leduc.cardsOf (Leduc-tree.positionOf (treeOf g) a))
 
 -- the listing of the game's tree
 unfoldable pub listingOf : Game → List ℕ

@@ -6,26 +6,26 @@ use native.Mathlib.Nat as NatL
 use native.Mathlib.Omega.{arith}
 use lib.ListN.{getD, take, drop}
 use Rattle.prelude.proofs.Parts.{part-at}
-use Rattle.units.specs.internal.Readable.{Walkable}
+use Rattle.units.specs.internal.Readable.{Walkable, UNITS}
 
 -- ---- units
 pub share-few : (u p d : ℕ) → p ≤ d → u * p / d ≤ u
 share-few u p d h = NatL.div-le-of-le-mul d {m = u * p} {n = u} (rw (NatL.mul-comm d u) (NatL.mul-le-mul-left {m = p} {n = d} u h))
 
-pub product-few : (u p d : ℕ) → u < 144115188075855872 → p ≤ d → d ≤ 64 → u * p < 2 ^ 64
+pub product-few : (u p d : ℕ) → u < UNITS → p ≤ d → d ≤ 64 → u * p < 2 ^ 64
 product-few u p d h g m = let e : u * p ≤ u * 64 = NatL.mul-le-mul-left {m = p} {n = 64} u (omega arith) in omega arith
 
-pub quotient-few : (u c : ℕ) → u < 144115188075855872 → u / c < 144115188075855872
+pub quotient-few : (u c : ℕ) → u < UNITS → u / c < UNITS
 quotient-few u c h = omega (arith, NatL.div-le-self u c)
 
 -- ---- one step down, and one along
-pub walk-down : (a u v D d : ℕ) → Walkable a u D d → (d ≡ 0 → ⊥) → v < 144115188075855872 → Walkable (a + 1) v D (d - 1)
+pub walk-down : (a u v D d : ℕ) → Walkable a u D d → (d ≡ 0 → ⊥) → v < UNITS → Walkable (a + 1) v D (d - 1)
 walk-down a u v D d h z g = record { place = omega (arith, h .place, z); shallow = omega (arith, h .shallow); units = g; least = h .least; most = h .most }
 
-pub walk-along : (a b u v D d : ℕ) → Walkable a u D d → b < 4194304 → v < 144115188075855872 → Walkable b v D d
+pub walk-along : (a b u v D d : ℕ) → Walkable a u D d → b < 4194304 → v < UNITS → Walkable b v D d
 walk-along a b u v D d h l g = record { place = omega (arith, h .shallow); shallow = h .shallow; units = g; least = h .least; most = h .most }
 
-pub walk-here : (a u v D d : ℕ) → Walkable a u D d → v < 144115188075855872 → Walkable a v D d
+pub walk-here : (a u v D d : ℕ) → Walkable a u D d → v < UNITS → Walkable a v D d
 walk-here a u v D d h g = record { place = h .place; shallow = h .shallow; units = g; least = h .least; most = h .most }
 
 -- ---- the set's own part of the table
@@ -38,8 +38,8 @@ pub even-share : (u q p d : ℕ) → 1 ≤ d → q * d ≡ u → q * p ≡ u * p
 even-share u q p d l e = sym (ap (λ x. x * p / d) (sym e ∙ NatL.mul-comm q d) ∙ ap (λ x. x / d) (NatL.mul-assoc d q p) ∙ NatL.mul-div-cancel-left (q * p) l)
 
 -- a quotient times its divisor is no more than the dividend
-pub even-few : (u q d : ℕ) → u < 144115188075855872 → q ≡ u / d → q * d ≤ u
+pub even-few : (u q d : ℕ) → u < UNITS → q ≡ u / d → q * d ≤ u
 even-few u q d h e = rw e (NatL.div-mul-le-self u d)
 
-pub even-part : (u q p d : ℕ) → u < 144115188075855872 → p ≤ d → q * d ≡ u → q * p < 144115188075855872
+pub even-part : (u q p d : ℕ) → u < UNITS → p ≤ d → q * d ≡ u → q * p < UNITS
 even-part u q p d h l e = let m : q * p ≤ q * d = NatL.mul-le-mul-left {m = p} {n = d} q l in omega arith

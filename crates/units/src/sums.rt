@@ -6,6 +6,7 @@ ghost use Prim.Native.Nat.{_+_, _*_, _<_};
 ghost use lib.ListN.{getD, replicate};
 ghost use Rattle.arena.specs.internal.Words.{byteOf};
 ghost use Rattle.units.specs.internal.Sums.{wrapped};
+ghost use Rattle.units.specs.internal.Readable.{UNITS};
 
 pub struct Sums {
     pub of: [u64; 6],
@@ -36,7 +37,7 @@ pub fn add(a: Sums, b: Sums) -> Sums
 
 // What u units of the end with word x are worth.
 pub fn earned(x: u64, u: u64) -> Sums
-    requires { ⌜ u < 144115188075855872 ⌝ }
+    requires { ⌜ u < UNITS ⌝ }
     ensures { λ r. ⌜ r .of ≡ wrapped (λ i. u * byteOf x i) ⌝ }
 {
     let mut z = [0u64; 6];

@@ -22,7 +22,7 @@ use Rattle.games.specs.Games.{treeOf, C, m, rootUnits}
 use Rattle.games.specs.Facts.{nodesOf, entriesOf, setsOf}
 use Rattle.games.proofs.Facts.{reply-best, games-fit, nodes-are, entries-are, counted-games}
 use Rattle.arena.specs.internal.Index.{laterIn, Cleared}
-use Rattle.units.specs.internal.Readable.{Readable}
+use Rattle.units.specs.internal.Readable.{Readable, UNITS}
 use Rattle.units.specs.internal.Gain.{gain, setGain, topmost, Stocked}
 use Rattle.units.proofs.Gains.{gain-bound, set-gain-bound}
 use Rattle.units.proofs.Choices.{best-gains, gain-best}
@@ -77,10 +77,10 @@ module _ (g : Game) (D i : ℕ) (table : Table) (a : AcceptedTable g D table) (l
   valid : Valid (all D) s T
   valid = table-valid T D table (games-fit g (a .game .known) (a .game .seats) .actions) (a .valid)
 
-  units-few : U < 144115188075855872
+  units-few : U < UNITS
   units-few = units-fit g D (a .game) (a .most) .units
 
-  below : (x u : ℕ) → u < 144115188075855872 → x ≤ u * 124 → x < 2 ^ 64
+  below : (x u : ℕ) → u < UNITS → x ≤ u * 124 → x < 2 ^ 64
   below x u h k = omega arith
 
   -- the words of a tree with its index, then with units, then with no choice
@@ -162,7 +162,7 @@ module _ (g : Game) (D i : ℕ) (table : Table) (a : AcceptedTable g D table) (l
     pub walks : Walkable 0 i 32 (p .heads) (p .reach) (p .kept)
     walks = rw q (record { place = omega arith; seat = omega (arith, l, games-shaped g (a .game) .most); shallow = omega arith; heads = omega (arith, room .near); units = omega (arith, room .near); kept = omega (arith, room .near) })
 
-    module _ (u : ℕ) (j : (u ≡ U) × (u < 144115188075855872)) where
+    module _ (u : ℕ) (j : (u ≡ U) × (u < UNITS)) where
       pub storable : Storable 0 u D (p .reach) 32
       storable = standing.storable g D table a (p .reach) (ap (λ x. x .reach) q) u j
 

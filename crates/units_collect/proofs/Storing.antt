@@ -19,7 +19,7 @@ use Rattle.arena.specs.internal.Held.{Says, Held, HeldAll}
 use Rattle.arena.specs.internal.Walk.{Behind, Fan}
 use Rattle.arena.specs.internal.Index.{Kept, Alike}
 use Rattle.arena.proofs.Building.{size-some, held-same, held-same-all, kept-none, kept-join, kept-set}
-use Rattle.units.specs.internal.Readable.{Readable, ReadableAll}
+use Rattle.units.specs.internal.Readable.{Readable, ReadableAll, UNITS}
 use Rattle.units.specs.internal.Gain.{given, Stocked, StockedAll}
 use Rattle.arena.proofs.Reading.{deep-some}
 use Rattle.units.proofs.Reading.{chance-row, decide-row, first, rest, near}
@@ -362,8 +362,8 @@ module _ (table : List ℕ) (D i b a d : ℕ) (old : List ℕ) where
 pub store-down : (a u D b d : ℕ) → Storable a u D b d → (d ≡ 0 → ⊥) → Storable (a + 1) u D b (d - 1)
 store-down a u D b d h z = record { walk = walk-down a u u D d (h .walk) z (h .walk .units); base = h .base }
 
-pub store-along : (a p u v D b d : ℕ) → Storable a u D b d → p < 4194304 → v < 144115188075855872 → Storable p v D b d
+pub store-along : (a p u v D b d : ℕ) → Storable a u D b d → p < 4194304 → v < UNITS → Storable p v D b d
 store-along a p u v D b d h l g = record { walk = walk-along a p u v D d (h .walk) l g; base = h .base }
 
-pub store-here : (a u v D b d : ℕ) → Storable a u D b d → v < 144115188075855872 → Storable a v D b d
+pub store-here : (a u v D b d : ℕ) → Storable a u D b d → v < UNITS → Storable a v D b d
 store-here a u v D b d h g = record { walk = walk-here a u v D d (h .walk) g; base = h .base }

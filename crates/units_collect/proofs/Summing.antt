@@ -18,6 +18,7 @@ use Rattle.units.proofs.Lifting.{lift-back}
 use Rattle.units.proofs.Passing.{share-few, quotient-few}
 use Rattle.units.proofs.Six.{wrapped-at, sum-wraps}
 use Rattle.units_collect.specs.internal.Ends.{endGain, endGains, WithNode}
+use Rattle.units.specs.internal.Readable.{UNITS}
 
 -- ---- one node's
 pub gain-none : (x y i : ℕ) → (kindOf x ≡ END → ⊥) → endGain x y i ≡ 0
@@ -40,7 +41,7 @@ module _ (x y : ℕ) (f : ℕ → ℕ) (sums : List ℕ) (h : Summed f sums) whe
 -- ---- the nodes', place by place
 module _ (w : List ℕ) (b i : ℕ) where
   abbrev at : ℕ → ℕ
-  at a = endGain (getD w a 0) (getD w (b + a) 0 % 144115188075855872) i
+  at a = endGain (getD w a 0) (getD w (b + a) 0 % UNITS) i
 
   gains-join : (a m n : ℕ) → endGains w b i a (m + n) ≡ endGains w b i a m + endGains w b i (a + m) n
   unfolding endGains
@@ -63,20 +64,20 @@ module _ (w : List ℕ) (b i : ℕ) where
     mutual
       unfolding Held Says Stocked size lifted endGains
 
-      pub gains-lifted : (a u : ℕ) (t : Tree) → u < 144115188075855872 → Held n e l w a t → Stocked D s 8 b w a u t → endGains w b i a (size t) ≡ lifted D s i u t
-      gains-lifted a u (end p) f h g = NatL.add-zero (at a) ∙ gain-end (getD w a 0) (getD w (b + a) 0 % 144115188075855872) i (h .0)
-          ∙ ap₂ _*_ (ap (λ x. x % 144115188075855872) g ∙ NatL.mod-eq-of-lt f) (sym (lift-back (byteOf (getD w a 0) i)) ∙ ap lift (h .1 i seat))
-      gains-lifted a u (chance f) m h g = ap (λ x. x + endGains w b i (suc a) (sizes f)) (gain-none (getD w a 0) (getD w (b + a) 0 % 144115188075855872) i (λ q. omega (arith, h .0 .0)))
+      pub gains-lifted : (a u : ℕ) (t : Tree) → u < UNITS → Held n e l w a t → Stocked D s 8 b w a u t → endGains w b i a (size t) ≡ lifted D s i u t
+      gains-lifted a u (end p) f h g = NatL.add-zero (at a) ∙ gain-end (getD w a 0) (getD w (b + a) 0 % UNITS) i (h .0)
+          ∙ ap₂ _*_ (ap (λ x. x % UNITS) g ∙ NatL.mod-eq-of-lt f) (sym (lift-back (byteOf (getD w a 0) i)) ∙ ap lift (h .1 i seat))
+      gains-lifted a u (chance f) m h g = ap (λ x. x + endGains w b i (suc a) (sizes f)) (gain-none (getD w a 0) (getD w (b + a) 0 % UNITS) i (λ q. omega (arith, h .0 .0)))
           ∙ NatL.zero-add (endGains w b i (suc a) (sizes f)) ∙ gains-all (suc a) (u / fan f) (λ x. u / fan f) 0 f (λ x. refl) (quotient-few u (fan f) m) (h .1) (g .1)
-      gains-lifted a u (decide j k f) m h g = ap (λ x. x + endGains w b i (suc a) (sizes f)) (gain-none (getD w a 0) (getD w (b + a) 0 % 144115188075855872) i (λ q. omega (arith, h .0 .0)))
+      gains-lifted a u (decide j k f) m h g = ap (λ x. x + endGains w b i (suc a) (sizes f)) (gain-none (getD w a 0) (getD w (b + a) 0 % UNITS) i (λ q. omega (arith, h .0 .0)))
           ∙ NatL.zero-add (endGains w b i (suc a) (sizes f)) ∙ gains-kids (suc a) u j k (given D s 8 u j k) 0 f (λ x. given-is (getD w a 0) u j k x (h .0 .1)) m (h .1) (g .1)
 
-      gains-all : (a u : ℕ) (g : ℕ → ℕ) (x : ℕ) (f : Trees) → ((x : ℕ) → g x ≡ u) → u < 144115188075855872 → HeldAll n e l w a f → StockedAll D s 8 b w a g x f → endGains w b i a (sizes f) ≡ liftedAll D s i u f
+      gains-all : (a u : ℕ) (g : ℕ → ℕ) (x : ℕ) (f : Trees) → ((x : ℕ) → g x ≡ u) → u < UNITS → HeldAll n e l w a f → StockedAll D s 8 b w a g x f → endGains w b i a (sizes f) ≡ liftedAll D s i u f
       gains-all a u g x nil q m h k = refl
       gains-all a u g x (cons t f) q m h k = gains-join a (size t) (sizes f)
           ∙ ap₂ _+_ (gains-lifted a u t m (h .0) (subst (λ y. Stocked D s 8 b w a y t) (q x) (k .0))) (gains-all (a + size t) u g (suc x) f q m (h .1) (k .1))
 
-      gains-kids : (a u j : ℕ) (y : Key) (g : ℕ → ℕ) (x : ℕ) (f : Trees) → ((x : ℕ) → g x ≡ u * s j y x / D) → u < 144115188075855872 → HeldAll n e l w a f → StockedAll D s 8 b w a g x f
+      gains-kids : (a u j : ℕ) (y : Key) (g : ℕ → ℕ) (x : ℕ) (f : Trees) → ((x : ℕ) → g x ≡ u * s j y x / D) → u < UNITS → HeldAll n e l w a f → StockedAll D s 8 b w a g x f
           → endGains w b i a (sizes f) ≡ liftedKids D s i u j y x f
       gains-kids a u j y g x nil q m h k = refl
       gains-kids a u j y g x (cons t f) q m h k = gains-join a (size t) (sizes f)
@@ -100,7 +101,7 @@ reached-start w b r e i l = ap (λ z. getD z i 0) e ∙ none i l
     none (suc (suc (suc (suc (suc zero))))) h = refl
     none (suc (suc (suc (suc (suc (suc i)))))) h = absurd (omega arith)
 
-pub reached-more : (w : List ℕ) (b a x y : ℕ) (v r : List ℕ) → Reached w b a v → x ≡ getD w a 0 → y ≡ getD w (b + a) 0 → WithNode x (y % 144115188075855872) v r → Reached w b (a + 1) r
+pub reached-more : (w : List ℕ) (b a x y : ℕ) (v r : List ℕ) → Reached w b a v → x ≡ getD w a 0 → y ≡ getD w (b + a) 0 → WithNode x (y % UNITS) v r → Reached w b (a + 1) r
 reached-more w b a x y v r h p q g i l = rw (p, q) at (g (λ i. endGains w b i 0 a) h i l) ∙ ap (λ z. z % 2 ^ 64) (sym (gains-more w b i a))
 
 pub reached-end : (w : List ℕ) (b a n : ℕ) (r : List ℕ) → a ≤ n → n ≤ a → Reached w b a r → Reached w b n r

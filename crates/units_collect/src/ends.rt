@@ -10,10 +10,12 @@ use units::sums::none;
 ghost use Prim.Native.Nat.{_≤_, _<_};
 ghost use Rattle.units.specs.internal.Sums.{Summed};
 ghost use Rattle.units_collect.specs.internal.Ends.{endGains, WithNode};
+ghost use Rattle.arena.specs.internal.Words.{PLACES};
+ghost use Rattle.units.specs.internal.Readable.{UNITS};
 
 // The sums, and what y units of the node with word x are worth.
 fn with_node(sums: Sums, x: u64, y: u64) -> Sums
-    requires { ⌜ y < 144115188075855872 ⌝ }
+    requires { ⌜ y < UNITS ⌝ }
     ensures { λ r. ⌜ WithNode x y (sums .of) (r .of) ⌝ }
 {
     if kind(x) != END {
@@ -24,7 +26,7 @@ fn with_node(sums: Sums, x: u64, y: u64) -> Sums
 
 // What the nodes below place nodes are worth to each seat, with the units of place p at place units + p.
 pub fn end_sums(w: &[u64], nodes: usize, units: usize) -> Sums
-    requires { ⌜ (nodes ≤ 2097152) × (units ≤ 8388608) ⌝ }
+    requires { ⌜ (nodes ≤ PLACES) × (units ≤ 8388608) ⌝ }
     ensures { λ r. ⌜ Summed (λ i. endGains (now (w .entry)) units i 0 nodes) (r .of) ⌝ }
 {
     let mut sums = none();

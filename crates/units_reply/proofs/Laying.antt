@@ -24,7 +24,7 @@ use Rattle.game_tree.proofs.Sets.{preorder-length, decisions-of-nodes, Distinct
 use Rattle.game_tree.proofs.Entries.{entriesOf-append}
 use Rattle.game_tree.proofs.Tables.{laidOut-length}
 use Rattle.game_tree.proofs.Counting.{In, in-right, each-in, sets-in}
-use Rattle.arena.specs.internal.Words.{actorOf, actionsOf}
+use Rattle.arena.specs.internal.Words.{actorOf, actionsOf, PLACES}
 use Rattle.arena.specs.internal.Held.{Says}
 use Rattle.arena.specs.internal.Index.{firstOf, laterIn}
 use Rattle.arena.proofs.Nodes.{none, node, held-node}
@@ -127,7 +127,7 @@ first-number j y n a (t ∷ ts) m = at t m (tested (decides j y t)) (λ o. first
 
 module _ {i h k : ℕ} (S : Stage i h k) where
   -- the word of a set's first member: the seat that acts, and how many actions it has
-  head-says : (w : List ℕ) → Memo S w → (j : ℕ) (y : Key) (n : ℕ) → Known S j y n → (e : ℕ) → e ≡ firstEntry (S .tree) j y → (x : ℕ) → x ≡ getD w (getD w (h + e) 0 % 2097152) 0 → (actorOf x ≡ j) × (actionsOf x ≡ n)
+  head-says : (w : List ℕ) → Memo S w → (j : ℕ) (y : Key) (n : ℕ) → Known S j y n → (e : ℕ) → e ≡ firstEntry (S .tree) j y → (x : ℕ) → x ≡ getD w (getD w (h + e) 0 % PLACES) 0 → (actorOf x ≡ j) × (actionsOf x ≡ n)
   unfolding Says
   head-says w m j y n g e q x r = at (first-number j y n 0 (preorder (S .tree)) (subst (In (j, y, n)) (decisions-of-nodes (S .tree)) g))
     where
@@ -137,7 +137,7 @@ module _ {i h k : ℕ} (S : Stage i h k) where
           let few : b < size (S .tree) = subst (λ z. b < z) (preorder-length (S .tree)) l in
           let place : getD w (h + e) 0 ≡ b = ap (λ z. getD w (h + z) 0) q ∙ m .words (h + firstEntry (S .tree) j y) (omega (arith, S .before, inside S j y n g))
           ∙ known-of S (λ j y n. getD (S .words) (h + firstEntry (S .tree) j y) 0 ≡ firstOf (setMembers (S .tree) j y)) (S .indexed .heads) j y n g ∙ o ∙ NatL.zero-add b in
-          let here : x ≡ getD (S .words) b 0 = r ∙ ap (λ z. getD w (z % 2097152) 0) place ∙ ap (λ z. getD w z 0) (NatL.mod-eq-of-lt (omega (arith, few, S .room))) ∙ m .words b (omega (arith, few, S .nodes, S .before)) in
+          let here : x ≡ getD (S .words) b 0 = r ∙ ap (λ z. getD w (z % PLACES) 0) place ∙ ap (λ z. getD w z 0) (NatL.mod-eq-of-lt (omega (arith, few, S .room))) ∙ m .words b (omega (arith, few, S .nodes, S .before)) in
           let says : Says (S .seats) (firstEntry (S .tree)) (laterIn (S .tree)) x b (decide j y f) = subst (λ z. Says (S .seats) (firstEntry (S .tree)) (laterIn (S .tree)) z b (decide j y f)) (sym here)
           (subst (Says (S .seats) (firstEntry (S .tree)) (laterIn (S .tree)) (getD (S .words) b 0) b) d (held-node (S .seats) (firstEntry (S .tree)) (laterIn (S .tree)) (S .words) (S .tree) (S .indexed .held) b few)) in
           (says .1, says .2 ∙ same-fan S j y (fan f) n (subst (In (j, y, fan f)) (sym (decisions-of-nodes (S .tree))) c) g .0)
@@ -169,7 +169,7 @@ module _ (table : Table) (count i D h b k : ℕ) (old out : List ℕ) where
   unfolding laidOut entriesOf sumℕ
   laying-start S m t c = (m, [], Sets.sets (S .stage .tree), refl, refl, refl, refl)
 
-  pub laying-more : (w new written more : List ℕ) (n e x : ℕ) → n < count → Laying w written n e → x ≡ getD w (getD w (h + e) 0 % 2097152) 0 → LaidSet table x e i D h b k w new written more → Laying new more (n + 1) (e + actionsOf x)
+  pub laying-more : (w new written more : List ℕ) (n e x : ℕ) → n < count → Laying w written n e → x ≡ getD w (getD w (h + e) 0 % PLACES) 0 → LaidSet table x e i D h b k w new written more → Laying new more (n + 1) (e + actionsOf x)
   unfolding laidOut entriesOf sumℕ In
   laying-more w new written more n e x l p q r S m t c = at (p S m t c)
     where

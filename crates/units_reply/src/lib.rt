@@ -1,4 +1,5 @@
 // The reply as a table: D parts on the choice in each set of the seat, 0 on its other actions, and the given table's parts in the other seats' sets.
+use arena::words::PLACES;
 use arena::words::actions;
 use arena::words::actor;
 use arena::words::word;
@@ -100,7 +101,7 @@ pub fn write_reply(
     let mut set = 0;
     let mut at = 0;
     while set < count {
-        let head = word(w, heads + at) % 2097152;
+        let head = word(w, heads + at) % PLACES;
         let x = word(w, head as usize);
         write_set(w, table, out, x, at, seat, d, heads, units, kept);
         at += actions(x);

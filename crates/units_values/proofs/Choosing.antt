@@ -12,7 +12,7 @@ use Rattle.game_tree.specs.Sums.{sumℕ}
 use Rattle.game_tree.proofs.Tests.{Tested, is, isn't, tested}
 use Rattle.game_tree.specs.Tree.{Key, fan}
 use Rattle.game_tree.specs.Sets.{firstEntry}
-use Rattle.arena.specs.internal.Words.{laterOf}
+use Rattle.arena.specs.internal.Words.{laterOf, PLACES}
 use Rattle.arena_walks.specs.internal.Child.{nth, Child}
 use Rattle.arena_walks.specs.internal.Stage.{Known, Memo}
 use Rattle.arena_walks.proofs.Standing.{known-of}
@@ -94,7 +94,7 @@ module _ {i h b k : ℕ} (S : Scene i h b k) (y : Key) (a : ℕ) where
     pub all : behindAction S y a ≡ done + adds ms
 
   -- all of them
-  rest-start : (old : List ℕ) → Memo (S .stage) old → (n : ℕ) → Known (S .stage) i y n → (c : ℕ) → c ≡ getD old (h + firstEntry (S .stage .tree) i y) 0 % 2097152
+  rest-start : (old : List ℕ) → Memo (S .stage) old → (n : ℕ) → Known (S .stage) i y n → (c : ℕ) → c ≡ getD old (h + firstEntry (S .stage .tree) i y) 0 % PLACES
       → Rest c 0 (found (S .parts) (S .strategy) i y 0 (S .root) (S .stage .tree))
   unfolding setGain
   rest-start old m n g c e = record {
@@ -137,8 +137,8 @@ module _ (i d h b k e a : ℕ) (old : List ℕ) where
   Summed w c sum = (S : Scene i h b k) → Memo (S .stage) old → (y : Key) (n : ℕ) → Known (S .stage) i y n → e ≡ firstEntry (S .stage .tree) i y → S .stage .levels i y ≤ d → a < n
       → Memo (S .stage) w × (ms : List Member) × Rest S y a c sum ms
 
-  pub summed-start : (c : ℕ) → c ≡ getD old (h + e) 0 % 2097152 → Summed old c 0
-  summed-start c q S m y n g l x z = (m, found (S .parts) (S .strategy) i y 0 (S .root) (S .stage .tree), rest-start S y a old m n g c (q ∙ ap (λ j. getD old (h + j) 0 % 2097152) l))
+  pub summed-start : (c : ℕ) → c ≡ getD old (h + e) 0 % PLACES → Summed old c 0
+  summed-start c q S m y n g l x z = (m, found (S .parts) (S .strategy) i y 0 (S .root) (S .stage .tree), rest-start S y a old m n g c (q ∙ ap (λ j. getD old (h + j) 0 % PLACES) l))
 
   pub summed-more : (w new : List ℕ) (c sum q v s next : ℕ) → Summed w c sum → 0 < c → Child w c a q → Valued i d h b k q w new v → s ≡ (sum + v) % 2 ^ 64 → next ≡ laterOf (getD new c 0) → Summed new next s
   summed-more w new c sum q v s next f p o r j x S m y n g l z t = at (f S m y n g l z t)

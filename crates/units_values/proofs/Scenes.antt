@@ -16,14 +16,15 @@ use Rattle.arena_walks.proofs.Descending.{Descent}
 use Rattle.units.specs.internal.Gain.{given, gain, gainPick, Stocked}
 use Rattle.units.proofs.Passing.{share-few, quotient-few}
 use Rattle.units_values.specs.internal.Valued.{Scene, Here, HereAll, gained}
+use Rattle.units.specs.internal.Readable.{UNITS}
 
 module _ {i h b k : ℕ} (S : Scene i h b k) where
   -- no share is more than the whole
-  given-few : (u j : ℕ) (y : Key) (x : ℕ) → u < 144115188075855872 → given (S .parts) (S .strategy) i u j y x < 144115188075855872
+  given-few : (u j : ℕ) (y : Key) (x : ℕ) → u < UNITS → given (S .parts) (S .strategy) i u j y x < UNITS
   unfolding share
   given-few u j y x l = at (eqb j i)
     where
-      at : (t : Bool) → share (S .parts) t u (S .strategy j y x) < 144115188075855872
+      at : (t : Bool) → share (S .parts) t u (S .strategy j y x) < UNITS
       at true = l
       at false = omega (arith, share-few u (S .strategy j y x) (S .parts) (S .fair j y x))
 

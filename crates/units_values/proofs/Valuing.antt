@@ -26,6 +26,7 @@ use Rattle.units.proofs.Lifting.{lift-back}
 use Rattle.units.proofs.Six.{product, sum-wraps}
 use Rattle.units_values.specs.internal.Valued.{Walkable, Scene, Here, HereAll, gained, gainedAll, behindAction, Valued, ValuedAll, ValuedOwn, Chosen}
 use Rattle.units_values.proofs.Scenes.{kids-chance, kids-decide, first, descent, pick-gain}
+use Rattle.units.specs.internal.Readable.{UNITS}
 
 -- ---- a node by its word
 module _ (i d h b k a : ℕ) (old : List ℕ) where
@@ -36,11 +37,11 @@ module _ (i d h b k a : ℕ) (old : List ℕ) where
     says : (S : Scene i h b k) → Memo (S .stage) old → (t : Tree) (u y : ℕ) → Here S y a u t → x ≡ getD (S .stage .words) a 0
     says S m t u y g = e ∙ seen (S .stage) old m y a t (g .stands)
 
-    value-end : (y l v : ℕ) → kindOf x ≡ END → y ≡ getD old (b + a) 0 → (l ≡ byteOf x i) × (l < 128) → v ≡ y % 144115188075855872 * l → Valued i d h b k a old old v
+    value-end : (y l v : ℕ) → kindOf x ≡ END → y ≡ getD old (b + a) 0 → (l ≡ byteOf x i) × (l < 128) → v ≡ y % UNITS * l → Valued i d h b k a old old v
     unfolding Held Says Stocked gain
     value-end y l v z q p o S m (end f) u lev le g = (m, o ∙ ap (λ j. j * l) units ∙ product u l (byteOf x i) (g .small) p ∙ ap (λ j. u * j % 2 ^ 64) byte)
       where
-        units : y % 144115188075855872 ≡ u
+        units : y % UNITS ≡ u
         units = let s : y ≡ u = q ∙ m .words (b + a) (omega (arith, g .stands .room, size-some (end f), S .below)) ∙ g .stocked in rw s (NatL.mod-eq-of-lt (g .small))
 
         byte : byteOf x i ≡ lift (f i)
@@ -48,7 +49,7 @@ module _ (i d h b k a : ℕ) (old : List ℕ) where
     value-end y l v z q p o S m (chance f) u lev le g = absurd (omega (arith, g .stands .held .0 .0, ap kindOf (says S m (chance f) u lev g)))
     value-end y l v z q p o S m (decide j n f) u lev le g = absurd (omega (arith, z, g .stands .held .0 .0, ap kindOf (says S m (decide j n f) u lev g)))
 
-    pub value-ended : (v : ℕ) → kindOf x ≡ END → v ≡ getD old (b + a) 0 % 144115188075855872 * byteOf x i → Valued i d h b k a old old v
+    pub value-ended : (v : ℕ) → kindOf x ≡ END → v ≡ getD old (b + a) 0 % UNITS * byteOf x i → Valued i d h b k a old old v
     value-ended v z o = value-end (getD old (b + a) 0) (byteOf x i) v z refl (refl, NatL.mod-lt _ (omega arith)) o
 
     module _ (new : List ℕ) (r : ℕ) where

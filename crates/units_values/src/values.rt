@@ -6,6 +6,7 @@ use arena::payoffs::lifted;
 use arena::walk::behind;
 use arena::words::DECISION;
 use arena::words::END;
+use arena::words::PLACES;
 use arena::words::actions;
 use arena::words::actor;
 use arena::words::kind;
@@ -24,11 +25,12 @@ ghost use Prim.Native.Nat.{_+_, _*_, _%_, _<_};
 ghost use lib.ListN.{getD};
 ghost use Rattle.arena.specs.internal.Words.{byteOf};
 ghost use Rattle.units_values.specs.internal.Valued.{Walkable, Valued, ValuedAll, ValuedOwn, Totalled, Chosen};
+ghost use Rattle.units.specs.internal.Readable.{UNITS};
 
 // The lifted value of the end at place a with word x.
 fn ended(w: &[u64], a: usize, x: u64, seat: usize, units: usize) -> u64
     requires { ⌜ (seat < 6) × (units + a < 33554432) ⌝ }
-    ensures { λ r. ⌜ r ≡ getD (now (w .entry)) (units + a) 0 % 144115188075855872 * byteOf x seat ⌝ }
+    ensures { λ r. ⌜ r ≡ getD (now (w .entry)) (units + a) 0 % UNITS * byteOf x seat ⌝ }
 {
     word(w, units + a) % UNITS * lifted(x, seat)
 }
@@ -174,7 +176,7 @@ fn total(
     ensures { λ r. ⌜ Totalled seat depth heads units kept first action (now (w .entry)) (now (w .exit)) r ⌝ }
 {
     let mut sum = 0;
-    let mut at = (word(w, heads + first) % 2097152) as usize;
+    let mut at = (word(w, heads + first) % PLACES) as usize;
     while 0 < at {
         let place = child(w, at, action);
         let one = below(w, place, seat, depth, heads, units, kept);

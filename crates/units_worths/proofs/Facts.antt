@@ -19,11 +19,12 @@ use Rattle.games.proofs.Known.{kuhn-two, kuhn-six, leduc-two}
 use Rattle.arena_store.proofs.Shaped.{games-legible}
 use Rattle.units_worths.specs.internal.Facts.{Fits, Units-fit, Games-readable}
 use Rattle.units_worths.proofs.Entries.{entries-few}
+use Rattle.units.specs.internal.Readable.{UNITS}
 
 -- ---- the units of Kuhn's root
-kuhn-units-few : (n : ℕ) → 2 ≤ n → n ≤ 6 → Kuhn-facts.rootUnits n (Kuhn.largestParts n) < 144115188075855872
+kuhn-units-few : (n : ℕ) → 2 ≤ n → n ≤ 6 → Kuhn-facts.rootUnits n (Kuhn.largestParts n) < UNITS
 unfolding Kuhn.C
-kuhn-units-few = by-seats (λ n. Kuhn-facts.rootUnits n (Kuhn.largestParts n) < 144115188075855872) (omega arith) (omega arith) (omega arith) (omega arith) (omega arith)
+kuhn-units-few = by-seats (λ n. Kuhn-facts.rootUnits n (Kuhn.largestParts n) < UNITS) (omega arith) (omega arith) (omega arith) (omega arith) (omega arith)
 
 kuhn-most-units : (n D : ℕ) → D ≤ Kuhn.largestParts n → Kuhn-facts.rootUnits n D ≤ Kuhn-facts.rootUnits n (Kuhn.largestParts n)
 kuhn-most-units n D l = NatL.mul-le-mul-left (Kuhn.C n) (NatL.pow-le-pow-left l (Kuhn.m n))

@@ -26,6 +26,7 @@ use Rattle.units_worths.specs.internal.Worths.{loweredOf}
 use Rattle.tree_refusals.specs.Accepted.{AcceptedTable}
 use Rattle.arena_store.proofs.Shaped.{games-shaped}
 use Rattle.units_worths.proofs.Facts.{units-fit}
+use Rattle.units.specs.internal.Readable.{UNITS}
 
 -- ---- a difference as a signed number
 pub minus-less : (s l : ℕ) → s < l → pos s -ℤ pos l ≡ negℤ (pos (l - s))
@@ -108,7 +109,7 @@ module _ (g : Game) (D : ℕ) (table : Table) (a : AcceptedTable g D table) wher
     sum-is : getD r i 0 ≡ lift-of i
     sum-is = e i l ∙ NatL.mod-eq-of-lt (small (lift-of i) U (units-fit g D (a .game) (a .most) .units) (lift-few i l))
       where
-        small : (x u : ℕ) → u < 144115188075855872 → x ≤ 124 * u → x < 2 ^ 64
+        small : (x u : ℕ) → u < UNITS → x ≤ 124 * u → x < 2 ^ 64
         small x u h k = omega arith
 
     sum-few : getD r i 0 ≤ 124 * U

@@ -6,6 +6,7 @@ use native.Mathlib.Numerals.{add-one}
 use native.Mathlib.Omega.{arith}
 use mir.Syntax.{w64}
 use mir.Val.{Fits}
+use Rattle.units.specs.internal.Readable.{UNITS}
 
 module _ (c d : ℕ) where
   pub no-power : c ≡ c * d ^ 0
@@ -18,8 +19,8 @@ module _ (c d : ℕ) where
   pub partial-few : (i m N : ℕ) → 1 ≤ d → i ≤ m → c * d ^ m < N → c * d ^ i < N
   partial-few i m N l w h = NatL.lt-of-le-of-lt (NatL.mul-le-mul-left c (NatL.pow-le-pow-right l w)) h
 
-  pub partial-fits : (x i m : ℕ) → x ≡ c * d ^ i → 1 ≤ d → i < m → c * d ^ m < 144115188075855872 → Fits w64 (x * d)
-  partial-fits x i m e l w h = let f : x * d < 144115188075855872 = rw (one-power-more x i e) (partial-few (i + 1) m 144115188075855872 l (omega arith) h) in record { fits = omega arith }
+  pub partial-fits : (x i m : ℕ) → x ≡ c * d ^ i → 1 ≤ d → i < m → c * d ^ m < UNITS → Fits w64 (x * d)
+  partial-fits x i m e l w h = let f : x * d < UNITS = rw (one-power-more x i e) (partial-few (i + 1) m UNITS l (omega arith) h) in record { fits = omega arith }
 
   pub all-powers : (x i m : ℕ) → i ≤ m → m ≤ i → x ≡ c * d ^ i → x ≡ c * d ^ m
   all-powers x i m a b e = let q : i ≡ m = omega arith in e ∙ ap (λ j. c * d ^ j) q

@@ -14,7 +14,7 @@ use Rattle.games.specs.Games.{treeOf, rootUnits}
 use Rattle.games.specs.Facts.{nodesOf, entriesOf}
 use Rattle.games.proofs.Facts.{nodes-are, entries-are}
 use Rattle.arena.specs.internal.Index.{laterIn}
-use Rattle.units.specs.internal.Readable.{Readable}
+use Rattle.units.specs.internal.Readable.{Readable, UNITS}
 use Rattle.units.specs.internal.Lifted.{lifted}
 use Rattle.units.specs.internal.Sums.{Summed}
 use Rattle.units_collect.specs.internal.Collected.{Storable, Collected}
@@ -28,6 +28,7 @@ use Rattle.arena_store.proofs.Room.{Roomy, roomy}
 use Rattle.arena_store.proofs.Stored.{indexed-same}
 use Rattle.units_worths.proofs.Facts.{games-readable}
 use Rattle.units_worths.proofs.Lowering.{few-parts}
+use Rattle.arena.specs.internal.Words.{PLACES}
 
 -- ---- units of a table that is not refused, by the numbers in hand: from place b on, u of them at the root
 module _ (g : Game) (D : ℕ) (table : Table) (a : AcceptedTable g D table) (b : ℕ) (q : b ≡ reachAt g) where
@@ -49,10 +50,10 @@ module _ (g : Game) (D : ℕ) (table : Table) (a : AcceptedTable g D table) (b :
   pub units-near : b ≤ 8388608
   units-near = omega (arith, room .near)
 
-  pub nodes-near : (n : ℕ) → n ≡ nodesOf g → n ≤ 2097152
+  pub nodes-near : (n : ℕ) → n ≡ nodesOf g → n ≤ PLACES
   nodes-near n t = omega (arith, room .nodes)
 
-  module _ (u : ℕ) (j : (u ≡ rootUnits g D) × (u < 144115188075855872)) where
+  module _ (u : ℕ) (j : (u ≡ rootUnits g D) × (u < UNITS)) where
     pub storable : Storable 0 u D b 32
     storable = record { walk = record { place = omega arith; shallow = omega arith; units = j .1; least = a .least; most = few-parts g D table a }; base = units-near }
 

@@ -15,13 +15,14 @@ ghost use Rattle.arena_store.specs.internal.Stored.{Stored};
 ghost use Rattle.tree_refusals.specs.Accepted.{AcceptedTable};
 ghost use Rattle.units_worths.specs.Worths.{worthsOf};
 ghost use Rattle.units_worths.specs.internal.Worths.{loweredOf};
+ghost use Rattle.units.specs.internal.Readable.{UNITS};
 
 // No actor's number: its field holds 0 to 7.
 const NOBODY: usize = 8;
 
 // A sum of u units lifted by 64, as a worth.
 pub fn lowered(sum: u64, u: u64) -> i64
-    requires { ⌜ (u < 144115188075855872) × (sum ≤ 124 * u) ⌝ }
+    requires { ⌜ (u < UNITS) × (sum ≤ 124 * u) ⌝ }
     ensures { λ r. ⌜ r ≡ pos sum -ℤ pos (64 * u) ⌝ }
 {
     let lift = 64 * u;
@@ -33,7 +34,7 @@ pub fn lowered(sum: u64, u: u64) -> i64
 
 // The same of each of n seats; 0 past them.
 fn lowered_all(sums: Sums, u: u64, n: usize) -> [i64; 6]
-    requires { ⌜ (n ≤ 6) × (u < 144115188075855872) × ((i : ℕ) → i < n → getD (sums .of) i 0 ≤ 124 * u) ⌝ }
+    requires { ⌜ (n ≤ 6) × (u < UNITS) × ((i : ℕ) → i < n → getD (sums .of) i 0 ≤ 124 * u) ⌝ }
     ensures { λ r. ⌜ r ≡ loweredOf (sums .of) u n ⌝ }
 {
     let of = sums.of;

@@ -5,6 +5,7 @@ use Rattle.game_tree.specs.Tree.{Key, Tree, end, chance, decide, Trees, nil, co
 use Rattle.game_tree.specs.Conditions.{Every, EveryAll}
 use Rattle.game_tree.specs.Sets.{size, sizes, firstEntry}
 use Rattle.arena.specs.internal.Held.{Held, HeldAll}
+use Rattle.arena.specs.internal.Words.{PLACES}
 
 -- the most nodes on a path
 unfoldable mutual
@@ -25,13 +26,13 @@ Entered T E j k m = (2 ≤ m) × (m ≤ 3) × (firstEntry T j k + m ≤ E)
 -- its sets' entries stand among E, and d is no less than t is deep
 pub record Legible (n : ℕ) (T : Tree) (l : ℕ → ℕ → Key → ℕ) (w : List ℕ) (E a d : ℕ) (t : Tree) : Type 0 where
   pub held : Held n (firstEntry T) l w a t
-  pub room : a + size t ≤ 2097152
+  pub room : a + size t ≤ PLACES
   pub entered : Every (Entered T E) t
   pub within : deep t ≤ d
 
 -- the same of a row
 pub record LegibleAll (n : ℕ) (T : Tree) (l : ℕ → ℕ → Key → ℕ) (w : List ℕ) (E a d : ℕ) (f : Trees) : Type 0 where
   pub held : HeldAll n (firstEntry T) l w a f
-  pub room : a + sizes f ≤ 2097152
+  pub room : a + sizes f ≤ PLACES
   pub entered : EveryAll (Entered T E) f
   pub within : deepAll f ≤ d

@@ -13,6 +13,10 @@ CHANCE = 1
 abbrev pub DECISION : ℕ
 DECISION = 2
 
+-- places of the tree in memory: a word has 21 bits for one
+abbrev pub PLACES : ℕ
+PLACES = 2097152
+
 abbrev pub kindOf : ℕ → ℕ
 kindOf x = x % 4
 
@@ -30,19 +34,19 @@ setOf x = x / 128 % 16384
 
 -- the place behind the node's subtree
 abbrev pub nextOf : ℕ → ℕ
-nextOf x = x / 2097152 % 2097152
+nextOf x = x / PLACES % PLACES
 
 -- the next member of its set, 0 at the last
 abbrev pub laterOf : ℕ → ℕ
-laterOf x = x / 4398046511104 % 2097152
+laterOf x = x / 4398046511104 % PLACES
 
 -- the word of a decision
 abbrev pub decisionWord : (actor actions set next later : ℕ) → ℕ
-decisionWord actor actions set next later = 2 + 4 * actor + 32 * actions + 128 * set + 2097152 * next + 4398046511104 * later
+decisionWord actor actions set next later = 2 + 4 * actor + 32 * actions + 128 * set + PLACES * next + 4398046511104 * later
 
 -- the word of a chance node
 abbrev pub chanceWord : ℕ → ℕ
-chanceWord next = 1 + 2097152 * next
+chanceWord next = 1 + PLACES * next
 
 -- the byte of seat i at an end, and the payoff that it stands for: 64 is 0, so that none is below 0
 abbrev pub byteOf : ℕ → ℕ → ℕ

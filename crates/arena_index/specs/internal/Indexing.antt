@@ -9,7 +9,7 @@ use Rattle.prelude.specs.Finite.{and}
 use Rattle.game_tree.specs.Tree.{Key, Tree}
 use Rattle.game_tree.specs.Conditions.{Every}
 use Rattle.game_tree.specs.Sets.{size, firstEntry}
-use Rattle.arena.specs.internal.Words.{DECISION, kindOf, actorOf, actionsOf, setOf, nextOf, decisionWord}
+use Rattle.arena.specs.internal.Words.{DECISION, kindOf, actorOf, actionsOf, setOf, nextOf, decisionWord, PLACES}
 use Rattle.arena.specs.internal.Index.{Kept, Coded, Indexed}
 
 -- word x is a decision, and the word at its set's code is 0
@@ -35,7 +35,7 @@ relinked x e l = decisionWord (actorOf x) (actionsOf x) e (nextOf x) l
 
 -- the node at place a, of word x, put before the members that stand at first entry e
 abbrev pub pushed : (heads a x e : ℕ) → List ℕ → List ℕ
-pushed heads a x e w = set (set w a (relinked x e (getD w (heads + e) 0 % 2097152))) (heads + e) a
+pushed heads a x e w = set (set w a (relinked x e (getD w (heads + e) 0 % PLACES))) (heads + e) a
 
 -- the node at place a put before the members of its set
 unfoldable pub linked : (nodes heads a : ℕ) → List ℕ → List ℕ

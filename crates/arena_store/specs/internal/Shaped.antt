@@ -14,13 +14,14 @@ use Rattle.games.specs.Known.{Known}
 use Rattle.arena.specs.internal.Index.{laterIn}
 use Rattle.arena.specs.internal.Legible.{Legible}
 use Rattle.arena_store.specs.internal.Stored.{Stored}
+use Rattle.arena.specs.internal.Words.{PLACES}
 
 -- what a walk over its tree counts on: at most six seats and 2^21 nodes, at most 32 nodes on a path, their number above a decision by
 -- its key; two or three actions at each decision, with entries inside a table; payoffs of at most 60
 pub record Shaped (g : Game) : Type 0 where
   pub least : 2 ≤ g .seats
   pub most : g .seats ≤ 6
-  pub nodes : size (treeOf g) ≤ 2097152
+  pub nodes : size (treeOf g) ≤ PLACES
   pub levels : (v : ℕ → Key → ℕ) × Levels v 32 (treeOf g)
   pub actions : Every (λ j k n. (2 ≤ n) × (n ≤ 3)) (treeOf g)
   pub inside : Every (λ j k n. firstEntry (treeOf g) j k + n ≤ entries (treeOf g)) (treeOf g)

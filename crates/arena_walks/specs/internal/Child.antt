@@ -21,5 +21,6 @@ placeOf a (cons t f) (suc c) = placeOf (a + size t) f c
 
 -- whatever row is held behind the node at place a, r is the place of its child c, if c is at most 2
 pub record Child (w : List ℕ) (a c r : ℕ) : Type 0 where
-  pub place : (n : ℕ) (s : ℕ → Key → ℕ) (l : ℕ → ℕ → Key → ℕ) (f : Trees) → HeldAll n s l w (suc a) f → suc a + sizes f < 4194304 → c < fan f → c ≤ 2 → r ≡ placeOf (suc a) f c
+  pub place : (n : ℕ) (s : ℕ → Key → ℕ) (l : ℕ → ℕ → Key → ℕ) (f : Trees) → HeldAll n s l w (suc a) f → suc a + sizes f < 4194304
+      → c < fan f → c ≤ 2 → r ≡ placeOf (suc a) f c
   pub near : r < 4194304

@@ -13,14 +13,16 @@ Member W = ℕ × W × Trees
 
 -- a chance node with n children passes deal u n of u to each, a decision of seat j with key l passes move u j l a to action a
 module _ {W : Type 0} (deal : W → ℕ → W) (move : W → ℕ → Key → ℕ → W) (i : ℕ) (k : Key) where
-  -- the members of seat i's set k in a tree at place a that has u, in the order of their places; in a row what is passed goes by the child's number
+  -- the members of seat i's set k in a tree at place a that has u, in the order of their places; in a row what is passed goes by the
+  -- child's number
   unfoldable mutual
     unfolding fan same size
 
     pub found : ℕ → W → Tree → List (Member W)
     found a u (end p) = []
     found a u (chance f) = foundAll (suc a) (λ x. deal u (fan f)) 0 f
-    found a u (decide j l f) = let r : List (Member W) = foundAll (suc a) (move u j l) 0 f in cond (cond (eqb j i) (same l k) false) ((a, u, f) ∷ r) r
+    found a u (decide j l f) = let r : List (Member W) = foundAll (suc a) (move u j l) 0 f in cond (cond (eqb j i) (same l k) false)
+        ((a, u, f) ∷ r) r
 
     pub foundAll : ℕ → (ℕ → W) → ℕ → Trees → List (Member W)
     foundAll a g x nil = []

@@ -1,4 +1,5 @@
--- A stored tree with its index and room for choices: what a walk over it counts on, whatever it adds up. Definitions only; nothing is assumed.
+-- A stored tree with its index and room for choices: what a walk over it counts on, whatever it adds up. Definitions only; nothing is
+-- assumed.
 use mathlib.Core.Path.{_≡_}
 use mathlib.Core.Logic.{_⊎_}
 use mathlib.Core.List.{List}
@@ -41,7 +42,8 @@ module _ {i h k : ℕ} (S : Stage i h k) where
   pub record Memo (w : List ℕ) : Type 0 where
     pub words : (p : ℕ) → p < k → getD w p 0 ≡ getD (S .words) p 0
     pub long : length w ≡ length (S .words)
-    pub choices : (y : Key) (n : ℕ) → Known i y n → (getD w (k + firstEntry (S .tree) i y) 0 ≡ 0) ⊎ (getD w (k + firstEntry (S .tree) i y) 0 ≡ suc (S .choice y))
+    pub choices : (y : Key) (n : ℕ) → Known i y n → (getD w (k + firstEntry (S .tree) i y) 0 ≡ 0)
+        ⊎ (getD w (k + firstEntry (S .tree) i y) 0 ≡ suc (S .choice y))
 
   -- tree t stands at place a, with at most d nodes on a path
   pub record SubtreeAt (d a : ℕ) (t : Tree) : Type 0 where

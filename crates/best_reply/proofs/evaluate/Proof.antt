@@ -27,9 +27,14 @@ same-length-2 : tie.Need-same-length-2
 same-length-2 c = search needs
 
 returns : tie.Need-returns
-returns c =
-    let whole : toZ w64 (ofZ w64 (c .before .before .before .before .before .before .before .before .before .best-value .result)) ≡ c .before .before .before .before .before .before .before .before .before .best-value .result = search needs in
-    (whole ∙ c .before .before .before .before .before .before .before .before .before .best-value .ensures .0, c .before .before .before .before .best-table .ensures .0, subst (λ v. BestReply (c .before .before .before .before .before .before .before .before .before .before .before .before .before .before .before .before .before .before .args .g) (c .before .before .before .before .before .before .before .before .before .before .before .before .before .before .before .before .before .before .args .d) (c .before .before .before .before .before .before .before .before .before .before .before .before .before .before .before .before .before .before .args .seat) (now (c .before .before .before .before .before .before .before .before .before .before .before .before .before .before .before .before .before .before .args .table)) v (replyTable (treeOf (c .before .before .before .before .before .before .before .before .before .before .before .before .before .before .before .before .before .before .args .g)) (c .before .before .before .before .before .before .before .before .before .before .before .before .before .before .before .before .before .before .args .d) (rootUnits (c .before .before .before .before .before .before .before .before .before .before .before .before .before .before .before .before .before .before .args .g) (c .before .before .before .before .before .before .before .before .before .before .before .before .before .before .before .before .before .before .args .d)) (now (c .before .before .before .before .before .before .before .before .before .before .before .before .before .before .before .before .before .before .args .table)) (c .before .before .before .before .before .before .before .before .before .before .before .before .before .before .before .before .before .before .args .seat))) (sym (whole ∙ c .before .before .before .before .before .before .before .before .before .best-value .ensures .0)) (c .before .before .before .before .best-table .ensures .1))
+returns c = let s3 = c .before .before .before .before in let s2 = s3 .before .before .before .before .before in
+    let s0 = s2 .before .before .before .before .before .before .before .before .before in
+    let g = s0.args.g in let d = s0.args.d in let table = now s0.args.table in let seat = s0.args.seat in
+    let whole : toZ w64 (ofZ w64 s2.best-value.result) ≡ s2.best-value.result = search needs in (
+      whole ∙ s2.best-value.ensures.0,
+      s3.best-table.ensures.0,
+      subst (λ v. BestReply g d seat table v (replyTable (treeOf g) d (rootUnits g d) table seat)) (sym (whole ∙ s2.best-value.ensures.0)) s3.best-table.ensures.1,
+    )
 
 pub evaluate-spec : {M : Type 1} → statement M
 evaluate-spec =

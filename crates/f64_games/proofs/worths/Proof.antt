@@ -42,13 +42,28 @@ loop-less : tie.Need-loop-less Inv-loop μ-loop
 loop-less c = omega (arith, c .before .before .before .if1 .taken)
 
 loop-again : tie.Need-loop-again Inv-loop μ-loop
-loop-again c = let s0 = c .before .before .before .before .before .before .before .before in let s1 = c .before .before .before .before .before in let s2 = c .before .before .before in (omega (arith, c .if2 .taken), front-more (worthOf (s0 .args .g) (now (s0 .args .profile))) _ _ (c .before .before .worths .result .second) (omega (arith, pair-fits (s1 .loop .seat) _ (few-seats (s0 .args .g) (s0 .pre .1 .game)) (s1 .loop .inv .2) (s2 .if1 .taken))) (front-more (worthOf (s0 .args .g) (now (s0 .args .profile))) (s1 .loop .seat) (s1 .loop .out) (c .before .before .worths .result .first) (omega (arith, few-seats (s0 .args .g) (s0 .pre .1 .game), s2 .if1 .taken)) (s1 .loop .inv .1) (worth-is (s0 .args .g) (now (s0 .args .profile)) (s0 .pre .1) (now (s0 .args .words)) (s0 .pre .0) (s1 .loop .seat) (c .before .before .worths .result .first) (s2 .if1 .taken) (c .before .before .worths .ensures .0))) (worth-is (s0 .args .g) (now (s0 .args .profile)) (s0 .pre .1) (now (s0 .args .words)) (s0 .pre .0) _ (c .before .before .worths .result .second) (c .if2 .taken) (c .before .before .worths .ensures .1)), paired-more (s1 .loop .seat) _ (s1 .loop .inv .2) (s2 .if1 .taken))
+loop-again c = let s2 = c .before .before .before in let s1 = s2 .before .before in let s0 = s1 .before .before .before in
+    let g = s0.args.g in let profile = now s0.args.profile in
+    let first = worth-is g profile s0.pre.1 (now s0.args.words) s0.pre.0 s1.loop.seat _ s2.if1.taken c.before.before.worths.ensures.0 in
+    let second = worth-is g profile s0.pre.1 (now s0.args.words) s0.pre.0 _ _ c.if2.taken c.before.before.worths.ensures.1 in
+    let few = few-seats g s0.pre.1.game in
+    let one = front-more (worthOf g profile) s1.loop.seat s1.loop.out _ (omega (arith, few, s2.if1.taken)) s1.loop.inv.1 first in (
+      omega (arith, c.if2.taken),
+      front-more (worthOf g profile) _ _ _ (omega (arith, pair-fits s1.loop.seat _ few s1.loop.inv.2 s2.if1.taken)) one second,
+      paired-more s1.loop.seat _ s1.loop.inv.2 s2.if1.taken,
+    )
 
 loop-less-2 : tie.Need-loop-less-2 Inv-loop μ-loop
 loop-less-2 c = omega (arith, c .before .before .before .if1 .taken)
 
 loop-again-2 : tie.Need-loop-again-2 Inv-loop μ-loop
-loop-again-2 c = let s0 = c .before .before .before .before .before .before .before .before in let s1 = c .before .before .before .before .before in let s2 = c .before .before .before in (omega (arith, s2 .if1 .taken), front-more (worthOf (s0 .args .g) (now (s0 .args .profile))) (s1 .loop .seat) (s1 .loop .out) (c .before .before .worths .result .first) (omega (arith, few-seats (s0 .args .g) (s0 .pre .1 .game), s2 .if1 .taken)) (s1 .loop .inv .1) (worth-is (s0 .args .g) (now (s0 .args .profile)) (s0 .pre .1) (now (s0 .args .words)) (s0 .pre .0) (s1 .loop .seat) (c .before .before .worths .result .first) (s2 .if1 .taken) (c .before .before .worths .ensures .0)), λ l. absurd (omega (arith, l, c .if2 .left)))
+loop-again-2 c = let s2 = c .before .before .before in let s1 = s2 .before .before in let s0 = s1 .before .before .before in
+    let g = s0.args.g in let profile = now s0.args.profile in
+    let first = worth-is g profile s0.pre.1 (now s0.args.words) s0.pre.0 s1.loop.seat _ s2.if1.taken c.before.before.worths.ensures.0 in (
+      omega (arith, s2.if1.taken),
+      front-more (worthOf g profile) s1.loop.seat s1.loop.out _ (omega (arith, few-seats g s0.pre.1.game, s2.if1.taken)) s1.loop.inv.1 first,
+      λ l. absurd (omega (arith, l, c.if2.left)),
+    )
 
 returns : tie.Need-returns Inv-loop μ-loop
 returns c = let s0 = c .before .before .before .before .before in all-worths (s0 .args .g) (now (s0 .args .profile)) (c .before .before .loop .seat) (c .before .before .loop .out) (c .before .before .loop .inv .0) (omega (arith, c .if1 .left)) (c .before .before .loop .inv .1)

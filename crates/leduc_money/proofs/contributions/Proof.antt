@@ -1,7 +1,8 @@
 -- What both seats have paid. Assumes nothing.
 use mathlib.Core.Path.{ap, _∙_}
 use native.Mathlib.Omega.{arith}
-use Rattle.leduc_rules.proofs.Pots.{after-round, Within, round-bound, pot-of}
+use Rattle.leduc_rules.specs.internal.Pots.{after-round, pot-of}
+use Rattle.leduc_rules.proofs.Pots.{Within, round-bound}
 use borrow.Author.Needs.{needs}
 use Rattle.leduc_money.proofs.contributions.Statement.{statement}
 use Rattle.leduc_money.proofs.contributions.Tie as tie

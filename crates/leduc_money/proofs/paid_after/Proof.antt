@@ -1,6 +1,6 @@
 -- What the seat to act has paid after an action. Assumes nothing.
 use borrow.Author.Tests.{eq-eqb, ne-eqb}
-use Rattle.leduc_rules.proofs.Pots.{matched}
+use Rattle.leduc_rules.specs.internal.Pots.{matched}
 use borrow.Author.Needs.{needs}
 use Rattle.leduc_money.proofs.paid_after.Statement.{statement}
 use Rattle.leduc_money.proofs.paid_after.Tie as tie

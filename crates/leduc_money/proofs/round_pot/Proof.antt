@@ -4,7 +4,8 @@ use mathlib.Core.Path.{_≡_, refl, sym, ap, _∙_}
 use native.Mathlib.Omega.{arith}
 use borrow.Author.Needs.{needs}
 use lib.ListN.{length, getD, drop}
-use Rattle.leduc_rules.proofs.Pots.{bet, seated, after-round, pot-of, bet-step, bet-end, matched-bound}
+use Rattle.leduc_rules.specs.internal.Pots.{bet, seated, after-round, pot-of}
+use Rattle.leduc_rules.proofs.Pots.{bet-step, bet-end, matched-bound}
 use Rattle.leduc_money.proofs.round_pot.Statement.{statement}
 use Rattle.leduc_money.proofs.round_pot.Tie as tie
 

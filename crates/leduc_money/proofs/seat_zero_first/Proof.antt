@@ -1,6 +1,6 @@
 -- The pot with seat 0 first. Assumes nothing.
 use borrow.Author.Tests.{eq-eqb, ne-eqb}
-use Rattle.leduc_rules.proofs.Pots.{seated}
+use Rattle.leduc_rules.specs.internal.Pots.{seated}
 use Rattle.leduc_money.proofs.seat_zero_first.Statement.{statement}
 use Rattle.leduc_money.proofs.seat_zero_first.Tie as tie
 

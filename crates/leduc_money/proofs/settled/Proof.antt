@@ -32,13 +32,16 @@ gain-requires-2 c κs = let s1 = c .before .before .before in let s0 = s1 .befor
 
 returns : tie.Need-returns
 returns c =
-    let w : Within 33 (c .before .before .before .before .contributions .result) = rw (c .before .before .before .before .contributions .ensures) (paid-bound (c .before .before .before .before .before .before .before .args .round1 .now) (c .before .before .before .before .before .before .before .args .round2 .now) (search needs) (search needs)) in
-    let x = w .acting-within in
-    let y = w .other-within in
-    let a : c .before .before .before .before .contributions .result .acting ≤ 64 = omega arith in
-    let o : c .before .before .before .before .contributions .result .other ≤ 64 = omega arith in (
-      gained-back (c .before .before .before .is-winner .result) (c .before .before .is-winner2 .result) (c .before .before .before .before .contributions .result .acting) (c .before .before .before .before .contributions .result .other) a o (c .before .gain .ensures) ∙ payoff-zero _ _ _ _ (c .before .before .before .before .before .before .before .pre .2) _ _ _ (c .before .before .before .is-winner .ensures) (c .before .before .is-winner2 .ensures) (c .before .before .before .before .contributions .ensures),
-      gained-back (c .before .before .is-winner2 .result) (c .before .before .before .is-winner .result) (c .before .before .before .before .contributions .result .other) (c .before .before .before .before .contributions .result .acting) o a (c .gain2 .ensures) ∙ payoff-one _ _ _ _ (c .before .before .before .before .before .before .before .pre .2) _ _ _ (c .before .before .before .is-winner .ensures) (c .before .before .is-winner2 .ensures) (c .before .before .before .before .contributions .ensures),
+    let s2 = c .before .before in let s1 = s2 .before .before in let s0 = s1 .before .before .before in
+    let w : Within 33 s1.contributions.result = rw s1.contributions.ensures
+    (paid-bound s0.args.round1.now s0.args.round2.now (search needs) (search needs)) in let x = w.acting-within in let y = w.other-within in
+    let a : s1.contributions.result.acting ≤ 64 = omega arith in
+    let o : s1.contributions.result.other ≤ 64 = omega arith in
+    let first = s2.before.is-winner.ensures in let second = s2.is-winner2.ensures in (
+      gained-back s2.before.is-winner.result s2.is-winner2.result s1.contributions.result.acting s1.contributions.result.other a o c.before.gain.ensures
+          ∙ payoff-zero _ _ _ _ s0.pre.2 _ _ _ first second s1.contributions.ensures,
+      gained-back s2.is-winner2.result s2.before.is-winner.result s1.contributions.result.other s1.contributions.result.acting o a c.gain2.ensures
+          ∙ payoff-one _ _ _ _ s0.pre.2 _ _ _ first second s1.contributions.ensures,
     )
 
 pub settled-spec : {M : Type 1} → statement M

@@ -26,13 +26,26 @@ table-worths-requires : tie.Need-table-worths-requires Inv-loop μ-loop
 table-worths-requires c κs = let s0 = c .before .before .before .before .before .before .before in let s1 = c .before .before .before in (s1 .store .ensures, s0 .pre .0, omega (arith, s0 .pre .1, s1 .store .kept .1 .0))
 
 loop-holds : tie.Need-loop-holds Inv-loop μ-loop
-loop-holds c = (search needs, no-seats (c .before .before .before .before .before .before .before .before .before .before .args .g) (c .before .before .before .before .before .before .before .before .before .before .args .d) (now (c .before .before .before .before .before .before .before .before .before .before .args .table)) (c .before .before .before .before .before .before .before .before .before .before .pre .0), c .before .before .table-worths .ensures .1, refl)
+loop-holds c = let s0 = c .before .before .before .before .before .before .before .before .before .before in
+    (search needs, no-seats s0.args.g s0.args.d (now s0.args.table) s0.pre.0, c.before.before.table-worths.ensures.1, refl)
 
 seat-excess-requires : tie.Need-seat-excess-requires Inv-loop μ-loop
-seat-excess-requires c κs = let s0 = c .before .before .before .before .before .before .before .before .before .before .before .before .before in let s1 = c .before .before .before .before .before in (c .before .before .loop .inv .2, s0 .pre .0, omega (arith, two-seats (s0 .args .g) (s0 .args .d) (now (s0 .args .table)) (s0 .pre .0), c .before .loop-test .taken), omega (arith, s0 .pre .1, c .before .before .loop .inv .3, c .before .before .before .before .before .before .before .before .before .store .kept .1 .0, s1 .table-worths .kept .1 .0), s1 .table-worths .ensures .0)
+seat-excess-requires c κs = let s2 = c .before .before in let s1 = s2 .before .before .before in
+    let s0 = s1 .before .before .before .before .before .before .before .before in
+    let two = two-seats s0.args.g s0.args.d (now s0.args.table) s0.pre.0 in (
+      s2.loop.inv.2,
+      s0.pre.0,
+      omega (arith, two, c.before.loop-test.taken),
+      omega (arith, s0.pre.1, s2.loop.inv.3, s1.before.before.before.before.store.kept.1.0, s1.table-worths.kept.1.0),
+      s1.table-worths.ensures.0,
+    )
 
 add-sum : tie.Need-add-sum Inv-loop μ-loop
-add-sum c = let s0 = c .before .before .before .before .before .before .before .before .before .before .before .before .before .before .before .before in let s1 = c .before .before .before .before .before in sum-fits (s0 .args .g) (s0 .args .d) (now (s0 .args .table)) (s0 .pre .0) (s1 .loop .seat) (s1 .loop .sum) (c .before .before .seat-excess .result) (s1 .loop .inv .1) (c .before .before .seat-excess .ensures .0) (omega (arith, two-seats (s0 .args .g) (s0 .args .d) (now (s0 .args .table)) (s0 .pre .0), c .before .before .before .before .loop-test .taken))
+add-sum c = let s2 = c .before .before in let s1 = s2 .before .before .before in
+    let s0 = s1 .before .before .before .before .before .before .before .before .before .before .before in
+    let two = two-seats s0.args.g s0.args.d (now s0.args.table) s0.pre.0 in
+    sum-fits s0.args.g s0.args.d (now s0.args.table) s0.pre.0 s1.loop.seat s1.loop.sum s2.seat-excess.result s1.loop.inv.1 s2.seat-excess.ensures.0
+    (omega (arith, two, s2.before.before.loop-test.taken))
 
 add-seat : tie.Need-add-seat Inv-loop μ-loop
 add-seat c = let s0 = c .before .before .before .before .before .before .before .before .before .before .before .before .before .before .before .before in record { fits = omega (arith, few-seats (s0 .args .g) (s0 .args .d) (now (s0 .args .table)) (s0 .pre .0), c .before .before .before .before .loop-test .taken) }
@@ -41,7 +54,14 @@ loop-less : tie.Need-loop-less Inv-loop μ-loop
 loop-less c = let s0 = c .before .before .before .before .before .before .before .before .before .before .before .before .before .before .before .before in omega (arith, two-seats (s0 .args .g) (s0 .args .d) (now (s0 .args .table)) (s0 .pre .0), c .before .before .before .before .loop-test .taken)
 
 loop-again : tie.Need-loop-again Inv-loop μ-loop
-loop-again c = let s0 = c .before .before .before .before .before .before .before .before .before .before .before .before .before .before .before .before in let s1 = c .before .before .before .before .before in (omega (arith, two-seats (s0 .args .g) (s0 .args .d) (now (s0 .args .table)) (s0 .pre .0), c .before .before .before .before .loop-test .taken), one-seat-more (s0 .args .g) (s0 .args .d) (now (s0 .args .table)) (s0 .pre .0) (s1 .loop .seat) (s1 .loop .sum) (c .before .before .seat-excess .result) (s1 .loop .inv .1) (c .before .before .seat-excess .ensures .0), c .before .before .seat-excess .ensures .1, c .before .before .seat-excess .kept .1 .0 ∙ s1 .loop .inv .3)
+loop-again c = let s2 = c .before .before in let s1 = s2 .before .before .before in
+    let s0 = s1 .before .before .before .before .before .before .before .before .before .before .before in
+    let two = two-seats s0.args.g s0.args.d (now s0.args.table) s0.pre.0 in (
+      omega (arith, two, s2.before.before.loop-test.taken),
+      one-seat-more s0.args.g s0.args.d (now s0.args.table) s0.pre.0 s1.loop.seat s1.loop.sum s2.seat-excess.result s1.loop.inv.1 s2.seat-excess.ensures.0,
+      s2.seat-excess.ensures.1,
+      s2.seat-excess.kept.1.0 ∙ s1.loop.inv.3,
+    )
 
 same-length : tie.Need-same-length Inv-loop μ-loop
 same-length c = search needs

@@ -1,4 +1,5 @@
--- What a seat gains under a choice, with payoffs lifted by 64, and where the members of its sets stand. Definitions only; nothing is assumed.
+-- What a seat gains under a choice, with payoffs lifted by 64, and where the members of its sets stand. Definitions only; nothing is
+-- assumed.
 use mathlib.Core.Path.{_≡_}
 use mathlib.Core.Bool.{cond}
 use mathlib.Core.List.{List}

@@ -9,6 +9,7 @@ use Rattle.units_values.proofs.Valuing.{walk-at}
 use Rattle.units_reply.proofs.write_reply.Statement.{statement}
 use Rattle.units_reply.proofs.Laying as laying
 use Rattle.units_reply.proofs.write_reply.Tie as tie
+use Rattle.arena.specs.internal.Words.{PLACES}
 
 abbrev Inv-loop : tie.InvT-loop
 Inv-loop w₀ table out₀ count seat d heads units kept set₀ at₀ w out set at = laying.Laying table count seat d heads units kept w₀ out₀ w out set at × (at ≤ 4 * set) × (length w ≡ length w₀) × (length out ≡ length out₀)
@@ -58,7 +59,7 @@ loop-again c = let s3 = c .before .before .before .before .before in let s2 = s3
           a.count a.seat a.d a.heads a.units a.kept (now a.w) (now a.out) s3.write-set.last.0 s3.write-set.last.1.1.0 (s0.loop.set + 1) (s0.loop.at + z))
           (sym c.actions.ensures) (laying.laying-more (now a.table) a.count a.seat a.d a.heads a.units a.kept (now a.w) (now a.out) s0.loop.w
           s3.write-set.last.0 s0.loop.out s3.write-set.last.1.1.0 s0.loop.set s0.loop.at s2.word2.result s1.before.before.loop-test.taken s0.loop.inv.0
-          (s2.word2.ensures ∙ ap (λ z. getD s0.loop.w (z % 2097152) 0) s1.word.ensures) s3.write-set.ensures),
+          (s2.word2.ensures ∙ ap (λ z. getD s0.loop.w (z % PLACES) 0) s1.word.ensures) s3.write-set.ensures),
       omega (arith, s0.loop.inv.1, c.actions.ensures),
       omega (arith, s3.write-set.kept.0, s0.loop.inv.2),
       omega (arith, s3.write-set.kept.1.1.0, s0.loop.inv.3),

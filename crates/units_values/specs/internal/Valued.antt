@@ -8,6 +8,7 @@ use Rattle.game_tree.specs.Sets.{size, sizes, firstEntry}
 use Rattle.arena.specs.internal.Words.{actionsOf, setOf}
 use Rattle.arena_walks.specs.internal.Stage.{Stage, Known, Memo, SubtreeAt, SubtreesAt}
 use Rattle.units.specs.internal.Gain.{gain, gainAll, setGain, Stocked, StockedAll, topmost}
+use Rattle.units.specs.internal.Readable.{UNITS}
 
 -- numbers that keep every place in range
 pub record Walkable (a i d h b k : ℕ) : Type 0 where
@@ -29,7 +30,7 @@ pub record Scene (i h b k : ℕ) : Type 0 where
   pub decided : Every (λ j y n. j ≡ i
       → stage .choice y ≡ topmost (setGain parts strategy i (stage .choice) (stage .tree) root y) (pred n)) (stage .tree)
   pub bounded : (y : Key) (a : ℕ) → setGain parts strategy i (stage .choice) (stage .tree) root y a < 2 ^ 64
-  pub small : root < 144115188075855872
+  pub small : root < UNITS
   pub fair : (j : ℕ) (y : Key) (a : ℕ) → strategy j y a ≤ parts
   pub below : b + size (stage .tree) ≤ k
 
@@ -39,14 +40,14 @@ module _ {i h b k : ℕ} (S : Scene i h b k) where
     pub stands : SubtreeAt (S .stage) d a t
     pub stocked : Stocked (S .parts) (S .strategy) i b (S .stage .words) a u t
     pub pays : Pays 60 i t
-    pub small : u < 144115188075855872
+    pub small : u < UNITS
 
   -- the same of a row, whose children have units g x, g (x + 1) and so on
   pub record HereAll (d a : ℕ) (g : ℕ → ℕ) (x : ℕ) (f : Trees) : Type 0 where
     pub stands : SubtreesAt (S .stage) d a f
     pub stocked : StockedAll (S .parts) (S .strategy) i b (S .stage .words) a g x f
     pub pays : PaysAll 60 i f
-    pub small : (y : ℕ) → g y < 144115188075855872
+    pub small : (y : ℕ) → g y < UNITS
 
   -- what the choices gain
   abbrev pub gained : ℕ → Tree → ℕ

@@ -8,12 +8,12 @@ use Rattle.games.specs.Games.{treeOf, mostParts, rootUnits}
 use Rattle.games.specs.Facts.{largestPayoff}
 use Rattle.games.specs.Known.{Known}
 use Rattle.arena.specs.internal.Index.{laterIn}
-use Rattle.units.specs.internal.Readable.{Readable}
+use Rattle.units.specs.internal.Readable.{Readable, UNITS}
 use Rattle.arena_store.specs.internal.Stored.{Stored}
 
 -- the root has fewer than 2^57 units; a worth and a best value fit a signed number of 64 bits, NashConv an unsigned one
 pub record Fits (g : Game) (D : ℕ) : Type 0 where
-  pub units : rootUnits g D < 144115188075855872
+  pub units : rootUnits g D < UNITS
   pub worth : rootUnits g D * largestPayoff g < 2 ^ 63
   pub conv : g .seats * (2 * (rootUnits g D * largestPayoff g)) < 2 ^ 64
 

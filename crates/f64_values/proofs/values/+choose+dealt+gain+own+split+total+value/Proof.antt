@@ -6,7 +6,7 @@ use lib.Ieee.{lt}
 use lib.ListN.{length}
 use denote.Ref.{now}
 use borrow.Author.Needs.{needs}
-use Rattle.arena.specs.internal.Words.{actionsOf, laterOf}
+use Rattle.arena.specs.internal.Words.{actionsOf, laterOf, PLACES}
 use Rattle.game_tree_f64.specs.Values.{nought, plus}
 use Rattle.f64_values.specs.internal.Valued.{Chosen, Dealt}
 use Rattle.argmax.proofs.Past.{past-few}
@@ -409,10 +409,10 @@ split-returns-2 t c = let s1 = c .before in let s0 = s1 .before .before .before 
     (omega (arith, c.loop-test.left))
 
 abbrev total-Inv-loop : total-lts.InvT-loop
-total-Inv-loop w₀ profile first action seat depth heads reach kept sum₀ at₀ w sum at = choosing.Summed profile seat depth heads reach kept first action w₀ w at sum × (at < 2097152) × (length w ≡ length w₀)
+total-Inv-loop w₀ profile first action seat depth heads reach kept sum₀ at₀ w sum at = choosing.Summed profile seat depth heads reach kept first action w₀ w at sum × (at < PLACES) × (length w ≡ length w₀)
 
 abbrev total-μ-loop : total-lts.MeasureT-loop
-total-μ-loop w₀ profile first action seat depth heads reach kept sum₀ at₀ w sum at = 2097152 - at
+total-μ-loop w₀ profile first action seat depth heads reach kept sum₀ at₀ w sum at = PLACES - at
 
 total-add-word : (t : ℕ) → total-lts.Need-add-word (total-callees t) (total-at t) total.Post total-Inv-loop total-μ-loop
 total-add-word t c = let s0 = c .before .before .before in record { fits = omega (arith, s0.pre.1.heads, s0.pre.1.place) }
@@ -422,7 +422,7 @@ total-word-requires t c κs = search needs
 
 total-loop-holds : (t : ℕ) → total-lts.Need-loop-holds (total-callees t) (total-at t) total.Post total-Inv-loop total-μ-loop
 total-loop-holds t c = let a = c .before .before .before .before .args in (
-  choosing.summed-start (now a.profile) a.seat a.depth a.heads a.reach a.kept a.first a.action (now a.w) _ (ap (λ j. j % 2097152) c.word.ensures),
+  choosing.summed-start (now a.profile) a.seat a.depth a.heads a.reach a.kept a.first a.action (now a.w) _ (ap (λ j. j % PLACES) c.word.ensures),
   omega arith,
   refl,
 )

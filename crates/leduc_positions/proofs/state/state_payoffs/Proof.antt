@@ -5,7 +5,7 @@ use Prim.Native.Nat.{_-_}
 use lib.ListN.{length}
 use lib.Seq.{length-take-le, take-all}
 use Rattle.leduc_rules.specs.Rules.{payoff}
-use Rattle.leduc_rules.proofs.Pots.{Begins-level}
+use Rattle.leduc_rules.specs.internal.Pots.{Begins-level}
 use Rattle.leduc_betting.proofs.Deals.{front-length}
 use Rattle.leduc_positions.specs.Positions.{cardsOf, roundOne}
 use Rattle.leduc_positions.proofs.Positions.{second-part, second-length}

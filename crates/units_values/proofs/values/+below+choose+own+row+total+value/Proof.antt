@@ -6,7 +6,7 @@ use lib.Dec.{ltb}
 use lib.ListN.{length}
 use denote.Ref.{now}
 use borrow.Author.Needs.{needs}
-use Rattle.arena.specs.internal.Words.{actionsOf, laterOf}
+use Rattle.arena.specs.internal.Words.{actionsOf, laterOf, PLACES}
 use Rattle.argmax.proofs.Past.{past-few}
 use Rattle.units_values.specs.internal.Valued.{Chosen, ValuedAll}
 use Rattle.units_values.proofs.Valuing as valuing
@@ -308,10 +308,10 @@ row-returns-2 t c = let s0 = c .before in let a = s0 .before .before .args in
     (omega (arith, c.loop-test.left))
 
 abbrev total-Inv-loop : total-lts.InvT-loop
-total-Inv-loop w₀ first action seat depth heads units kept sum₀ at₀ w sum at = choosing.Summed seat depth heads units kept first action w₀ w at sum × (at < 2097152) × (length w ≡ length w₀)
+total-Inv-loop w₀ first action seat depth heads units kept sum₀ at₀ w sum at = choosing.Summed seat depth heads units kept first action w₀ w at sum × (at < PLACES) × (length w ≡ length w₀)
 
 abbrev total-μ-loop : total-lts.MeasureT-loop
-total-μ-loop w₀ first action seat depth heads units kept sum₀ at₀ w sum at = 2097152 - at
+total-μ-loop w₀ first action seat depth heads units kept sum₀ at₀ w sum at = PLACES - at
 
 total-add-word : (t : ℕ) → total-lts.Need-add-word (total-callees t) (total-at t) total.Post total-Inv-loop total-μ-loop
 total-add-word t c = record { fits = omega (arith, c.before.before.pre.1.heads, c.before.before.pre.1.place) }
@@ -321,7 +321,7 @@ total-word-requires t c κs = search needs
 
 total-loop-holds : (t : ℕ) → total-lts.Need-loop-holds (total-callees t) (total-at t) total.Post total-Inv-loop total-μ-loop
 total-loop-holds t c = let a = c .before .before .before .args in
-    (choosing.summed-start a.seat a.depth a.heads a.units a.kept a.first a.action (now a.w) _ (ap (λ j. j % 2097152) c.word.ensures), omega arith, refl)
+    (choosing.summed-start a.seat a.depth a.heads a.units a.kept a.first a.action (now a.w) _ (ap (λ j. j % PLACES) c.word.ensures), omega arith, refl)
 
 total-child-requires : (t : ℕ) → total-lts.Need-child-requires (total-callees t) (total-at t) total.Post total-Inv-loop total-μ-loop
 total-child-requires t c κs = omega (arith, c.before.before.loop.inv.1)

@@ -6,6 +6,7 @@ use Rattle.units.proofs.Six.{times-fits}
 use borrow.Author.Needs.{needs}
 use Rattle.units_values.proofs.values.ended.Statement.{statement}
 use Rattle.units_values.proofs.values.ended.Tie as tie
+use Rattle.units.specs.internal.Readable.{UNITS}
 
 add-word : tie.Need-add-word
 add-word c = record { fits = omega (arith, c.before.pre.1) }
@@ -20,7 +21,7 @@ mul-result : tie.Need-mul-result
 mul-result c = times-fits _ _ (omega arith) c.lifted.ensures.1
 
 returns : tie.Need-returns
-returns c = ap₂ (λ x y. x % 144115188075855872 * y) c.before.word.ensures c.lifted.ensures.0
+returns c = ap₂ (λ x y. x % UNITS * y) c.before.word.ensures c.lifted.ensures.0
 
 pub ended-spec : {M : Type 1} → statement M
 ended-spec = tie.close (tie.spec add-word word-requires lifted-requires mul-result returns)
