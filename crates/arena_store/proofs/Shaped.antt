@@ -16,6 +16,7 @@ use Rattle.kuhn_tree.specs.Tree as Kuhn
 use Rattle.kuhn_tree.specs.Counts.{kuhnNodes}
 use Rattle.kuhn_tree.proofs.Facts as Kuhn-proofs
 use Rattle.leduc_tree.specs.Tree as Leduc
+use Rattle.leduc_tree.specs.Counts.{leducNodes}
 use Rattle.leduc_tree_facts.proofs.Facts as Leduc-proofs
 use Rattle.kuhn_arena_layout.proofs.Start.{nodes-few}
 use Rattle.games.specs.declared.Game.{Game}
@@ -73,7 +74,7 @@ module _ (g : Game) (a : Known g) where
     unfolding treeOf
     leduc-tree = rw (ne-eqb (g .number) 0 k) refl
 
-    leduc-count : size (treeOf g) ≡ 9457
+    leduc-count : size (treeOf g) ≡ leducNodes
     leduc-count = nodes-are g (a .seats) ∙ rw (ne-eqb (g .number) 0 k) refl
 
     leduc-actions : Every (λ j k n. (2 ≤ n) × (n ≤ 3)) (treeOf g)

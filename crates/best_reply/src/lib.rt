@@ -29,7 +29,7 @@ fn evaluate(g: Game, words: &mut [u64], seat: usize, d: usize, table: &[u8], out
 {
     arena_store::store(g, words);
     let value = units_best::best_value(g, words, seat, d, table);
-    units_best::best_table(g, words, seat, d, table, out);
+    units_best::write_best_reply(g, words, seat, d, table, out);
     value
 }
 

@@ -13,6 +13,7 @@ use Rattle.prelude.proofs.Tests.{Tested, holds, fails, tested, or-false-left, o
 use Rattle.kuhn_tree.specs.Tree as Kuhn
 use Rattle.kuhn_tree.specs.Counts.{dealNodes, kuhnNodes, kuhnSets, kuhnEntries}
 use Rattle.leduc_tree.specs.Turns.{actionsInOrder}
+use Rattle.leduc_tree.specs.Counts.{leducNodes, leducSets, leducEntries}
 use Rattle.leduc_set_actions.proofs.Facts.{threes, actionsAt, in-words, actions-in-all}
 use Rattle.games.specs.Seats.{seats-out}
 use Rattle.games.specs.Facts.{nodesOf, setsOf, entriesOf}
@@ -72,13 +73,13 @@ module _ (g : Game) (k : g .number ≡ 0) where
   kuhn-most e = ltb-false 10 (g .seats) (or-false-right (ltb (g .seats) 2) (ltb 10 (g .seats)) (seats-kuhn e))
 
   pub kuhn-nodes : seats-out g ≡ false → getD nodes-table (g .seats) 0 ≡ nodesOf g
-  kuhn-nodes e = nodes-right (g .seats) (kuhn-least e) (kuhn-most e) ∙ ap (λ t. cond t (kuhnNodes (g .seats)) 9457) (sym (eq-eqb (g .number) 0 k))
+  kuhn-nodes e = nodes-right (g .seats) (kuhn-least e) (kuhn-most e) ∙ ap (λ t. cond t (kuhnNodes (g .seats)) leducNodes) (sym (eq-eqb (g .number) 0 k))
 
   pub kuhn-sets : seats-out g ≡ false → getD sets-table (g .seats) 0 ≡ setsOf g
-  kuhn-sets e = sets-right (g .seats) (kuhn-least e) (kuhn-most e) ∙ ap (λ t. cond t (kuhnSets (g .seats)) 936) (sym (eq-eqb (g .number) 0 k))
+  kuhn-sets e = sets-right (g .seats) (kuhn-least e) (kuhn-most e) ∙ ap (λ t. cond t (kuhnSets (g .seats)) leducSets) (sym (eq-eqb (g .number) 0 k))
 
   pub kuhn-entries : 2 * setsOf g ≡ entriesOf g
-  kuhn-entries = ap (λ t. 2 * cond t (kuhnSets (g .seats)) 936) (eq-eqb (g .number) 0 k) ∙ NatL.mul-comm 2 (kuhnSets (g .seats)) ∙ ap (λ t. cond t (kuhnEntries (g .seats)) 2184) (sym (eq-eqb (g .number) 0 k))
+  kuhn-entries = ap (λ t. 2 * cond t (kuhnSets (g .seats)) leducSets) (eq-eqb (g .number) 0 k) ∙ NatL.mul-comm 2 (kuhnSets (g .seats)) ∙ ap (λ t. cond t (kuhnEntries (g .seats)) leducEntries) (sym (eq-eqb (g .number) 0 k))
 
   pub kuhn-fans : seats-out g ≡ false → getD fans-table (g .seats) 0 ≡ C g
   kuhn-fans e = fans-right (g .seats) (kuhn-least e) (kuhn-most e) ∙ ap (λ t. cond t (Kuhn.C (g .seats)) 120) (sym (eq-eqb (g .number) 0 k))
@@ -95,14 +96,14 @@ module _ (g : Game) (k : g .number ≡ 0) where
   kuhn-actions x w = sym (getD-replicate (kuhnSets (g .seats)) x 2 0 (rw (eq-eqb (g .number) 0 k) at w)) ∙ ap (λ t. getD (cond t (replicate (kuhnSets (g .seats)) 2) actionsInOrder) x 0) (sym (eq-eqb (g .number) 0 k))
 
 module _ (g : Game) (k : g .number ≡ 0 → ⊥) where
-  pub leduc-nodes : 9457 ≡ nodesOf g
-  leduc-nodes = ap (λ t. cond t (kuhnNodes (g .seats)) 9457) (sym (ne-eqb (g .number) 0 k))
+  pub leduc-nodes : leducNodes ≡ nodesOf g
+  leduc-nodes = ap (λ t. cond t (kuhnNodes (g .seats)) leducNodes) (sym (ne-eqb (g .number) 0 k))
 
-  pub leduc-entries : 2184 ≡ entriesOf g
-  leduc-entries = ap (λ t. cond t (kuhnEntries (g .seats)) 2184) (sym (ne-eqb (g .number) 0 k))
+  pub leduc-entries : leducEntries ≡ entriesOf g
+  leduc-entries = ap (λ t. cond t (kuhnEntries (g .seats)) leducEntries) (sym (ne-eqb (g .number) 0 k))
 
-  pub leduc-sets : 936 ≡ setsOf g
-  leduc-sets = ap (λ t. cond t (kuhnSets (g .seats)) 936) (sym (ne-eqb (g .number) 0 k))
+  pub leduc-sets : leducSets ≡ setsOf g
+  leduc-sets = ap (λ t. cond t (kuhnSets (g .seats)) leducSets) (sym (ne-eqb (g .number) 0 k))
 
   pub leduc-fans : 120 ≡ C g
   leduc-fans = ap (λ t. cond t (Kuhn.C (g .seats)) 120) (sym (ne-eqb (g .number) 0 k))
@@ -123,18 +124,18 @@ sets-bounded g out = at (tested (eqb (g .number) 0))
 
 -- ---- the actions of all sets
 
-words-total : total (places 936 actionsAt) ≡ 2184
+words-total : total (places leducSets actionsAt) ≡ leducEntries
 unfolding total actionsAt threes places
 words-total = refl
 
-leduc-total : total actionsInOrder ≡ 2184
+leduc-total : total actionsInOrder ≡ leducEntries
 leduc-total = ap total in-words ∙ words-total
 
 pub actions-counted : (g : Game) → length (actionsOf g) ≡ setsOf g
 unfolding actionsOf
 actions-counted g = at (isKuhn g)
   where
-    at : (b : Bool) → length (cond b (replicate (kuhnSets (g .seats)) 2) actionsInOrder) ≡ cond b (kuhnSets (g .seats)) 936
+    at : (b : Bool) → length (cond b (replicate (kuhnSets (g .seats)) 2) actionsInOrder) ≡ cond b (kuhnSets (g .seats)) leducSets
     at true = length-replicate (kuhnSets (g .seats)) 2
     at false = actions-in-all
 
@@ -142,7 +143,7 @@ pub actions-total : (g : Game) → total (actionsOf g) ≡ entriesOf g
 unfolding actionsOf
 actions-total g = at (isKuhn g)
   where
-    at : (b : Bool) → total (cond b (replicate (kuhnSets (g .seats)) 2) actionsInOrder) ≡ cond b (kuhnEntries (g .seats)) 2184
+    at : (b : Bool) → total (cond b (replicate (kuhnSets (g .seats)) 2) actionsInOrder) ≡ cond b (kuhnEntries (g .seats)) leducEntries
     at true = total-same (kuhnSets (g .seats)) 2
     at false = leduc-total
 

@@ -27,6 +27,7 @@ use Rattle.leduc_tree_facts.proofs.Facts.{counts}
 use Rattle.leduc_tree_facts.proofs.Facts as LeducFacts
 use Rattle.leduc_tree.specs.Turns.{actionsInOrder}
 use Rattle.leduc_tree.proofs.Facts.{actions-in-order}
+use Rattle.leduc_tree.specs.Counts.{leducNodes, leducSets, leducEntries}
 use Rattle.games.specs.Games.{treeOf, C, m, mostParts, rootUnits}
 use Rattle.games.specs.Seats.{seats-out}
 use Rattle.games.specs.Facts.{nodesOf, setsOf, entriesOf, Counted, kuhn, leduc, Table-of-counts, Fit, Games-fit, Reply-best}
@@ -35,7 +36,7 @@ use Rattle.games.specs.internal.Actions.{actionsOf}
 use Rattle.games.specs.declared.Game.{Game}
 use Rattle.games.proofs.Counts.{kuhn-least}
 
-leduc-counts : (size (leducTree 1 2 4) ≡ 9457) × (length (setActions (leducTree 1 2 4)) ≡ 936) × (entries (leducTree 1 2 4) ≡ 2184)
+leduc-counts : (size (leducTree 1 2 4) ≡ leducNodes) × (length (setActions (leducTree 1 2 4)) ≡ leducSets) × (entries (leducTree 1 2 4) ≡ leducEntries)
 leduc-counts = (counts 1 2 4 .0, length-map (sets (leducTree 1 2 4)) (λ x. x .2) ∙ counts 1 2 4 .1, counts 1 2 4 .2)
 
 all-two : (xs : List Decision) → Each (λ j k a. a ≡ 2) xs → map (λ x. x .2) xs ≡ replicate (length xs) 2
@@ -77,15 +78,15 @@ module _ (g : Game) where
     kuhn-one k = let w = kuhn-least g k out in omega arith
 
     nodes-by : Tested (eqb (g .number) 0) → size (treeOf g) ≡ nodesOf g
-    nodes-by (holds t) = ap size (kuhn-tree-is (eqb-true (g .number) 0 t)) ∙ counted 1 1 (g .seats) (kuhn-one (eqb-true (g .number) 0 t)) .0 ∙ ap (λ b. cond b (kuhnNodes (g .seats)) 9457) (sym t)
-    nodes-by (fails t) = ap size (leduc-tree-is (eqb-false (g .number) 0 t)) ∙ leduc-counts .0 ∙ ap (λ b. cond b (kuhnNodes (g .seats)) 9457) (sym t)
+    nodes-by (holds t) = ap size (kuhn-tree-is (eqb-true (g .number) 0 t)) ∙ counted 1 1 (g .seats) (kuhn-one (eqb-true (g .number) 0 t)) .0 ∙ ap (λ b. cond b (kuhnNodes (g .seats)) leducNodes) (sym t)
+    nodes-by (fails t) = ap size (leduc-tree-is (eqb-false (g .number) 0 t)) ∙ leduc-counts .0 ∙ ap (λ b. cond b (kuhnNodes (g .seats)) leducNodes) (sym t)
 
     pub nodes-are : size (treeOf g) ≡ nodesOf g
     nodes-are = nodes-by (tested (eqb (g .number) 0))
 
     entries-by : Tested (eqb (g .number) 0) → entries (treeOf g) ≡ entriesOf g
-    entries-by (holds t) = ap entries (kuhn-tree-is (eqb-true (g .number) 0 t)) ∙ counted 1 1 (g .seats) (kuhn-one (eqb-true (g .number) 0 t)) .2 ∙ ap (λ b. cond b (kuhnEntries (g .seats)) 2184) (sym t)
-    entries-by (fails t) = ap entries (leduc-tree-is (eqb-false (g .number) 0 t)) ∙ leduc-counts .2 ∙ ap (λ b. cond b (kuhnEntries (g .seats)) 2184) (sym t)
+    entries-by (holds t) = ap entries (kuhn-tree-is (eqb-true (g .number) 0 t)) ∙ counted 1 1 (g .seats) (kuhn-one (eqb-true (g .number) 0 t)) .2 ∙ ap (λ b. cond b (kuhnEntries (g .seats)) leducEntries) (sym t)
+    entries-by (fails t) = ap entries (leduc-tree-is (eqb-false (g .number) 0 t)) ∙ leduc-counts .2 ∙ ap (λ b. cond b (kuhnEntries (g .seats)) leducEntries) (sym t)
 
     pub entries-are : entries (treeOf g) ≡ entriesOf g
     entries-are = entries-by (tested (eqb (g .number) 0))
@@ -102,8 +103,8 @@ pub counted-games : Counted
 counted-games g out = (nodes-are g out, sets-are (tested (eqb (g .number) 0)), entries-are g out)
   where
     sets-are : Tested (eqb (g .number) 0) → setCount (treeOf g) ≡ setsOf g
-    sets-are (holds t) = ap setCount (kuhn-tree-is g (eqb-true (g .number) 0 t)) ∙ counted 1 1 (g .seats) (kuhn-one g out (eqb-true (g .number) 0 t)) .1 ∙ ap (λ b. cond b (kuhnSets (g .seats)) 936) (sym t)
-    sets-are (fails t) = ap setCount (leduc-tree-is g (eqb-false (g .number) 0 t)) ∙ counts 1 2 4 .1 ∙ ap (λ b. cond b (kuhnSets (g .seats)) 936) (sym t)
+    sets-are (holds t) = ap setCount (kuhn-tree-is g (eqb-true (g .number) 0 t)) ∙ counted 1 1 (g .seats) (kuhn-one g out (eqb-true (g .number) 0 t)) .1 ∙ ap (λ b. cond b (kuhnSets (g .seats)) leducSets) (sym t)
+    sets-are (fails t) = ap setCount (leduc-tree-is g (eqb-false (g .number) 0 t)) ∙ counts 1 2 4 .1 ∙ ap (λ b. cond b (kuhnSets (g .seats)) leducSets) (sym t)
 
 pub actions-listed : Actions-listed
 actions-listed g out = actions-are g out

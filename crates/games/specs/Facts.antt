@@ -15,6 +15,7 @@ use Rattle.kuhn_rules.specs.Stakes as K
 use Rattle.leduc_rules.specs.Stakes as L
 use Rattle.kuhn_tree.specs.Facts as Kuhn
 use Rattle.leduc_tree.specs.Facts as Leduc
+use Rattle.leduc_tree.specs.Counts.{leducNodes, leducSets, leducEntries}
 
 -- the largest payoff in size
 abbrev pub largestPayoff : Game → ℕ
@@ -22,13 +23,13 @@ largestPayoff g = cond (isKuhn g) (Kuhn.largestPayoff K.ante K.stake (g .seats))
 
 -- the counts by game
 abbrev pub nodesOf : Game → ℕ
-nodesOf g = cond (isKuhn g) (kuhnNodes (g .seats)) 9457
+nodesOf g = cond (isKuhn g) (kuhnNodes (g .seats)) leducNodes
 
 abbrev pub setsOf : Game → ℕ
-setsOf g = cond (isKuhn g) (kuhnSets (g .seats)) 936
+setsOf g = cond (isKuhn g) (kuhnSets (g .seats)) leducSets
 
 abbrev pub entriesOf : Game → ℕ
-entriesOf g = cond (isKuhn g) (kuhnEntries (g .seats)) 2184
+entriesOf g = cond (isKuhn g) (kuhnEntries (g .seats)) leducEntries
 
 -- every game that numbers 1 and 2 let through has so many nodes, sets and entries
 abbrev pub Counted : Type 0

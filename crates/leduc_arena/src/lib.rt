@@ -11,6 +11,7 @@ ghost use Rattle.game_tree.specs.Sets.{size, sizes};
 ghost use Rattle.arena.specs.internal.Built.{Built, Row, Room};
 ghost use Rattle.leduc_rules.specs.Stakes.{ante, raise₁, raise₂};
 ghost use Rattle.leduc_tree.specs.Tree.{leducTree};
+ghost use Rattle.leduc_tree.specs.Counts.{leducNodes};
 ghost use Rattle.leduc_arena_layout.specs.internal.Codes.{codeOf};
 ghost use Rattle.leduc_arena_layout.specs.internal.Layout.{plain, only, dealTree};
 
@@ -52,7 +53,7 @@ fn deal(w: &mut [u64], at: usize, left: usize, c: usize) -> usize
 
 // Lays out Leduc's tree from place 0 on; the place behind it.
 pub fn build(w: &mut [u64]) -> usize
-    requires { ⌜ 9457 ≤ length (now w) ⌝ }
+    requires { ⌜ leducNodes ≤ length (now w) ⌝ }
     ensures { λ r. ⌜ Built 2 codeOf 0 (now (w .entry)) (now (w .exit)) (leducTree ante raise₁ raise₂) r ⌝ }
 {
     deal(w, 0, 1, NONE)

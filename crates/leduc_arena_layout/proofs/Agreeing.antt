@@ -23,6 +23,7 @@ use Rattle.leduc_betting.specs.Cards.{left, remaining}
 use Rattle.leduc_rules.specs.Rules.{public-due, due, key, after-action, put-in, contribution, folds, pairs, beats, wins, payoff}
 use Rattle.leduc_rules.specs.Stakes.{ante, raise₁, raise₂}
 use Rattle.leduc_tree.specs.Tree.{next, each, below, leducTree}
+use Rattle.leduc_tree.specs.Counts.{leducNodes}
 use Rattle.leduc_tree_facts.proofs.Facts.{counts}
 use Rattle.leduc_arena_layout.specs.internal.Codes.{numberFrom, codeFrom, codeOf, codes}
 use Rattle.leduc_arena_layout.specs.internal.Layout.{plain, byteFor, endTree, raisedTree, calledTree, roundTree, only, rowTo, showdownFor, secondTree, publicTree, firstTree, dealTree, dealsTree}
@@ -167,10 +168,10 @@ pub leduc-told : Every Told (leducTree ante raise₁ raise₂)
 leduc-told = trees-alike .tells
 
 -- ---- the builder's tree has 9457 nodes, and where it stands the rules' tree does
-deals-size : size dealsTree ≡ 9457
+deals-size : size dealsTree ≡ leducNodes
 deals-size = sym (trees-alike .nodes) ∙ counts ante raise₁ raise₂ .0
 
-pub deals-room : (w : List ℕ) → 9457 ≤ length w → Room 0 w (size dealsTree)
+pub deals-room : (w : List ℕ) → leducNodes ≤ length w → Room 0 w (size dealsTree)
 deals-room w l = record { words = omega (arith, deals-size); places = omega (arith, deals-size) }
 
 pub deals-built : (v w : List ℕ) (r : ℕ) → Built 2 plain 0 v w dealsTree r → Built 2 codeOf 0 v w (leducTree ante raise₁ raise₂) r

@@ -2,6 +2,7 @@
 pub mod Tree
 pub mod Follows
 pub mod Turns
+pub mod Counts
 pub mod Facts
 pub mod Positions
 pub mod internal

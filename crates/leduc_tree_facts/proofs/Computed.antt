@@ -18,6 +18,7 @@ use Rattle.leduc_betting.specs.Betting.{ends-with, folded, closes, behind, rais
 use Rattle.leduc_betting.specs.Cards.{left, remaining}
 use Rattle.leduc_rules.specs.Rules.{public-due, due, key}
 use Rattle.leduc_tree.specs.Tree.{next, each, below, leducTree, C, m}
+use Rattle.leduc_tree.specs.Counts.{leducNodes}
 use Rattle.leduc_tree_facts.specs.Shape.{withCards, hand}
 use Rattle.leduc_tree_facts.proofs.Keys.{actionsOf, depthOf, levelOf, past}
 use Rattle.leduc_tree_facts.proofs.Shape.{shaped, hands-fit}
@@ -44,7 +45,7 @@ module _ (ante raise₁ raise₂ : ℕ) where
       below next each and or some those has ends-with folded closes behind raises may options in-play turn ended left remaining public-due due key
   is-checked = refl
 
-  pub node-count : size (leducTree ante raise₁ raise₂) ≡ 9457
+  pub node-count : size (leducTree ante raise₁ raise₂) ≡ leducNodes
   unfolding checked
   node-count = eqb-true _ _ (and-left _ _ is-checked)
 

@@ -36,8 +36,15 @@ pub fn best_value(g: Game, words: &mut [u64], seat: usize, d: usize, table: &[u8
     lowered(sum, u)
 }
 
-// The seat's reply to the table, from its choices.
-pub fn best_table(g: Game, words: &mut [u64], seat: usize, d: usize, table: &[u8], out: &mut [u8])
+// Writes the seat's reply to the table to out, from the choices that best_value has left in the words.
+pub fn write_best_reply(
+    g: Game,
+    words: &mut [u64],
+    seat: usize,
+    d: usize,
+    table: &[u8],
+    out: &mut [u8],
+)
     requires { ⌜ Staged g d seat (now table) (now words) × AcceptedTable g d (now table) × (seat < g .seats) ⌝ }
     ensures { λ _. ⌜ (now (out .exit) ≡ sets (now (out .entry)) 0 (replyTable (treeOf g) d (rootUnits g d) (now (table .entry)) seat))
         × BestReply g d seat (now (table .entry)) (tableBest (treeOf g) d (rootUnits g d) (now (table .entry)) seat)

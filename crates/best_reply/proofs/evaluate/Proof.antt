@@ -17,8 +17,8 @@ store-requires c κs = let s0 = c .before .before .before .before in (s0 .pre .0
 best-value-requires : tie.Need-best-value-requires
 best-value-requires c κs = let s0 = c .before .before .before .before .before .before .before .before in let s1 = c .before .before .before in (s1 .store .ensures, s0 .pre .0, s0 .pre .1, omega (arith, s0 .pre .2, s1 .store .kept .1 .0))
 
-best-table-requires : tie.Need-best-table-requires
-best-table-requires c κs = let s0 = c .before .before .before .before .before .before .before .before .before .before .before .before .before in (c .before .before .before .before .best-value .ensures .2, s0 .pre .0, s0 .pre .1)
+write-best-reply-requires : tie.Need-write-best-reply-requires
+write-best-reply-requires c κs = let s0 = c .before .before .before .before .before .before .before .before .before .before .before .before .before in (c .before .before .before .before .best-value .ensures .2, s0 .pre .0, s0 .pre .1)
 
 same-length : tie.Need-same-length
 same-length c = search needs
@@ -32,8 +32,8 @@ returns c = let s3 = c .before .before .before .before in let s2 = s3 .before .b
     let g = s0.args.g in let d = s0.args.d in let table = now s0.args.table in let seat = s0.args.seat in
     let whole : toZ w64 (ofZ w64 s2.best-value.result) ≡ s2.best-value.result = search needs in (
       whole ∙ s2.best-value.ensures.0,
-      s3.best-table.ensures.0,
-      subst (λ v. BestReply g d seat table v (replyTable (treeOf g) d (rootUnits g d) table seat)) (sym (whole ∙ s2.best-value.ensures.0)) s3.best-table.ensures.1,
+      s3.write-best-reply.ensures.0,
+      subst (λ v. BestReply g d seat table v (replyTable (treeOf g) d (rootUnits g d) table seat)) (sym (whole ∙ s2.best-value.ensures.0)) s3.write-best-reply.ensures.1,
     )
 
 pub evaluate-spec : {M : Type 1} → statement M
@@ -42,7 +42,7 @@ evaluate-spec =
     (tie.spec
     store-requires
     best-value-requires
-    best-table-requires
+    write-best-reply-requires
     same-length
     same-length-2
     returns)

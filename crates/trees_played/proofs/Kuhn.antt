@@ -29,8 +29,8 @@ use Rattle.kuhn_tree.specs.Follows.{Follows, FollowsAll}
 use Rattle.kuhn_tree.specs.Positions as Rule
 use Rattle.kuhn_tree.proofs.Growth.{legal-acts, kuhn-follows}
 use Rattle.kuhn_tree.proofs.Positions.{node-follows}
-use Rattle.tree_calls.specs.Kuhn.{Played, Dealt, Stepped, tree, NodesPlayed, TreePlayed}
-use Rattle.tree_calls.proofs.Lists.{rest-none, rest-head}
+use Rattle.trees_played.specs.Kuhn.{Played, Dealt, Stepped, tree, NodesPlayed, TreePlayed}
+use Rattle.trees_played.proofs.Lists.{rest-none, rest-head}
 
 module _ (g : KuhnPoker) (least : 2 ≤ g .players) (most : g .players ≤ 10) where
   abbrev n : ℕ

@@ -33,8 +33,8 @@ use Rattle.leduc_tree.specs.Follows.{Follows, FollowsAll}
 use Rattle.leduc_tree.specs.Positions as Rule
 use Rattle.leduc_tree.proofs.Growth.{Stands, leduc-follows}
 use Rattle.leduc_tree.proofs.Positions.{node-follows}
-use Rattle.tree_calls.specs.Leduc.{Played, Dealt, Stepped, tree, NodesPlayed, TreePlayed}
-use Rattle.tree_calls.proofs.Lists.{rest-none, rest-head}
+use Rattle.trees_played.specs.Leduc.{Played, Dealt, Stepped, tree, NodesPlayed, TreePlayed}
+use Rattle.trees_played.proofs.Lists.{rest-none, rest-head}
 
 -- the position that a state holds
 abbrev held : LeducState → Position

@@ -1,9 +1,9 @@
 -- The reply from the choices kept. Assumes nothing.
 use denote.Ref.{now}
 use borrow.Author.Needs.{needs}
-use Rattle.units_best.proofs.best_table.Statement.{statement}
+use Rattle.units_best.proofs.write_best_reply.Statement.{statement}
 use Rattle.units_best.proofs.Staging as staging
-use Rattle.units_best.proofs.best_table.Tie as tie
+use Rattle.units_best.proofs.write_best_reply.Tie as tie
 
 places-of-requires : tie.Need-places-of-requires
 places-of-requires c κs = c .before .before .before .pre .1 .game
@@ -38,8 +38,8 @@ returns c =
       staging.best-reply (start .args .g) (start .args .d) (start .args .seat) (now (start .args .table)) (start .pre .1) (start .pre .2),
     )
 
-pub best-table-spec : {M : Type 1} → statement M
-best-table-spec =
+pub write-best-reply-spec : {M : Type 1} → statement M
+write-best-reply-spec =
     tie.close
     (tie.spec
     places-of-requires
