@@ -23,5 +23,13 @@ use Rattle.units_worths.specs.Worths as Whole
 use Rattle.cases.specs.Cases.{Agree, cases}
 
 pub cases-agree : Agree cases
-unfolding and or some every sum has places bet-made after-bet ended overrun bets stands contribution wins paid-by-others payoff strange twice unknown fair played possible reachable payoff-refusal payoffs-of saved-refusal those LeducBetting.ends-with LeducBetting.folded LeducBetting.closes LeducBetting.open-round LeducBetting.behind LeducBetting.raises LeducBetting.may LeducBetting.options LeducBetting.in-play LeducBetting.turn LeducBetting.ended LeducRules.public-due LeducRules.due LeducRules.live LeducRules.legal LeducRules.key LeducRules.after-action LeducRules.put-in LeducRules.contribution LeducRules.folds LeducRules.pairs LeducRules.beats LeducRules.wins LeducRules.payoff LeducCards.strange LeducCards.twice LeducBetting.played LeducReached.possible LeducPositions.reachable LeducCalls.payoff-refusal LeducCalls.legal-refusal LeducCalls.key-refusal KuhnRules.left KuhnRules.remaining KuhnRules.legal KuhnTree.next KuhnTree.each KuhnTree.below KuhnTree.kuhnTree KuhnTree.C Sums._·_ Sums.sum Sums.sumℕ Reply.best Reply.value Reply.withKey Reply.highest Sets.size Sets.sets Sets.entriesOf Sets.before Table.addUp Table.tableWorth Table.tableBest Table.replyTable Table.nashConv Games.treeOf Checks.tree-checks Checks.table-checks Checks.output-checks Whole.worthsOf
+unfolding and or some every sum has places bet-made after-bet ended overrun bets stands contribution wins paid-by-others payoff strange twice unknown
+    fair played possible reachable payoff-refusal payoffs-of saved-refusal those LeducBetting.ends-with LeducBetting.folded LeducBetting.closes
+    LeducBetting.open-round LeducBetting.behind LeducBetting.raises LeducBetting.may LeducBetting.options LeducBetting.in-play LeducBetting.turn
+    LeducBetting.ended LeducRules.public-due LeducRules.due LeducRules.live LeducRules.legal LeducRules.key LeducRules.after-action LeducRules.put-in
+    LeducRules.contribution LeducRules.folds LeducRules.pairs LeducRules.beats LeducRules.wins LeducRules.payoff LeducCards.strange LeducCards.twice
+    LeducBetting.played LeducReached.possible LeducPositions.reachable LeducCalls.payoff-refusal LeducCalls.legal-refusal LeducCalls.key-refusal
+    KuhnRules.left KuhnRules.remaining KuhnRules.legal KuhnTree.next KuhnTree.each KuhnTree.below KuhnTree.kuhnTree KuhnTree.C Sums._·_ Sums.sum
+    Sums.sumℕ Reply.best Reply.value Reply.withKey Reply.highest Sets.size Sets.sets Sets.entriesOf Sets.before Table.addUp Table.tableWorth
+    Table.tableBest Table.replyTable Table.nashConv Games.treeOf Whole.worthsOf
 cases-agree = refl
