@@ -5,7 +5,7 @@ use mathlib.Core.List.{List}
 use Prim.Native.Nat.{ℕ, _+_, _-_, _%_}
 use lib.ListN.{getD, set}
 use borrow.Author.Tests.{eq-eqb, ne-eqb}
-use Rattle.prelude.specs.Finite.{and}
+use Rattle.prelude.specs.Finite.{_&&_}
 use Rattle.prelude.proofs.Tests.{both, and-left-fails, and-right-fails}
 use Rattle.arena.specs.internal.Words.{DECISION, kindOf, actionsOf, setOf, PLACES}
 use Rattle.arena_index.specs.internal.Indexing.{isNew, Met, isKnown, entryOf, relinked, pushed, linked}
@@ -48,7 +48,7 @@ module _ (nodes heads a : ℕ) (w : List ℕ) where
   linked-unknown h = linked-none (and-right-fails _ (ap not (eq-eqb (getD w (nodes + setOf x) 0) 0 h)))
 
   pub linked-known : kindOf x ≡ DECISION → (getD w (nodes + setOf x) 0 ≡ 0 → ⊥) → linked nodes heads a w ≡ pushed heads a x (entryOf w nodes x) w
-  unfolding linked isKnown and
+  unfolding linked isKnown _&&_
   linked-known k h = rw (eq-eqb (kindOf x) DECISION k, ne-eqb (getD w (nodes + setOf x) 0) 0 h) refl
 
   -- the same, of a word y that is x, and the number known that is read at its code

@@ -1,6 +1,6 @@
 -- The definitions give what document 01 says, in all its cases at once: by computing. Assumes nothing.
 use mathlib.Core.Path.{refl}
-use Rattle.prelude.specs.Finite.{and, or, some, every, sum, has, places, those}
+use Rattle.prelude.specs.Finite.{_&&_, _||_, some, every, sum, has, places, those}
 use Rattle.kuhn_rules.specs.Rules.{bet-made, after-bet, ended, overrun, bets, stands, contribution, wins, paid-by-others, payoff}
 use Rattle.kuhn_rules.specs.Reached.{strange, twice, unknown, fair, played, possible}
 use Rattle.kuhn_rules.specs.Stakes.{payoffs-of}
@@ -23,7 +23,7 @@ use Rattle.units_worths.specs.Worths as Whole
 use Rattle.cases.specs.Cases.{Agree, cases}
 
 pub cases-agree : Agree cases
-unfolding and or some every sum has places bet-made after-bet ended overrun bets stands contribution wins paid-by-others payoff strange twice unknown
+unfolding _&&_ _||_ some every sum has places bet-made after-bet ended overrun bets stands contribution wins paid-by-others payoff strange twice unknown
     fair played possible reachable payoff-refusal payoffs-of saved-refusal those LeducBetting.ends-with LeducBetting.folded LeducBetting.closes
     LeducBetting.open-round LeducBetting.behind LeducBetting.raises LeducBetting.may LeducBetting.options LeducBetting.in-play LeducBetting.turn
     LeducBetting.ended LeducRules.public-due LeducRules.due LeducRules.live LeducRules.legal LeducRules.key LeducRules.after-action LeducRules.put-in

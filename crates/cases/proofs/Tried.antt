@@ -6,7 +6,7 @@ use native.Mathlib.Omega.{arith}
 use lib.IntN.{pos}
 use lib.ListN.{length}
 use Rattle.prelude.specs.Finite as Finite
-use Rattle.prelude.specs.Finite.{and, or, some, every, those, has}
+use Rattle.prelude.specs.Finite.{_&&_, _||_, some, every, those, has}
 use Rattle.game_tree.specs.Sums.{_·_, sum, sumℕ}
 use Rattle.game_tree.specs.Reply.{best, value, withKey, highest}
 use Rattle.game_tree.specs.Sets.{sets, setActions, entriesOf, entries, before}
@@ -36,20 +36,20 @@ best-reply g D i table a l = reply-best g D i table (a .game .known) (a .game .s
 -- ---- Kuhn 2, always PASS
 
 passes-valid : (length passes ≡ entries (treeOf kuhn2-tables)) × (addUp 1 (setActions (treeOf kuhn2-tables)) passes ≡ true)
-unfolding addUp sets entriesOf sumℕ treeOf Kuhn.kuhnTree Kuhn.below Kuhn.next Kuhn.each and or some every those has bet-made after-bet ended left remaining legal
+unfolding addUp sets entriesOf sumℕ treeOf Kuhn.kuhnTree Kuhn.below Kuhn.next Kuhn.each _&&_ _||_ some every those has bet-made after-bet ended left remaining legal
 passes-valid = (refl, refl)
 
 passes-accepted : AcceptedTable kuhn2-tables 1 passes
-unfolding or dealNodes
+unfolding _||_ dealNodes
 passes-accepted = record { game = record { known = omega arith; seats = refl; small = omega arith }; least = omega arith; most = omega arith; valid = passes-valid }
 
 best-six : tableBest (treeOf kuhn2-tables) 1 (rootUnits kuhn2-tables 1) passes 0 ≡ pos 6
-unfolding tableBest best sum withKey value highest _·_ sets sumℕ before entriesOf treeOf Kuhn.C Kuhn.kuhnTree Kuhn.below Kuhn.next Kuhn.each and or
+unfolding tableBest best sum withKey value highest _·_ sets sumℕ before entriesOf treeOf Kuhn.C Kuhn.kuhnTree Kuhn.below Kuhn.next Kuhn.each _&&_ _||_
     some those has bet-made after-bet ended left remaining legal every Finite.sum bets stands contribution wins paid-by-others payoff
 best-six = refl
 
 reply-bluffs : replyTable (treeOf kuhn2-tables) 1 (rootUnits kuhn2-tables 1) passes 0 ≡ bluffs
-unfolding replyTable best sum withKey value highest _·_ sets sumℕ before entriesOf treeOf Kuhn.C Kuhn.kuhnTree Kuhn.below Kuhn.next Kuhn.each and or
+unfolding replyTable best sum withKey value highest _·_ sets sumℕ before entriesOf treeOf Kuhn.C Kuhn.kuhnTree Kuhn.below Kuhn.next Kuhn.each _&&_ _||_
     some those has bet-made after-bet ended left remaining legal every Finite.sum bets stands contribution wins paid-by-others payoff
 reply-bluffs = refl
 
@@ -63,13 +63,13 @@ kuhn-tried = (
 -- ---- Leduc, always CALL
 
 calls-length : length calls ≡ 2184
-unfolding calls callsAt firstTurns firstOnes isFirst turns joined Leduc.next and or some those has Betting.ends-with Betting.folded Betting.closes
+unfolding calls callsAt firstTurns firstOnes isFirst turns joined Leduc.next _&&_ _||_ some those has Betting.ends-with Betting.folded Betting.closes
     Betting.behind Betting.raises Betting.may Betting.options Betting.in-play Betting.turn Betting.ended Cards.left Cards.remaining Rules.public-due
     Rules.due
 calls-length = refl
 
 calls-add-up : addUp 1 actionsInOrder calls ≡ true
-unfolding addUp actionsInOrder calls callsAt firstTurns firstOnes isFirst turns joined Leduc.next and or some those has Betting.ends-with
+unfolding addUp actionsInOrder calls callsAt firstTurns firstOnes isFirst turns joined Leduc.next _&&_ _||_ some those has Betting.ends-with
     Betting.folded Betting.closes Betting.behind Betting.raises Betting.may Betting.options Betting.in-play Betting.turn Betting.ended Cards.left
     Cards.remaining Rules.public-due Rules.due
 calls-add-up = refl

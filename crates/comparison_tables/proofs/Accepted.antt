@@ -8,7 +8,7 @@ use lib.Dec.{eqb, ltb}
 use lib.ListN.{length}
 use borrow.Author.Tests.{ltb-false, eqb-true, eqb-false, not-false}
 use Rattle.refusals.specs.Refusals.{_refuses_, first}
-use Rattle.prelude.specs.Finite.{or}
+use Rattle.prelude.specs.Finite.{_||_}
 use Rattle.prelude.proofs.Tests.{or-false-left, or-false-right}
 use Rattle.game_tree.specs.Sets.{size, setActions, entries}
 use Rattle.game_tree.specs.Table.{Table, addUp}
@@ -32,9 +32,9 @@ module _ (g : Game) (words D : ℕ) (table : Table) (e : evaluation-refusal g wo
   all-fail false false false false false false true e = absurd (omega arith)
   all-fail false false false false false false false e = (refl, refl, refl, refl, refl, refl)
 
-  fail : (ltb 1 (g .number) ≡ false) × (seats-out g ≡ false) × (ltb 4000000 (size (treeOf g)) ≡ false) × (or (eqb D 0) (ltb (mostParts g) D) ≡ false)
+  fail : (ltb 1 (g .number) ≡ false) × (seats-out g ≡ false) × (ltb 4000000 (size (treeOf g)) ≡ false) × ((eqb D 0 || ltb (mostParts g) D) ≡ false)
       × (not (eqb (length table) (entries (treeOf g))) ≡ false) × (not (addUp D (setActions (treeOf g)) table) ≡ false)
-  fail = all-fail (ltb 1 (g .number)) (seats-out g) (ltb 4000000 (size (treeOf g))) (ltb words (12 * size (treeOf g))) (or (eqb D 0) (ltb (mostParts g) D))
+  fail = all-fail (ltb 1 (g .number)) (seats-out g) (ltb 4000000 (size (treeOf g))) (ltb words (12 * size (treeOf g))) (eqb D 0 || ltb (mostParts g) D)
       (not (eqb (length table) (entries (treeOf g)))) (not (addUp D (setActions (treeOf g)) table)) e
 
   pub accepted-table : AcceptedTable g D table

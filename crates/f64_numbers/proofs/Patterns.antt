@@ -12,7 +12,7 @@ use lib.IntN.{pos, _-ℤ_}
 use lib.Ieee.{Float, nan, inf, fin, binary64, isNan, nanBits, toBits, ofBits, ne, div, inFloat}
 use lib.Ieee.Compare.{differs-from-itself, nan-differs}
 use lib.Ieee.Bits.{nanBits-is, nanBits-above}
-use Rattle.prelude.specs.Finite.{and, every}
+use Rattle.prelude.specs.Finite.{_&&_, every}
 use Rattle.prelude.proofs.Tests.{every-at}
 use Rattle.prelude.proofs.Amounts.{amount}
 use Rattle.arena.specs.internal.Words.{byteOf, payoffOf}
@@ -49,7 +49,7 @@ zero-over-zero = refl
 -- ---- payoffs
 -- a payoff in a word is a whole number that a float holds
 held-payoffs : every 128 (λ b. inFloat binary64 (pos b -ℤ pos 64)) ≡ true
-unfolding every and inFloat
+unfolding every _&&_ inFloat
 held-payoffs = refl
 
 pub payoff-held : (x i : ℕ) → T (inFloat binary64 (payoffOf x i))

@@ -5,7 +5,7 @@ use mathlib.Core.List.{[], _∷_}
 use Prim.Native.Nat.{ℕ, suc, pred, _*_, _/_}
 use lib.Dec.{eqb, ltb}
 use borrow.Author.Tests.{ltb-true}
-use Rattle.prelude.specs.Finite.{and}
+use Rattle.prelude.specs.Finite.{_&&_}
 use Rattle.prelude.proofs.Tests.{and-left, and-right}
 use Rattle.game_tree.specs.Tree.{Key, Tree, end, chance, decide, Trees, nil, cons, fan}
 use Rattle.game_tree.specs.Conditions.{Splits, SplitsAll, Every, EveryAll}
@@ -22,12 +22,12 @@ unfoldable mutual
 
   pub splits : ℕ → ℕ → Tree → Bool
   splits C m (end p) = true
-  splits C m (chance f) = and (eqb C (fan f * (C / fan f))) (and (ltb 0 (fan f)) (splitsAll (C / fan f) m f))
-  splits C m (decide j k f) = and (ltb 0 m) (splitsAll C (pred m) f)
+  splits C m (chance f) = eqb C (fan f * (C / fan f)) && (ltb 0 (fan f) && splitsAll (C / fan f) m f)
+  splits C m (decide j k f) = ltb 0 m && splitsAll C (pred m) f
 
   pub splitsAll : ℕ → ℕ → Trees → Bool
   splitsAll C m nil = true
-  splitsAll C m (cons t f) = and (splits C m t) (splitsAll C m f)
+  splitsAll C m (cons t f) = splits C m t && splitsAll C m f
 
 mutual
   unfolding splits Splits
@@ -51,11 +51,11 @@ module _ (p : ℕ → Key → ℕ → Bool) where
     pub every : Tree → Bool
     every (end v) = true
     every (chance f) = everyAll f
-    every (decide j k f) = and (p j k (fan f)) (everyAll f)
+    every (decide j k f) = p j k (fan f) && everyAll f
 
     pub everyAll : Trees → Bool
     everyAll nil = true
-    everyAll (cons t f) = and (every t) (everyAll f)
+    everyAll (cons t f) = every t && everyAll f
 
   module _ (P : ℕ → Key → ℕ → Type 0) (g : (j : ℕ) (k : Key) (n : ℕ) → p j k n ≡ true → P j k n) where
     mutual
@@ -78,11 +78,11 @@ module _ (d : ℕ → Key → ℕ) where
     pub heights : Tree → Bool
     heights (end v) = true
     heights (chance f) = heightsAll f
-    heights (decide j k f) = and (eqb (height (decide j k f)) (d j k)) (heightsAll f)
+    heights (decide j k f) = eqb (height (decide j k f)) (d j k) && heightsAll f
 
     pub heightsAll : Trees → Bool
     heightsAll nil = true
-    heightsAll (cons t f) = and (heights t) (heightsAll f)
+    heightsAll (cons t f) = heights t && heightsAll f
 
   mutual
     unfolding heights Heights
@@ -101,12 +101,12 @@ module _ (v : ℕ → Key → ℕ) where
   unfoldable mutual
     pub levels : ℕ → Tree → Bool
     levels d (end p) = ltb 0 d
-    levels d (chance f) = and (ltb 0 d) (levelsAll (pred d) f)
-    levels d (decide j k f) = and (ltb 0 d) (and (eqb (v j k) (pred d)) (levelsAll (pred d) f))
+    levels d (chance f) = ltb 0 d && levelsAll (pred d) f
+    levels d (decide j k f) = ltb 0 d && (eqb (v j k) (pred d) && levelsAll (pred d) f)
 
     pub levelsAll : ℕ → Trees → Bool
     levelsAll d nil = true
-    levelsAll d (cons t f) = and (levels d t) (levelsAll d f)
+    levelsAll d (cons t f) = levels d t && levelsAll d f
 
   mutual
     unfolding levels Levels
@@ -126,7 +126,7 @@ unfolding same
 samePath [] [] = true
 samePath [] (y ∷ ρ) = false
 samePath (x ∷ π) [] = false
-samePath (x ∷ π) (y ∷ ρ) = and (and (same (x .0) (y .0)) (eqb (x .1) (y .1))) (samePath π ρ)
+samePath (x ∷ π) (y ∷ ρ) = (same (x .0) (y .0) && eqb (x .1) (y .1)) && samePath π ρ
 
 same-path : (π ρ : Path) → samePath π ρ ≡ true → π ≡ ρ
 unfolding samePath
@@ -144,19 +144,19 @@ module _ (i : ℕ) (H : Key → Path) (n : Key → ℕ) where
     pub recall : Path → Tree → Bool
     recall π (end v) = true
     recall π (chance f) = recallAll π f
-    recall π (decide j k f) = let own : Bool = and (samePath π (H k)) (eqb (fan f) (n k)) in and (cond (eqb j i) own true) (recallKids (eqb j i) π k 0 f)
+    recall π (decide j k f) = let own : Bool = (samePath π (H k) && eqb (fan f) (n k)) in (cond (eqb j i) own true && recallKids (eqb j i) π k 0 f)
 
     pub recallAll : Path → Trees → Bool
     recallAll π nil = true
-    recallAll π (cons t f) = and (recall π t) (recallAll π f)
+    recallAll π (cons t f) = recall π t && recallAll π f
 
     pub recallKids : Bool → Path → Key → ℕ → Trees → Bool
     recallKids b π k a nil = true
-    recallKids b π k a (cons t f) = and (recall (moved b k a π) t) (recallKids b π k (suc a) f)
+    recallKids b π k a (cons t f) = recall (moved b k a π) t && recallKids b π k (suc a) f
 
-  at-own : (j : ℕ) (π : Path) (k : Key) (f : Trees) → cond (eqb j i) (and (samePath π (H k)) (eqb (fan f) (n k))) true ≡ true → j ≡ i → (π ≡ H k) × (fan f ≡ n k)
+  at-own : (j : ℕ) (π : Path) (k : Key) (f : Trees) → cond (eqb j i) (samePath π (H k) && eqb (fan f) (n k)) true ≡ true → j ≡ i → (π ≡ H k) × (fan f ≡ n k)
   at-own j π k f e q =
-      let d : and (samePath π (H k)) (eqb (fan f) (n k)) ≡ true = rw (q, eqb-self i) at e in
+      let d : (samePath π (H k) && eqb (fan f) (n k)) ≡ true = rw (q, eqb-self i) at e in
       (same-path π (H k) (and-left _ _ d), eqb-is _ _ (and-right _ _ d))
 
   mutual

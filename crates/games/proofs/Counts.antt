@@ -8,7 +8,7 @@ use native.Mathlib.Omega.{arith}
 use lib.Dec.{eqb, ltb}
 use borrow.Author.Tests.{eq-eqb, ne-eqb, eqb-true, eqb-false, ltb-false}
 use lib.ListN.{length, getD, take, replicate, length-replicate, getD-replicate}
-use Rattle.prelude.specs.Finite.{or, places}
+use Rattle.prelude.specs.Finite.{_||_, places}
 use Rattle.prelude.proofs.Tests.{Tested, holds, fails, tested, or-false-left, or-false-right}
 use Rattle.kuhn_tree.specs.Tree as Kuhn
 use Rattle.kuhn_tree.specs.Counts.{dealNodes, kuhnNodes, kuhnSets, kuhnEntries}
@@ -63,7 +63,7 @@ six-seats = each-seats (λ n. getD nodes-table n 0 ≤ 4000000 → n ≤ 6) (λ 
 
 -- the seats of Kuhn, once number 2 is settled
 module _ (g : Game) (k : g .number ≡ 0) where
-  seats-kuhn : seats-out g ≡ false → or (ltb (g .seats) 2) (ltb 10 (g .seats)) ≡ false
+  seats-kuhn : seats-out g ≡ false → (ltb (g .seats) 2 || ltb 10 (g .seats)) ≡ false
   seats-kuhn e = rw (eq-eqb (g .number) 0 k) at e
 
   pub kuhn-least : seats-out g ≡ false → 2 ≤ g .seats

@@ -7,7 +7,7 @@ use native.Mathlib.Omega.{arith}
 use lib.Dec.{eqb, ltb, leb}
 use borrow.Author.Tests.{eq-eqb, ne-eqb, eqb-true, eqb-false, not-false}
 use lib.ListN.{length, replicate, length-map}
-use Rattle.prelude.specs.Finite.{or}
+use Rattle.prelude.specs.Finite.{_||_}
 use Rattle.prelude.proofs.Tests.{Tested, holds, fails, tested}
 use Rattle.game_tree.specs.Conditions.{Splits, Pays}
 use Rattle.game_tree.specs.Recall.{PerfectRecall}
@@ -49,11 +49,11 @@ kuhn-set-actions : (n : ℕ) → 1 ≤ n → setActions (kuhnTree 1 1 n) ≡ rep
 kuhn-set-actions n w = all-two (sets (kuhnTree 1 1 n)) (every→sets (λ j k a. a ≡ 2) (kuhnTree 1 1 n) (kuhn-every 1 1 n (λ j k a. a ≡ 2) (λ j c h. refl))) ∙ ap (λ k. replicate k 2) (counted 1 1 n w .1)
 
 module _ (g : Game) where
-  pub kuhn-out : g .number ≡ 0 → seats-out g ≡ or (ltb (g .seats) 2) (ltb 10 (g .seats))
-  kuhn-out k = ap (λ t. cond t (or (ltb (g .seats) 2) (ltb 10 (g .seats))) (not (eqb (g .seats) 2))) (eq-eqb (g .number) 0 k)
+  pub kuhn-out : g .number ≡ 0 → seats-out g ≡ (ltb (g .seats) 2 || ltb 10 (g .seats))
+  kuhn-out k = ap (λ t. cond t (ltb (g .seats) 2 || ltb 10 (g .seats)) (not (eqb (g .seats) 2))) (eq-eqb (g .number) 0 k)
 
   pub leduc-out : (g .number ≡ 0 → ⊥) → seats-out g ≡ not (eqb (g .seats) 2)
-  leduc-out k = ap (λ t. cond t (or (ltb (g .seats) 2) (ltb 10 (g .seats))) (not (eqb (g .seats) 2))) (ne-eqb (g .number) 0 k)
+  leduc-out k = ap (λ t. cond t (ltb (g .seats) 2 || ltb 10 (g .seats)) (not (eqb (g .seats) 2))) (ne-eqb (g .number) 0 k)
 
   -- Leduc has two seats, once number 2 is settled
   pub leduc-two : (g .number ≡ 0 → ⊥) → seats-out g ≡ false → g .seats ≡ 2
@@ -110,7 +110,7 @@ pub actions-listed : Actions-listed
 actions-listed g out = actions-are g out
 
 pub table-of-counts : Table-of-counts
-unfolding dealNodes or
+unfolding dealNodes _||_
 table-of-counts = (counted-games (kuhn 2) refl, counted-games (kuhn 3) refl, counted-games (kuhn 4) refl, counted-games (kuhn 5) refl, counted-games (kuhn 6) refl, counted-games leduc refl)
 
 -- ---- what the reply theorem asks

@@ -10,7 +10,7 @@ use lib.IntN.{ℤ, pos}
 use lib.ListN.{length, getD, take, drop, replicate}
 use Rattle.refusals.specs.Refusals.{Check, first, _refuses_}
 use Rattle.refusals.proofs.Order.{refused, passed, fails-first, fails-rest}
-use Rattle.prelude.specs.Finite.{and, or}
+use Rattle.prelude.specs.Finite.{_&&_, _||_}
 use Rattle.prelude.proofs.Tests.{Tested, holds, fails, tested, both, and-left, and-right, and-left-fails, and-right-fails, or-false-left}
 use Rattle.prelude.proofs.Lists.{getD-within}
 use Rattle.kuhn_rules.specs.Rules.{ended, overrun, live, over, due, remaining}
@@ -86,7 +86,7 @@ module _ (g : KuhnPoker) (s : KuhnState) (tens : length (s .cards) ≡ 10) (nine
 
   step-played : played (g .players) (historyOf s) ≡ true
   step-played =
-      and-right (or (eqb (s .acted) 0) (eqb (s .dealt) (g .players))) _
+      and-right (eqb (s .acted) 0 || eqb (s .dealt) (g .players)) _
       (and-right (fair (g .players) (cardsOf s)) _
       (sym (reachable-is s tens nineteen (cards-in (g .players) s step-position) (actions-in (g .players) s step-position) (g .players)) ∙ is-reached (g .players) s step-position))
 
@@ -191,8 +191,8 @@ module _ (n : ℕ) (s : KuhnState) where
   saved-tests false false false false false false cs z = (refl, refl, refl)
 
   module _ (ok : first (saved-checks n s) ≡ 0) where
-    saved-all : (cs : List Check) → (seats-out n ≡ false) × (or (ltb (2 * n - 1) (s .acted)) (unknown (historyOf s)) ≡ false) × (first (saved-checks n s ++ cs) ≡ first cs)
-    saved-all cs = saved-tests (seats-out n) (not (eqb (s .dealt) n)) (strange n (cardsOf s)) (twice (cardsOf s)) (or (ltb (2 * n - 1) (s .acted)) (unknown (historyOf s))) (overrun n (historyOf s)) cs ok
+    saved-all : (cs : List Check) → (seats-out n ≡ false) × ((ltb (2 * n - 1) (s .acted) || unknown (historyOf s)) ≡ false) × (first (saved-checks n s ++ cs) ≡ first cs)
+    saved-all cs = saved-tests (seats-out n) (not (eqb (s .dealt) n)) (strange n (cardsOf s)) (twice (cardsOf s)) (ltb (2 * n - 1) (s .acted) || unknown (historyOf s)) (overrun n (historyOf s)) cs ok
 
     pub saved-seats : 1 ≤ n
     saved-seats = let w = seats-least n (saved-all [] .0) in omega arith
@@ -286,9 +286,9 @@ module _ (g : KuhnPoker) (s : KuhnState) (tens : length (s .cards) ≡ 10) (nine
     unfolding deal-refusal
     deal-accepted = accepted-position (g .players) s (deal-checks (g .players) s k) e
 
-    deal-fit : and (due (g .players) (cardsOf s)) (ltb k (length (remaining (g .players) (cardsOf s)))) ≡ true
+    deal-fit : (due (g .players) (cardsOf s) && ltb k (length (remaining (g .players) (cardsOf s)))) ≡ true
     unfolding deal-refusal
-    deal-fit = not-false _ (fails-first (not (and (due (g .players) (cardsOf s)) (ltb k (length (remaining (g .players) (cardsOf s)))))) 19 [] (sym (own g s tens nineteen deal-accepted (deal-checks (g .players) s k)) ∙ e))
+    deal-fit = not-false _ (fails-first (not (due (g .players) (cardsOf s) && ltb k (length (remaining (g .players) (cardsOf s))))) 19 [] (sym (own g s tens nineteen deal-accepted (deal-checks (g .players) s k)) ∙ e))
 
     pub deal-due : s .dealt < g .players
     deal-due = let w = ltb-true (length (cardsOf s)) (g .players) (and-left (due (g .players) (cardsOf s)) _ deal-fit) in omega (arith, cards-long g s tens nineteen deal-accepted)

@@ -8,7 +8,7 @@ use lib.Dec.{eqb, ltb, leb}
 use borrow.Author.Tests.{le-ltb, le-leb, eq-eqb, ltb-false, eqb-true, not-false}
 use lib.ListN.{length}
 use Rattle.refusals.specs.Refusals.{first, _refuses_}
-use Rattle.prelude.specs.Finite.{and, or}
+use Rattle.prelude.specs.Finite.{_&&_, _||_}
 use Rattle.prelude.proofs.Tests.{both, neither, and-right, or-right, or-false-left, or-false-right}
 use Rattle.kuhn_rules.specs.Rules.{ended, overrun}
 use Rattle.kuhn_rules.specs.Reached.{strange, twice, unknown, fair, played, possible}
@@ -27,7 +27,7 @@ use Rattle.kuhn_rules.proofs.Facts.{possible-fair, possible-played, fair-tests,
 pub reachable-by-moves : Reachable-by-moves
 unfolding reachable
 reachable-by-moves n s = (
-  (λ e. (reachable-dealt n s e, reachable-acted n s e, possible-reached n (cardsOf s) (historyOf s) (and-right (and (leb (s .dealt) 10) (leb (s .acted) 19)) _ e))),
+  (λ e. (reachable-dealt n s e, reachable-acted n s e, possible-reached n (cardsOf s) (historyOf s) (and-right (leb (s .dealt) 10 && leb (s .acted) 19) _ e))),
   (λ (a, b, r). both (both (le-leb (s .dealt) 10 a) (le-leb (s .acted) 19 b)) (reached-possible n r)),
 )
 
@@ -37,7 +37,7 @@ module _ (g : KuhnPoker) (s : KuhnState) (m : ℕ) (z : Sized s) where
   n = g .players
 
   abbrev long : Bool
-  long = or (ltb (2 * n - 1) (s .acted)) (unknown (historyOf s))
+  long = ltb (2 * n - 1) (s .acted) || unknown (historyOf s)
 
   abbrev marked : Bool
   marked = eqb m (mark (ended n (historyOf s)))

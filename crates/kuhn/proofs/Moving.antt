@@ -11,7 +11,7 @@ use lib.ListN.{length, getD, take, set, length-set}
 use lib.Seq.{take-suc-set, getD-set-other}
 use borrow.Author.Tests.{le-leb, ltb-true, ltb-false, not-false}
 use Rattle.refusals.specs.Facts.{None-holds}
-use Rattle.prelude.specs.Finite.{and}
+use Rattle.prelude.specs.Finite.{_&&_}
 use Rattle.prelude.proofs.Tests.{Tested, holds, fails, tested, and-left, and-right}
 use Rattle.prelude.proofs.Lists.{those-below}
 use Rattle.kuhn_rules.specs.Rules.{BET, due, live, left, remaining}
@@ -59,7 +59,7 @@ module _ (g : KuhnPoker) (s : KuhnState) (z : Sized s) where
     unfolding None-holds
     deal-passed =
         let (a, (b, (c, d))) = calls-decide g s .deal-decides k .accepts .0 e in
-        let f : and (due n (cardsOf s)) (ltb k (length (remaining n (cardsOf s)))) ≡ true = not-false _ c in
+        let f : (due n (cardsOf s) && ltb k (length (remaining n (cardsOf s)))) ≡ true = not-false _ c in
         (seats-most n a, not-false _ b, and-left _ _ f, ltb-true _ _ (and-right (due n (cardsOf s)) _ f))
 
     card-left : left n (cardsOf s) card ≡ true

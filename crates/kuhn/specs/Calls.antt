@@ -8,7 +8,7 @@ use lib.IntN.{pos}
 use lib.ListN.{length, getD, drop, replicate}
 use Rattle.refusals.specs.Refusals.{Check, first, _refuses_}
 use Rattle.refusals.specs.Refusals as Refusals
-use Rattle.prelude.specs.Finite.{and}
+use Rattle.prelude.specs.Finite.{_&&_}
 use Rattle.kuhn_rules.specs.Rules.{due, live, over, ended, legal, key, remaining}
 use Rattle.kuhn_rules.specs.Stakes.{payoffs-of}
 use Rattle.kuhn_positions.specs.Positions.{cardsOf, historyOf, initial, with-card, with-action}
@@ -47,7 +47,7 @@ started g = record { refusal = start-refusal g; state = initial }
 
 -- deal: the card of an outcome is the one that stands there among those left
 abbrev pub deal-checks : ℕ → KuhnState → ℕ → List Check
-deal-checks n s k = (not (and (due n (cardsOf s)) (ltb k (length (remaining n (cardsOf s))))) refuses Refusals.unfit) ∷ []
+deal-checks n s k = (not (due n (cardsOf s) && ltb k (length (remaining n (cardsOf s)))) refuses Refusals.unfit) ∷ []
 
 unfoldable pub deal-refusal : KuhnPoker → KuhnState → ℕ → ℕ
 deal-refusal g s k = first (position-checks (g .players) s ++ deal-checks (g .players) s k)

@@ -10,7 +10,7 @@ use lib.Dec.{eqb, leb, ltb}
 use lib.ListN.{length, getD, length-append}
 use lib.Seq.{take-append-seam, getD-at}
 use borrow.Author.Tests.{eq-eqb, ne-eqb, eqb-true, eqb-false, ltb-true, ltb-false, leb-true, le-leb}
-use Rattle.prelude.specs.Finite.{and, or, some, sum}
+use Rattle.prelude.specs.Finite.{_&&_, _||_, some, sum}
 use Rattle.prelude.proofs.Tests.{Tested, holds, fails, tested, true≢false, both, and-left, and-right, and-right-fails, or-left, or-right, or-none, or-assoc, and-all, or-rest, or-cases, or-false-left, or-false-right, neither, none, every-at, all}
 use Rattle.prelude.proofs.Lists.{sum-same, sum-without}
 use Rattle.kuhn_rules.specs.Rules.{PASS, BET, turn, bet-made, after-bet, bets, stands, wins, contribution}
@@ -22,14 +22,14 @@ module _ (h : List ℕ) (a : ℕ) where
   pub longer : length (h ++ (a ∷ [])) ≡ suc (length h)
   longer = length-append h (a ∷ []) ∙ (let e : length h + 1 ≡ suc (length h) = omega arith in e)
 
-pub bet-made-more : (h : List ℕ) (a : ℕ) → bet-made (h ++ (a ∷ [])) ≡ or (bet-made h) (eqb a BET)
-unfolding bet-made or
+pub bet-made-more : (h : List ℕ) (a : ℕ) → bet-made (h ++ (a ∷ [])) ≡ (bet-made h || eqb a BET)
+unfolding bet-made _||_
 bet-made-more [] a = or-none (eqb a BET)
 bet-made-more (x ∷ h) a = rw (bet-made-more h a) (or-assoc (eqb x BET) (bet-made h) (eqb a BET))
 
 -- the actions after the first bet
 pub after-bet-more : (h : List ℕ) (a : ℕ) → bet-made h ≡ true → length (after-bet (h ++ (a ∷ []))) ≡ suc (length (after-bet h))
-unfolding bet-made after-bet or
+unfolding bet-made after-bet _||_
 after-bet-more [] a e = true≢false false e refl
 after-bet-more (x ∷ h) a e = at (after-bet-more h a) (tested (eqb x BET))
   where
@@ -38,7 +38,7 @@ after-bet-more (x ∷ h) a e = at (after-bet-more h a) (tested (eqb x BET))
     at r (fails t) = rw t (r (rw t at e))
 
 pub after-bet-first : (h : List ℕ) → bet-made h ≡ false → length (after-bet (h ++ (BET ∷ []))) ≡ 0
-unfolding bet-made after-bet or
+unfolding bet-made after-bet _||_
 after-bet-first [] e = refl
 after-bet-first (x ∷ h) e = at (after-bet-first h) (tested (eqb x BET))
   where
@@ -48,7 +48,7 @@ after-bet-first (x ∷ h) e = at (after-bet-first h) (tested (eqb x BET))
 
 -- ---- who has bet
 no-bet-at : (h : List ℕ) → bet-made h ≡ false → (i : ℕ) → eqb (getD h i 0) BET ≡ false
-unfolding bet-made or
+unfolding bet-made _||_
 no-bet-at [] e i = refl
 no-bet-at (x ∷ h) e zero = or-false-left (eqb x BET) (bet-made h) e
 no-bet-at (x ∷ h) e (suc i) = no-bet-at h (or-false-right (eqb x BET) (bet-made h) e) i
@@ -56,26 +56,26 @@ no-bet-at (x ∷ h) e (suc i) = no-bet-at h (or-false-right (eqb x BET) (bet-mad
 module _ (n : ℕ) (h : List ℕ) where
   pub no-bets : bet-made h ≡ false → (p : ℕ) → bets n h p ≡ false
   unfolding bets
-  no-bets e p = none (length h) (λ i. and (eqb (i % n) p) (eqb (getD h i PASS) BET)) (λ i l. and-right-fails (eqb (i % n) p) (no-bet-at h e i))
+  no-bets e p = none (length h) (λ i. eqb (i % n) p && eqb (getD h i PASS) BET) (λ i l. and-right-fails (eqb (i % n) p) (no-bet-at h e i))
 
   -- the seat whose turn it was, if it bet
-  pub bets-more : (a p : ℕ) → bets n (h ++ (a ∷ [])) p ≡ or (bets n h p) (and (eqb (turn n h) p) (eqb a BET))
+  pub bets-more : (a p : ℕ) → bets n (h ++ (a ∷ [])) p ≡ (bets n h p || (eqb (turn n h) p && eqb a BET))
   unfolding bets some
   bets-more a p =
       ap (λ k. some k at-place) (longer h a)
-      ∙ ap₂ or (sym (bets-take n (length h) (h ++ (a ∷ [])) p (rw (longer h a) (omega arith))) ∙ ap (λ l. bets n l p) (take-append-seam h (a ∷ [])))
-      (ap (λ x. and (eqb (length h % n) p) (eqb x BET)) (getD-at h a [] 0 (length h) refl))
+      ∙ ap₂ _||_ (sym (bets-take n (length h) (h ++ (a ∷ [])) p (rw (longer h a) (omega arith))) ∙ ap (λ l. bets n l p) (take-append-seam h (a ∷ [])))
+      (ap (λ x. eqb (length h % n) p && eqb x BET) (getD-at h a [] 0 (length h) refl))
     where
       at-place : ℕ → Bool
-      at-place i = and (eqb (i % n) p) (eqb (getD (h ++ (a ∷ [])) i PASS) BET)
+      at-place i = eqb (i % n) p && eqb (getD (h ++ (a ∷ [])) i PASS) BET
 
   pub bets-pass : (p : ℕ) → bets n (h ++ (PASS ∷ [])) p ≡ bets n h p
-  unfolding or
-  bets-pass p = bets-more PASS p ∙ ap (or (bets n h p)) (and-right-fails (eqb (turn n h) p) refl) ∙ or-none (bets n h p)
+  unfolding _||_
+  bets-pass p = bets-more PASS p ∙ ap (_||_ (bets n h p)) (and-right-fails (eqb (turn n h) p) refl) ∙ or-none (bets n h p)
 
-  pub bets-bet : (p : ℕ) → bets n (h ++ (BET ∷ [])) p ≡ or (bets n h p) (eqb (turn n h) p)
-  unfolding and
-  bets-bet p = bets-more BET p ∙ ap (or (bets n h p)) (and-all (eqb (turn n h) p))
+  pub bets-bet : (p : ℕ) → bets n (h ++ (BET ∷ [])) p ≡ (bets n h p || eqb (turn n h) p)
+  unfolding _&&_
+  bets-bet p = bets-more BET p ∙ ap (_||_ (bets n h p)) (and-all (eqb (turn n h) p))
 
 -- ---- what the seats have paid
 module _ (n : ℕ) (h : List ℕ) where
@@ -85,15 +85,15 @@ module _ (n : ℕ) (h : List ℕ) where
 
   -- a seat that has not bet pays once more
   pub contribution-bet : bets n h (turn n h) ≡ false → (i : ℕ) → contribution ante stake n (h ++ (BET ∷ [])) i ≡ contribution ante stake n h i + cond (eqb i (turn n h)) 1 0
-  unfolding contribution or
+  unfolding contribution _||_
   contribution-bet e i = ap (λ b. 1 + cond b 1 0) (bets-bet n h i) ∙ at (tested (eqb (turn n h) i))
     where
-      at : Tested (eqb (turn n h) i) → 1 + cond (or (bets n h i) (eqb (turn n h) i)) 1 0 ≡ 1 + cond (bets n h i) 1 0 + cond (eqb i (turn n h)) 1 0
+      at : Tested (eqb (turn n h) i) → 1 + cond (bets n h i || eqb (turn n h) i) 1 0 ≡ 1 + cond (bets n h i) 1 0 + cond (eqb i (turn n h)) 1 0
       at (holds t) = let q : turn n h ≡ i = eqb-true (turn n h) i t in
           rw (t, eq-eqb i (turn n h) (sym q), sym (ap (bets n h) q) ∙ e) refl
       at (fails t) = rw (t, ne-eqb i (turn n h) (λ q. eqb-false (turn n h) i t (sym q))) (same (bets n h i))
         where
-          same : (b : Bool) → 1 + cond (or b false) 1 0 ≡ 1 + cond b 1 0 + 0
+          same : (b : Bool) → 1 + cond (b || false) 1 0 ≡ 1 + cond b 1 0 + 0
           same true = refl
           same false = refl
 
@@ -142,9 +142,9 @@ sum-most (suc n) k f e = omega (arith, sum-most n k f e, e n, NatL.suc-mul n k)
 module _ (n : ℕ) (cs h : List ℕ) where
   pub wins-by : (p : ℕ) → stands n h p ≡ true → ((q : ℕ) → q < n → stands n h q ≡ true → getD cs q 0 ≤ getD cs p 0) → wins n cs h p ≡ true
   unfolding wins
-  wins-by p s f = both s (all n (λ q. or (not (stands n h q)) (leb (getD cs q 0) (getD cs p 0))) (λ q l. at q l (tested (stands n h q))))
+  wins-by p s f = both s (all n (λ q. not (stands n h q) || leb (getD cs q 0) (getD cs p 0)) (λ q l. at q l (tested (stands n h q))))
     where
-      at : (q : ℕ) → q < n → Tested (stands n h q) → or (not (stands n h q)) (leb (getD cs q 0) (getD cs p 0)) ≡ true
+      at : (q : ℕ) → q < n → Tested (stands n h q) → (not (stands n h q) || leb (getD cs q 0) (getD cs p 0)) ≡ true
       at q l (holds t) = or-right (not (stands n h q)) (le-leb (getD cs q 0) (getD cs p 0) (f q l t))
       at q l (fails t) = or-left (leb (getD cs q 0) (getD cs p 0)) (ap not t)
 
@@ -154,7 +154,7 @@ module _ (n : ℕ) (cs h : List ℕ) where
 
   pub winner-beats : (p : ℕ) → wins n cs h p ≡ true → (q : ℕ) → q < n → stands n h q ≡ true → getD cs q 0 ≤ getD cs p 0
   unfolding wins
-  winner-beats p e q l s = or-cases (not (stands n h q)) (leb (getD cs q 0) (getD cs p 0)) (every-at n (λ q. or (not (stands n h q)) (leb (getD cs q 0) (getD cs p 0))) (and-right (stands n h p) _ e) q l)
+  winner-beats p e q l s = or-cases (not (stands n h q)) (leb (getD cs q 0) (getD cs p 0)) (every-at n (λ q. not (stands n h q) || leb (getD cs q 0) (getD cs p 0)) (and-right (stands n h p) _ e) q l)
       (λ z. true≢false (not (stands n h q)) z (ap not s)) (λ z. leb-true (getD cs q 0) (getD cs p 0) z)
 
   -- with no bet all stand
@@ -175,7 +175,7 @@ module _ (n : ℕ) (h : List ℕ) where
   stands-pass : bet-made h ≡ true → (q : ℕ) → stands n (h ++ (PASS ∷ [])) q ≡ stands n h q
   stands-pass e q = stands-bet n (h ++ (PASS ∷ [])) q (sym (ap not (opened-more PASS e))) ∙ bets-pass n h q ∙ sym (stands-bet n h q (sym (ap not e)))
 
-  stands-more : (q : ℕ) → stands n (h ++ (BET ∷ [])) q ≡ or (bets n h q) (eqb (turn n h) q)
+  stands-more : (q : ℕ) → stands n (h ++ (BET ∷ [])) q ≡ (bets n h q || eqb (turn n h) q)
   stands-more q = stands-bet n (h ++ (BET ∷ [])) q (sym (ap not opened-bet)) ∙ bets-bet n h q
 
   module _ (cs : List ℕ) where

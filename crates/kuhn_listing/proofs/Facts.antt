@@ -1,6 +1,6 @@
 -- The statements of specs/Facts.antt, each by its proof. Assumes nothing.
 use mathlib.Core.Path.{refl}
-use Rattle.prelude.specs.Finite.{and, or, some, every, those, has}
+use Rattle.prelude.specs.Finite.{_&&_, _||_, some, every, those, has}
 use Rattle.game_tree.specs.Tree.{fan}
 use Rattle.game_tree.specs.Reply.{same}
 use Rattle.game_tree.specs.Sets.{preorder, decisions, isOf, met, firsts, sets, decides, numbers}
@@ -27,5 +27,5 @@ unfolding kuhnListing
 long n = length-listing (tree n) (λ a. cardsOf (positionOf (tree n) n a))
 
 pub two-seats : Two-seats
-unfolding kuhnListing listing flat bytesOf padded positions dealt acted kuhnTree below next each preorder decisions fan same isOf met firsts sets decides numbers bet-made after-bet ended left remaining legal and or some every those has
+unfolding kuhnListing listing flat bytesOf padded positions dealt acted kuhnTree below next each preorder decisions fan same isOf met firsts sets decides numbers bet-made after-bet ended left remaining legal _&&_ _||_ some every those has
 two-seats = refl

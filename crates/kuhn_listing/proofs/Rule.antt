@@ -9,7 +9,7 @@ use lib.Dec.{eqb, leb}
 use lib.ListN.{length, getD, take}
 use lib.Seq.{length-take-le, getD-take, take-take}
 use borrow.Author.Tests.{le-leb}
-use Rattle.prelude.specs.Finite.{and, or, some, every, has}
+use Rattle.prelude.specs.Finite.{_&&_, _||_, some, every, has}
 use Rattle.prelude.proofs.Tests.{both, and-rest, and-left-fails, and-right-fails, some-same, below-cases}
 use Rattle.kuhn_rules.specs.Rules.{left}
 use Rattle.kuhn_tree.specs.Order.{lowestBut, lowest, first}
@@ -34,14 +34,14 @@ every-passed i n p l w e = let z : n ≡ i = omega arith in ap (λ k. every k p)
 -- ---- the tests on the array
 -- card y was left when the first q seats had theirs, and is not card x
 abbrev pub free : List ℕ → ℕ → ℕ → ℕ → Bool
-free cards q x y = and (not (has y (take q cards))) (not (eqb y x))
+free cards q x y = not (has y (take q cards)) && not (eqb y x)
 
 module _ (cards : List ℕ) (n : ℕ) (whole : n ≤ length cards) where
   pub lowest-is : (x q : ℕ) → q < n → getD cards q 0 ≤ n → lowestBut n (take n cards) x q ≡ not (some (getD cards q 0) (free cards q x))
   unfolding lowestBut left
-  lowest-is x q l w = ap not (ap₂ (λ c cs. some c (λ y. and (and (leb y n) (not (has y cs))) (not (eqb y x)))) (getD-take n cards q 0 l) (take-take q n cards (omega arith))
-      ∙ some-same (getD cards q 0) (λ y. and (and (leb y n) (not (has y (take q cards)))) (not (eqb y x))) (free cards q x) (λ y v. ap (λ b. and b (not (eqb y x))) (and-rest (not (has y (take q cards))) (le-leb y n (omega arith)))))
+  lowest-is x q l w = ap not (ap₂ (λ c cs. some c (λ y. (leb y n && not (has y cs)) && not (eqb y x))) (getD-take n cards q 0 l) (take-take q n cards (omega arith))
+      ∙ some-same (getD cards q 0) (λ y. (leb y n && not (has y (take q cards))) && not (eqb y x)) (free cards q x) (λ y v. ap (λ b. b && not (eqb y x)) (and-rest (not (has y (take q cards))) (le-leb y n (omega arith)))))
 
-  pub first-is : (seat : ℕ) → seat < n → first n (take n cards) seat ≡ every n (λ q. or (eqb q seat) (lowestBut n (take n cards) (getD cards seat 0) q))
+  pub first-is : (seat : ℕ) → seat < n → first n (take n cards) seat ≡ every n (λ q. eqb q seat || lowestBut n (take n cards) (getD cards seat 0) q)
   unfolding lowest
-  first-is seat l = ap₂ (λ k x. every k (λ q. or (eqb q seat) (lowestBut n (take n cards) x q))) (length-take-le n cards whole) (getD-take n cards seat 0 l)
+  first-is seat l = ap₂ (λ k x. every k (λ q. eqb q seat || lowestBut n (take n cards) x q)) (length-take-le n cards whole) (getD-take n cards seat 0 l)

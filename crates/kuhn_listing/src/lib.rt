@@ -11,7 +11,7 @@ ghost use Prim.Native.Nat.{_+_, _≤_, _<_};
 ghost use lib.Dec.{eqb};
 ghost use lib.ListN.{length, getD, take, set};
 ghost use lib.Seq.{sets};
-ghost use Rattle.prelude.specs.Finite.{and, or, some, has};
+ghost use Rattle.prelude.specs.Finite.{_&&_, _||_, some, has};
 ghost use Rattle.kuhn_tree.specs.Order.{histories, lowestBut, first};
 ghost use Rattle.listing_records.specs.Listing.{padded};
 ghost use Rattle.listing_records.specs.internal.Written.{Wrote};
@@ -27,7 +27,7 @@ const NO_PUBLIC: u8 = 255;
 // Whether card y was left when the first q seats had theirs, and is not card x.
 fn left_but(cards: &[u8], q: usize, x: usize, y: usize) -> bool
     requires { ⌜ q ≤ length (now cards) ⌝ }
-    ensures { λ r. ⌜ r ≡ and (not (has y (take q (now (cards .entry))))) (not (eqb y x)) ⌝ }
+    ensures { λ r. ⌜ r ≡ (not (has y (take q (now (cards .entry)))) && not (eqb y x)) ⌝ }
 {
     if contains(cards, q, y) {
         return false;
@@ -54,7 +54,7 @@ fn lowest_but(cards: &[u8], n: usize, x: usize, q: usize) -> bool
 // The same of every seat but one.
 fn lowest_unless(cards: &[u8], n: usize, seat: usize, x: usize, q: usize) -> bool
     requires { ⌜ (q < n) × (n ≤ length (now cards)) × (getD (now cards) q 0 ≤ n) ⌝ }
-    ensures { λ r. ⌜ r ≡ or (eqb q seat) (lowestBut n (take n (now (cards .entry))) x q) ⌝ }
+    ensures { λ r. ⌜ r ≡ (eqb q seat || lowestBut n (take n (now (cards .entry))) x q) ⌝ }
 {
     if q == seat {
         return true;

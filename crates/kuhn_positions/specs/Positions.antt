@@ -6,7 +6,7 @@ use lib.Dec.{eqb, leb, ltb}
 use lib.ListN.{take, set, replicate}
 use Rattle.refusals.specs.Refusals.{Check, _refuses_}
 use Rattle.refusals.specs.Refusals as Refusals
-use Rattle.prelude.specs.Finite.{and, or}
+use Rattle.prelude.specs.Finite.{_&&_, _||_}
 use Rattle.kuhn_rules.specs.Rules.{BET, overrun}
 use Rattle.kuhn_rules.specs.Reached.{possible, strange, twice, unknown}
 use Rattle.kuhn_positions.specs.declared.KuhnState.{KuhnState}
@@ -39,11 +39,11 @@ counted a = cond (ltb BET a) BET a
 
 -- number 2: the seat count is outside 2 to 10
 abbrev pub seats-out : ℕ → Bool
-seats-out n = or (ltb n 2) (ltb 10 n)
+seats-out n = ltb n 2 || ltb 10 n
 
 -- number 19: no length is above its array, and the cards and actions can be reached by legal moves
 unfoldable pub reachable : ℕ → KuhnState → Bool
-reachable n s = and (and (leb (s .dealt) 10) (leb (s .acted) 19)) (possible n (cardsOf s) (historyOf s))
+reachable n s = (leb (s .dealt) 10 && leb (s .acted) 19) && possible n (cardsOf s) (historyOf s)
 
 -- the checks of every rules call on a position, before its own
 abbrev pub position-checks : ℕ → KuhnState → List Check
@@ -56,7 +56,7 @@ saved-checks n s =
     ∷ (not (eqb (s .dealt) n) refuses Refusals.card-count)
     ∷ (strange n (cardsOf s) refuses Refusals.card)
     ∷ (twice (cardsOf s) refuses Refusals.card-twice)
-    ∷ (or (ltb (2 * n - 1) (s .acted)) (unknown (historyOf s)) refuses Refusals.history)
+    ∷ ((ltb (2 * n - 1) (s .acted) || unknown (historyOf s)) refuses Refusals.history)
     ∷ (overrun n (historyOf s) refuses Refusals.closed)
     ∷ []
 

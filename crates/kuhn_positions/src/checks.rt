@@ -9,7 +9,7 @@ ghost use mathlib.Core.Path.{_≡_};
 ghost use mathlib.Core.Bool.{not};
 ghost use Prim.Native.Nat.{_≤_};
 ghost use lib.Dec.{eqb};
-ghost use Rattle.prelude.specs.Finite.{or};
+ghost use Rattle.prelude.specs.Finite.{_||_};
 ghost use lib.ListN.{length, take};
 ghost use Rattle.refusals.specs.Refusals.{first};
 ghost use Rattle.kuhn_rules.specs.Rules.{live, over, ended};
@@ -77,7 +77,7 @@ pub fn is_reachable(n: usize, state: KuhnState) -> bool
 
 // Whether an action stands there before every seat has its card.
 fn acts_early(dealt: usize, acted: usize, n: usize) -> bool
-    ensures { λ r. ⌜ r ≡ not (or (eqb acted 0) (eqb dealt n)) ⌝ }
+    ensures { λ r. ⌜ r ≡ not (eqb acted 0 || eqb dealt n) ⌝ }
 {
     if acted == 0 {
         return false;

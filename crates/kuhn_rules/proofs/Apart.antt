@@ -8,13 +8,13 @@ use native.Mathlib.Omega.{arith}
 use lib.Dec.{eqb, ltb}
 use lib.ListN.{getD}
 use borrow.Author.Tests.{eq-eqb, ne-eqb, eqb-true, eqb-false, ltb-true, ltb-false}
-use Rattle.prelude.specs.Finite.{some, and}
+use Rattle.prelude.specs.Finite.{some, _&&_}
 use Rattle.prelude.proofs.Tests.{Tested, holds, fails, tested, none, some-here, both, and-left-fails, and-right-fails}
 
 module _ (h : List ℕ) (n p : ℕ) where
   -- the seat bets at place k
   abbrev pub bet-at : ℕ → Bool
-  bet-at k = and (eqb (k % n) p) (eqb (getD h k 0) 1)
+  bet-at k = eqb (k % n) p && eqb (getD h k 0) 1
 
   -- i is a turn of the seat, and it has not bet before
   abbrev pub Unbet : ℕ → Type 0

@@ -12,7 +12,7 @@ use borrow.Author.Tests.{eq-eqb, ne-eqb, ltb-true, ltb-false, leb-true, eqb-true
 use lib.IntN.{ℤ, pos, negℤ, _+ℤ_, +ℤ-idl, +ℤ-idr, +ℤ-assoc, +ℤ-comm, +ℤ-invl, +ℤ-invr, pos-+ℤ-pos}
 use lib.ListN.{length, getD, take}
 use lib.Seq.{take-all}
-use Rattle.prelude.specs.Finite.{and, or, sum, sumℤ, has}
+use Rattle.prelude.specs.Finite.{_&&_, _||_, sum, sumℤ, has}
 use Rattle.prelude.proofs.Tests.{Tested, holds, fails, tested, true≢false, both, and-left, and-right, or-left, or-right, or-cases, none-at, some-here, every-at, below-cases}
 use Rattle.prelude.proofs.Lists.{has-take}
 use Rattle.kuhn_rules.specs.Rules.{PASS, BET, bet-made, bets, stands, wins, contribution, paid-by-others, payoff}
@@ -113,7 +113,7 @@ module _ (n : ℕ) (cs h : List ℕ) (one : 1 ≤ n) (full : length cs ≡ n) (f
   unfolding stands bets
   someone (holds m) =
       let (b, w, e) = bet-place h m in
-      (b % n, NatL.mod-lt b one, or-right (not (bet-made h)) (some-here (length h) (λ i. and (eqb (i % n) (b % n)) (eqb (getD h i PASS) BET)) b w (both (eq-eqb (b % n) (b % n) refl) (eq-eqb (getD h b PASS) BET e))))
+      (b % n, NatL.mod-lt b one, or-right (not (bet-made h)) (some-here (length h) (λ i. eqb (i % n) (b % n) && eqb (getD h i PASS) BET) b w (both (eq-eqb (b % n) (b % n) refl) (eq-eqb (getD h b PASS) BET e))))
   someone (fails m) = (0, one, or-left (bets n h 0) (ap not m))
 
   -- one that stands has the highest card, and wins
@@ -151,7 +151,7 @@ module _ (n : ℕ) (cs h : List ℕ) (one : 1 ≤ n) (full : length cs ≡ n) (f
   beats : (p q : ℕ) → p < n → q < n → wins n cs h p ≡ true → wins n cs h q ≡ true → getD cs q 0 ≤ getD cs p 0
   unfolding wins
   beats p q v w x y =
-      or-cases (not (stands n h q)) (leb (getD cs q 0) (getD cs p 0)) (every-at n (λ q. or (not (stands n h q)) (leb (getD cs q 0) (getD cs p 0))) (and-right (stands n h p) _ x) q w)
+      or-cases (not (stands n h q)) (leb (getD cs q 0) (getD cs p 0)) (every-at n (λ q. not (stands n h q) || leb (getD cs q 0) (getD cs p 0)) (and-right (stands n h p) _ x) q w)
       (λ z. true≢false (not (stands n h q)) z (ap not (and-left (stands n h q) _ y)))
       (λ z. leb-true (getD cs q 0) (getD cs p 0) z)
 

@@ -7,7 +7,7 @@ use native.Mathlib.Omega.{arith}
 use lib.Dec.{eqb, ltb, leb}
 use borrow.Author.Tests.{lt-leb, eq-eqb, ne-eqb, ltb-false, eqb-true, not-true}
 use lib.ListN.{length}
-use Rattle.prelude.specs.Finite.{and, or, has}
+use Rattle.prelude.specs.Finite.{_&&_, _||_, has}
 use Rattle.prelude.proofs.Tests.{Tested, holds, fails, tested, and-left, and-right, and-left-fails, and-rest}
 use Rattle.prelude.proofs.Lists.{those-ascending, has-those}
 use Rattle.kuhn_rules.specs.Rules.{PASS, BET, turn, live, left, remaining, legal, overrun}
@@ -29,7 +29,7 @@ module _ (n : ℕ) (cs h : List ℕ) (p : possible n cs h ≡ true) where
 
   pub possible-played : played n h ≡ true
   unfolding possible
-  possible-played = and-right (or (eqb (length h) 0) (eqb (length cs) n)) _ (and-right (fair n cs) _ p)
+  possible-played = and-right (eqb (length h) 0 || eqb (length cs) n) _ (and-right (fair n cs) _ p)
 
   pub possible-overrun : overrun n h ≡ false
   unfolding played
@@ -47,16 +47,16 @@ played-tests n h p = (not-true (unknown h) (and-left (not (unknown h)) _ p), not
 
 -- PASS and BET are the actions up to BET
 pass-or-bet : (a : ℕ) → has a (PASS ∷ BET ∷ []) ≡ leb a BET
-unfolding has or
+unfolding has _||_
 pass-or-bet zero = refl
 pass-or-bet (suc zero) = refl
 pass-or-bet (suc (suc a)) = rw (ne-eqb PASS (suc (suc a)) (λ q. omega arith), ne-eqb BET (suc (suc a)) (λ q. omega arith)) (sym (lt-leb (suc (suc a)) BET (omega arith)))
 
 pub legal-moves : Legal-moves
-unfolding legal has and
+unfolding legal has _&&_
 legal-moves n cs h a = at (live n cs h)
   where
-    at : (b : Bool) → has a (cond (and b (eqb (turn n h) (turn n h))) (PASS ∷ BET ∷ []) []) ≡ and b (leb a BET)
+    at : (b : Bool) → has a (cond (b && eqb (turn n h) (turn n h)) (PASS ∷ BET ∷ []) []) ≡ (b && leb a BET)
     at true = ap (λ t. has a (cond t (PASS ∷ BET ∷ []) [])) (eq-eqb (turn n h) (turn n h) refl) ∙ pass-or-bet a
     at false = refl
 
@@ -78,7 +78,7 @@ pub all-left : All-left
 unfolding remaining
 all-left n cs c = has-those (left n cs) c (n + 1) ∙ below (tested (ltb c (n + 1)))
   where
-    below : Tested (ltb c (n + 1)) → and (ltb c (n + 1)) (left n cs c) ≡ left n cs c
+    below : Tested (ltb c (n + 1)) → (ltb c (n + 1) && left n cs c) ≡ left n cs c
     below (holds t) = and-rest (left n cs c) t
     below (fails t) = and-left-fails (left n cs c) t ∙ sym (past-deck n cs c (let w = ltb-false c (n + 1) t in omega arith))
 

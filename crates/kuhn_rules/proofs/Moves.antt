@@ -8,7 +8,7 @@ use lib.Dec.{eqb, leb, ltb, leb·zero}
 use borrow.Author.Tests.{lt-ltb, le-ltb, le-leb, eq-eqb, ltb-true, ltb-false, leb-true, eqb-true, not-true}
 use lib.ListN.{length, getD, take, length-append}
 use lib.Seq.{take-append-seam, take-all, take-suc, take-length, length-take-le, getD-at}
-use Rattle.prelude.specs.Finite.{and, or, some, has}
+use Rattle.prelude.specs.Finite.{_&&_, _||_, some, has}
 use Rattle.prelude.proofs.Tests.{both, neither, and-left, and-right, or-left, or-right, or-cases, none-at}
 use Rattle.kuhn_rules.specs.Rules.{BET, due, left, live, ended, overrun}
 use Rattle.kuhn_rules.specs.Moves.{Reached, start, deal, act}
@@ -32,29 +32,29 @@ module _ (xs : List ℕ) (x : ℕ) where
   last-of = getD-at xs x [] 0 (length xs) refl
 
   -- a test of a list that is a test of some place, at one element more
-  by-place : (P : List ℕ → Bool) (Q : List ℕ → ℕ → Bool) → ((a : ℕ) (l : List ℕ) → a ≤ length l → P (take a l) ≡ some a (Q l)) → P (xs ++ (x ∷ [])) ≡ or (P xs) (Q (xs ++ (x ∷ [])) (length xs))
+  by-place : (P : List ℕ → Bool) (Q : List ℕ → ℕ → Bool) → ((a : ℕ) (l : List ℕ) → a ≤ length l → P (take a l) ≡ some a (Q l)) → P (xs ++ (x ∷ [])) ≡ (P xs || Q (xs ++ (x ∷ [])) (length xs))
   unfolding some
   by-place P Q f =
       sym (ap P all-of) ∙ f (suc (length xs)) (xs ++ (x ∷ [])) (rw long (omega arith))
-      ∙ ap (λ b. or b (Q (xs ++ (x ∷ [])) (length xs))) (sym (f (length xs) (xs ++ (x ∷ [])) (rw long (omega arith))) ∙ ap P front-of)
+      ∙ ap (λ b. b || Q (xs ++ (x ∷ [])) (length xs)) (sym (f (length xs) (xs ++ (x ∷ [])) (rw long (omega arith))) ∙ ap P front-of)
 
-  strange-more : (n : ℕ) → strange n (xs ++ (x ∷ [])) ≡ or (strange n xs) (ltb n x)
-  strange-more n = by-place (strange n) (λ l i. ltb n (getD l i 0)) (strange-take n) ∙ ap (λ c. or (strange n xs) (ltb n c)) last-of
+  strange-more : (n : ℕ) → strange n (xs ++ (x ∷ [])) ≡ (strange n xs || ltb n x)
+  strange-more n = by-place (strange n) (λ l i. ltb n (getD l i 0)) (strange-take n) ∙ ap (λ c. strange n xs || ltb n c) last-of
 
-  twice-more : twice (xs ++ (x ∷ [])) ≡ or (twice xs) (has x xs)
-  twice-more = by-place twice (λ l i. has (getD l i 0) (take i l)) twice-take ∙ ap₂ (λ c l. or (twice xs) (has c l)) last-of front-of
+  twice-more : twice (xs ++ (x ∷ [])) ≡ (twice xs || has x xs)
+  twice-more = by-place twice (λ l i. has (getD l i 0) (take i l)) twice-take ∙ ap₂ (λ c l. twice xs || has c l) last-of front-of
 
-  unknown-more : unknown (xs ++ (x ∷ [])) ≡ or (unknown xs) (ltb BET x)
-  unknown-more = by-place unknown (λ l i. ltb BET (getD l i 0)) unknown-take ∙ ap (λ a. or (unknown xs) (ltb BET a)) last-of
+  unknown-more : unknown (xs ++ (x ∷ [])) ≡ (unknown xs || ltb BET x)
+  unknown-more = by-place unknown (λ l i. ltb BET (getD l i 0)) unknown-take ∙ ap (λ a. unknown xs || ltb BET a) last-of
 
-  overrun-more : (n : ℕ) → overrun n (xs ++ (x ∷ [])) ≡ or (overrun n xs) (ended n xs)
-  overrun-more n = by-place (overrun n) (λ l k. ended n (take k l)) (overrun-take n) ∙ ap (λ l. or (overrun n xs) (ended n l)) front-of
+  overrun-more : (n : ℕ) → overrun n (xs ++ (x ∷ [])) ≡ (overrun n xs || ended n xs)
+  overrun-more n = by-place (overrun n) (λ l k. ended n (take k l)) (overrun-take n) ∙ ap (λ l. overrun n xs || ended n l) front-of
 
 -- ---- what moves reach passes the test
 
 module _ (n : ℕ) where
   start-possible : possible n [] [] ≡ true
-  unfolding possible fair played strange twice unknown overrun some and or
+  unfolding possible fair played strange twice unknown overrun some _&&_ _||_
   start-possible = rw (leb·zero n)
 
   deal-possible : (cs h : List ℕ) (c : ℕ) → possible n cs h ≡ true → due n cs ≡ true → left n cs c ≡ true → possible n (cs ++ (c ∷ [])) h ≡ true
@@ -67,16 +67,16 @@ module _ (n : ℕ) where
       (both (le-leb (length (cs ++ (c ∷ []))) n (rw (long cs c) w))
       (both (ap not (strange-more cs c n ∙ neither (not-true _ (and-left (not (strange n cs)) _ g)) (le-ltb n c (leb-true c n (and-left (leb c n) _ l)))))
       (ap not (twice-more cs c ∙ neither (not-true _ (and-right (not (strange n cs)) _ g)) (not-true _ (and-right (leb c n) _ l))))))
-      (both (or-left _ (no-action w (and-left (or (eqb (length h) 0) (eqb (length cs) n)) _ (and-right (fair n cs) _ p))))
-      (and-right (or (eqb (length h) 0) (eqb (length cs) n)) _ (and-right (fair n cs) _ p)))
+      (both (or-left _ (no-action w (and-left (eqb (length h) 0 || eqb (length cs) n) _ (and-right (fair n cs) _ p))))
+      (and-right (eqb (length h) 0 || eqb (length cs) n) _ (and-right (fair n cs) _ p)))
     where
-      no-action : length cs < n → or (eqb (length h) 0) (eqb (length cs) n) ≡ true → eqb (length h) 0 ≡ true
+      no-action : length cs < n → (eqb (length h) 0 || eqb (length cs) n) ≡ true → eqb (length h) 0 ≡ true
       no-action w e = or-cases (eqb (length h) 0) (eqb (length cs) n) e (λ q. q) (λ q. absurd (let z = eqb-true (length cs) n q in omega arith))
 
   act-possible : (cs h : List ℕ) (a : ℕ) → possible n cs h ≡ true → live n cs h ≡ true → leb a BET ≡ true → possible n cs (h ++ (a ∷ [])) ≡ true
   unfolding possible played
   act-possible cs h a p l b =
-      let q = and-right (or (eqb (length h) 0) (eqb (length cs) n)) _ (and-right (fair n cs) _ p) in
+      let q = and-right (eqb (length h) 0 || eqb (length cs) n) _ (and-right (fair n cs) _ p) in
       both (and-left (fair n cs) _ p)
       (both (or-right _ (and-left (eqb (length cs) n) _ l))
       (both (ap not (unknown-more h a ∙ neither (not-true _ (and-left (not (unknown h)) _ q)) (le-ltb BET a (leb-true a BET b))))
@@ -130,6 +130,6 @@ module _ (n : ℕ) where
   possible-reached cs h p =
       let f = and-left (fair n cs) _ p in
       let q = and-right (fair n cs) _ p in
-      or-cases (eqb (length h) 0) (eqb (length cs) n) (and-left (or (eqb (length h) 0) (eqb (length cs) n)) _ q)
+      or-cases (eqb (length h) 0) (eqb (length cs) n) (and-left (eqb (length h) 0 || eqb (length cs) n) _ q)
       (λ e. subst (Reached n cs) (empty h (eqb-true (length h) 0 e)) (deal-reached cs f))
-      (λ e. subst (Reached n cs) (take-length h) (actions-reached cs h f (eqb-true (length cs) n e) (and-right (or (eqb (length h) 0) (eqb (length cs) n)) _ q) (length h) (omega arith)))
+      (λ e. subst (Reached n cs) (take-length h) (actions-reached cs h f (eqb-true (length cs) n e) (and-right (eqb (length h) 0 || eqb (length cs) n) _ q) (length h) (omega arith)))

@@ -10,7 +10,7 @@ use borrow.Author.Tests.{le-leb, leb-true, eq-eqb, eqb-true}
 use lib.IntN.{ℤ, pos, negℤ}
 use lib.ListN.{getD, take, set, replicate}
 use lib.Seq.{getD-take}
-use Rattle.prelude.specs.Finite.{and, or, every, sum, places}
+use Rattle.prelude.specs.Finite.{_&&_, _||_, every, sum, places}
 use Rattle.prelude.proofs.Tests.{Tested, holds, fails, tested, true≢false, iff, both, and-right, and-left-fails, or-left, or-right, or-cases, below-cases, all, every-at}
 use Rattle.prelude.proofs.Lists.{sum-without, filled-none, filled-more}
 use Rattle.kuhn_rules.specs.Rules.{stands, wins, contribution, paid-by-others, payoff}
@@ -52,7 +52,7 @@ module _ (n : ℕ) (h cards : List ℕ) where
       card : (q : ℕ) → q < n → getD (take n cards) q 0 ≡ getD cards q 0
       card q v = getD-take n cards q 0 v
 
-      no-lower : (q : ℕ) → q < n → stands n h q ≡ true → or (not (stands n h q)) (leb (getD (take n cards) q 0) (getD (take n cards) p 0)) ≡ true → getD cards q 0 ≤ getD cards p 0
+      no-lower : (q : ℕ) → q < n → stands n h q ≡ true → (not (stands n h q) || leb (getD (take n cards) q 0) (getD (take n cards) p 0)) ≡ true → getD cards q 0 ≤ getD cards p 0
       no-lower q v x e = or-cases (not (stands n h q)) (leb (getD (take n cards) q 0) (getD (take n cards) p 0)) e (λ z. true≢false
           (not (stands n h q)) z (ap not x)) (λ z. rw (card q v, card p w) at (leb-true (getD (take n cards) q 0) (getD (take n cards) p 0) z))
 
@@ -60,19 +60,19 @@ module _ (n : ℕ) (h cards : List ℕ) where
       at-most (inl z) f = omega arith
       at-most (inr (q, v, x, e)) f = let y = f q v x in omega arith
 
-      onward : and (stands n h p) (every n (λ q. or (not (stands n h q)) (leb (getD (take n cards) q 0) (getD (take n cards) p 0)))) ≡ true → eqb (getD cards p 0) top ≡ true
+      onward : (stands n h p && every n (λ q. not (stands n h q) || leb (getD (take n cards) q 0) (getD (take n cards) p 0))) ≡ true → eqb (getD cards p 0) top ≡ true
       onward e =
-          let high = and-right (stands n h p) (every n (λ q. or (not (stands n h q)) (leb (getD (take n cards) q 0) (getD (take n cards) p 0)))) e in
-          let x : top ≤ getD cards p 0 = at-most (t .attained) (λ q v y. no-lower q v y (every-at n (λ q. or (not (stands n h q)) (leb (getD (take n cards) q 0) (getD (take n cards) p 0))) high q v)) in
+          let high = and-right (stands n h p) (every n (λ q. not (stands n h q) || leb (getD (take n cards) q 0) (getD (take n cards) p 0))) e in
+          let x : top ≤ getD cards p 0 = at-most (t .attained) (λ q v y. no-lower q v y (every-at n (λ q. not (stands n h q) || leb (getD (take n cards) q 0) (getD (take n cards) p 0)) high q v)) in
           let y : getD cards p 0 ≤ top = t .bound p w s in
           eq-eqb (getD cards p 0) top (omega arith)
 
-      lower : (q : ℕ) → q < n → getD cards p 0 ≡ top → Tested (stands n h q) → or (not (stands n h q)) (leb (getD (take n cards) q 0) (getD (take n cards) p 0)) ≡ true
+      lower : (q : ℕ) → q < n → getD cards p 0 ≡ top → Tested (stands n h q) → (not (stands n h q) || leb (getD (take n cards) q 0) (getD (take n cards) p 0)) ≡ true
       lower q v e (holds x) = or-right (not (stands n h q)) (rw (card q v, card p w) (le-leb (getD cards q 0) (getD cards p 0) (let y = t .bound q v x in omega arith)))
       lower q v e (fails x) = or-left (leb (getD (take n cards) q 0) (getD (take n cards) p 0)) (ap not x)
 
-      back : eqb (getD cards p 0) top ≡ true → and (stands n h p) (every n (λ q. or (not (stands n h q)) (leb (getD (take n cards) q 0) (getD (take n cards) p 0)))) ≡ true
-      back e = both s (all n (λ q. or (not (stands n h q)) (leb (getD (take n cards) q 0) (getD (take n cards) p 0))) (λ q v. lower q v (eqb-true (getD cards p 0) top e) (tested (stands n h q))))
+      back : eqb (getD cards p 0) top ≡ true → (stands n h p && every n (λ q. not (stands n h q) || leb (getD (take n cards) q 0) (getD (take n cards) p 0))) ≡ true
+      back e = both s (all n (λ q. not (stands n h q) || leb (getD (take n cards) q 0) (getD (take n cards) p 0)) (λ q v. lower q v (eqb-true (getD cards p 0) top e) (tested (stands n h q))))
 
   -- a seat that does not stand does not win
   pub folds-lose : (cs : List ℕ) (p : ℕ) → stands n h p ≡ false → wins n cs h p ≡ false

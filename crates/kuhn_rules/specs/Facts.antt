@@ -6,7 +6,7 @@ use Prim.Native.Nat.{ℕ, _*_, _≤_, _<_}
 use lib.Dec.{eqb, leb}
 use lib.IntN.{pos}
 use lib.ListN.{length, getD, take}
-use Rattle.prelude.specs.Finite.{and, sumℤ, has}
+use Rattle.prelude.specs.Finite.{_&&_, sumℤ, has}
 use Rattle.kuhn_rules.specs.Rules.{BET, turn, live, over, left, remaining, legal, key, wins, payoff}
 use Rattle.kuhn_rules.specs.Moves.{Reached}
 use Rattle.kuhn_rules.specs.Reached.{possible}
@@ -18,7 +18,7 @@ pub record Decides-reached : Type 0 where
 
 -- the actions that moves make are the legal ones of the seat whose turn it is
 abbrev pub Legal-moves : Type 0
-Legal-moves = (n : ℕ) (cs h : List ℕ) (a : ℕ) → has a (legal n cs h (turn n h)) ≡ and (live n cs h) (leb a BET)
+Legal-moves = (n : ℕ) (cs h : List ℕ) (a : ℕ) → has a (legal n cs h (turn n h)) ≡ (live n cs h && leb a BET)
 
 -- at every end just one seat wins
 abbrev pub One-winner : Type 0

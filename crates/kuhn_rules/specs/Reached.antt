@@ -5,7 +5,7 @@ use mathlib.Core.List.{List}
 use Prim.Native.Nat.{ℕ}
 use lib.Dec.{eqb, leb, ltb}
 use lib.ListN.{length, getD, take}
-use Rattle.prelude.specs.Finite.{and, or, some, has}
+use Rattle.prelude.specs.Finite.{_&&_, _||_, some, has}
 use Rattle.kuhn_rules.specs.Rules.{BET, overrun}
 
 -- some card is not in the deck
@@ -22,12 +22,12 @@ unknown h = some (length h) (λ i. ltb BET (getD h i 0))
 
 -- the cards are at most one a seat, of the deck, and differ
 unfoldable pub fair : ℕ → List ℕ → Bool
-fair n cs = and (leb (length cs) n) (and (not (strange n cs)) (not (twice cs)))
+fair n cs = leb (length cs) n && (not (strange n cs) && not (twice cs))
 
 -- the actions are known, and none stands after the end
 unfoldable pub played : ℕ → List ℕ → Bool
-played n h = and (not (unknown h)) (not (overrun n h))
+played n h = not (unknown h) && not (overrun n h)
 
 -- a fair deal, actions only once every seat has its card, and these played by the rules
 unfoldable pub possible : ℕ → List ℕ → List ℕ → Bool
-possible n cs h = and (fair n cs) (and (or (eqb (length h) 0) (eqb (length cs) n)) (played n h))
+possible n cs h = fair n cs && ((eqb (length h) 0 || eqb (length cs) n) && played n h)

@@ -10,7 +10,7 @@ use native.Mathlib.Omega.{arith}
 use lib.Dec.{eqb, leb}
 use lib.ListN.{length, length-append}
 use borrow.Author.Tests.{eqb-true, eqb-false, eq-eqb, ne-eqb, leb-true, le-leb}
-use Rattle.prelude.specs.Finite.{and, or, those, has}
+use Rattle.prelude.specs.Finite.{_&&_, _||_, those, has}
 use Rattle.prelude.proofs.Tests.{Tested, holds, fails, tested, true≢false, both, and-left, and-right-fails, or-right, or-none}
 use Rattle.prelude.proofs.Lists.{has-append, those-kept, those-passed}
 use Rattle.game_tree.proofs.Counting.{In, in-left, in-right, in-append, Once, once-append}
@@ -53,18 +53,18 @@ unfolding remaining left
 in-of-left n cs c e = those-in (left n cs) (n + 1) c (let l : c ≤ n = leb-true c n (and-left (leb c n) (not (has c cs)) e) in omega arith) e
 
 has-self : (c : ℕ) → has c (c ∷ []) ≡ true
-unfolding has or
+unfolding has _||_
 has-self c = rw (eq-eqb c c refl)
 
 has-other : (c x : ℕ) → (x ≡ c → ⊥) → has x (c ∷ []) ≡ false
-unfolding has or
+unfolding has _||_
 has-other c x d = rw (ne-eqb c x (λ e. d (sym e)))
 
 module _ (n : ℕ) (cs : List ℕ) (c : ℕ) where
   -- once c is dealt, every other card is left as before, and c is not
   pub left-other : (x : ℕ) → (x ≡ c → ⊥) → left n (cs ++ (c ∷ [])) x ≡ left n cs x
   unfolding left
-  left-other x d = ap (λ b. and (leb x n) (not b)) (has-append x cs (c ∷ []) ∙ ap (or (has x cs)) (has-other c x d) ∙ or-none (has x cs))
+  left-other x d = ap (λ b. leb x n && not b) (has-append x cs (c ∷ []) ∙ ap (_||_ (has x cs)) (has-other c x d) ∙ or-none (has x cs))
 
   pub left-itself : left n (cs ++ (c ∷ [])) c ≡ false
   unfolding left

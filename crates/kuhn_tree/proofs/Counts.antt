@@ -9,7 +9,7 @@ use native.Mathlib.Omega.{arith}
 use lib.Dec.{eqb}
 use lib.ListN.{length, length-append}
 use borrow.Author.Tests.{eq-eqb, ne-eqb}
-use Rattle.prelude.specs.Finite.{or}
+use Rattle.prelude.specs.Finite.{_||_}
 use Rattle.prelude.proofs.Tests.{true≢false}
 use Rattle.game_tree.specs.Sets.{size, setCount}
 use Rattle.kuhn_rules.specs.Rules.{PASS, BET, bet-made, after-bet, ended}
@@ -23,40 +23,40 @@ use Rattle.kuhn_tree.proofs.Sets.{kuhn-set-count, kuhn-entries}
 
 -- ---- one action more
 bet-more : (h : List ℕ) (a : ℕ) → bet-made h ≡ true → bet-made (h ++ (a ∷ [])) ≡ true
-unfolding bet-made or
+unfolding bet-made _||_
 bet-more [] a e = true≢false false e refl
 bet-more (x ∷ h) a e = at (eqb x BET) e (λ w. bet-more h a w)
   where
-    at : (b : Bool) → or b (bet-made h) ≡ true → (bet-made h ≡ true → bet-made (h ++ (a ∷ [])) ≡ true) → or b (bet-made (h ++ (a ∷ []))) ≡ true
+    at : (b : Bool) → (b || bet-made h) ≡ true → (bet-made h ≡ true → bet-made (h ++ (a ∷ [])) ≡ true) → (b || bet-made (h ++ (a ∷ []))) ≡ true
     at true q f = refl
     at false q f = f q
 
 after-more : (h : List ℕ) (a : ℕ) → bet-made h ≡ true → length (after-bet (h ++ (a ∷ []))) ≡ suc (length (after-bet h))
-unfolding bet-made after-bet or
+unfolding bet-made after-bet _||_
 after-more [] a e = true≢false false e refl
 after-more (x ∷ h) a e = at (eqb x BET) e (λ w. after-more h a w)
   where
-    at : (b : Bool) → or b (bet-made h) ≡ true → (bet-made h ≡ true → length (after-bet (h ++ (a ∷ []))) ≡ suc (length (after-bet h)))
+    at : (b : Bool) → (b || bet-made h) ≡ true → (bet-made h ≡ true → length (after-bet (h ++ (a ∷ []))) ≡ suc (length (after-bet h)))
         → length (cond b (h ++ (a ∷ [])) (after-bet (h ++ (a ∷ [])))) ≡ suc (length (cond b h (after-bet h)))
     at true q f = length-append h (a ∷ []) ∙ add-one (length h)
     at false q f = f q
 
 quiet-pass : (h : List ℕ) → bet-made h ≡ false → bet-made (h ++ (PASS ∷ [])) ≡ false
-unfolding bet-made or
+unfolding bet-made _||_
 quiet-pass [] e = refl
 quiet-pass (x ∷ h) e = at (eqb x BET) e (λ w. quiet-pass h w)
   where
-    at : (b : Bool) → or b (bet-made h) ≡ false → (bet-made h ≡ false → bet-made (h ++ (PASS ∷ [])) ≡ false) → or b (bet-made (h ++ (PASS ∷ []))) ≡ false
+    at : (b : Bool) → (b || bet-made h) ≡ false → (bet-made h ≡ false → bet-made (h ++ (PASS ∷ [])) ≡ false) → (b || bet-made (h ++ (PASS ∷ []))) ≡ false
     at true q f = q
     at false q f = f q
 
 first-bet : (h : List ℕ) → bet-made h ≡ false → (bet-made (h ++ (BET ∷ [])) ≡ true) × (after-bet (h ++ (BET ∷ [])) ≡ [])
-unfolding bet-made after-bet or
+unfolding bet-made after-bet _||_
 first-bet [] e = (refl, refl)
 first-bet (x ∷ h) e = at (eqb x BET) e (λ w. first-bet h w)
   where
-    at : (b : Bool) → or b (bet-made h) ≡ false → (bet-made h ≡ false → (bet-made (h ++ (BET ∷ [])) ≡ true) × (after-bet (h ++ (BET ∷ [])) ≡ []))
-        → (or b (bet-made (h ++ (BET ∷ []))) ≡ true) × (cond b (h ++ (BET ∷ [])) (after-bet (h ++ (BET ∷ []))) ≡ [])
+    at : (b : Bool) → (b || bet-made h) ≡ false → (bet-made h ≡ false → (bet-made (h ++ (BET ∷ [])) ≡ true) × (after-bet (h ++ (BET ∷ [])) ≡ []))
+        → ((b || bet-made (h ++ (BET ∷ []))) ≡ true) × (cond b (h ++ (BET ∷ [])) (after-bet (h ++ (BET ∷ []))) ≡ [])
     at true q f = true≢false true refl q
     at false q f = f q
 

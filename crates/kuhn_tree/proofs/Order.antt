@@ -11,7 +11,7 @@ use lib.Dec.{eqb, ltb}
 use lib.ListN.{length, getD, take, length-append, List·getD-append}
 use lib.Seq.{getD-append-seam, take-append-le, take-append-seam}
 use borrow.Author.Tests.{eqb-false, eq-eqb, ne-eqb, ltb-true, ltb-false, not-true}
-use Rattle.prelude.specs.Finite.{and, or, some, every, those, has}
+use Rattle.prelude.specs.Finite.{_&&_, _||_, some, every, those, has}
 use Rattle.prelude.proofs.Tests.{Tested, holds, fails, tested, true≢false, iff, both, and-left, and-right, or-left, or-right, some-here, some-at}
 use Rattle.prelude.proofs.Lists.{those-kept, those-passed}
 use Rattle.game_tree.specs.Tree.{Tree, fan}
@@ -67,7 +67,7 @@ firsts-of-hand n cs front (h ∷ hs) o f = rw (f h (inl refl)) (at (first n cs (
 every-same : (n : ℕ) (p q : ℕ → Bool) → ((i : ℕ) → i < n → p i ≡ q i) → every n p ≡ every n q
 unfolding every
 every-same zero p q f = refl
-every-same (suc n) p q f = ap₂ and (every-same n p q (λ i l. f i (omega arith))) (f n (omega arith))
+every-same (suc n) p q f = ap₂ _&&_ (every-same n p q (λ i l. f i (omega arith))) (f n (omega arith))
 
 has-at : (cs : List ℕ) (j : ℕ) → j < length cs → has (getD cs j 0) cs ≡ true
 unfolding has
@@ -78,21 +78,21 @@ has-at (x ∷ cs) (suc j) l = or-right (eqb x (getD cs j 0)) (has-at cs j (omega
 module _ (n : ℕ) (cs : List ℕ) (c : ℕ) where
   -- a card below c was left, other than x
   lower : ℕ → Bool
-  lower x = some c (λ y. and (left n cs y) (not (eqb y x)))
+  lower x = some c (λ y. left n cs y && not (eqb y x))
 
-  lowest-more : (j x : ℕ) → lowest n (cs ++ (c ∷ [])) j x ≡ and (lowest n cs j x) (or (eqb (length cs) j) (not (lower x)))
+  lowest-more : (j x : ℕ) → lowest n (cs ++ (c ∷ [])) j x ≡ (lowest n cs j x && (eqb (length cs) j || not (lower x)))
   unfolding lowest lowestBut every lower
   lowest-more j x = ap (λ l. every l after) (length-append cs (c ∷ []) ∙ add-one (length cs))
-      ∙ ap₂ and (every-same (length cs) after before′ (λ q l. ap (or (eqb q j)) (same q l))) (ap (or (eqb (length cs) j)) last)
+      ∙ ap₂ _&&_ (every-same (length cs) after before′ (λ q l. ap (_||_ (eqb q j)) (same q l))) (ap (_||_ (eqb (length cs) j)) last)
     where
       after : ℕ → Bool
-      after q = or (eqb q j) (lowestBut n (cs ++ (c ∷ [])) x q)
+      after q = eqb q j || lowestBut n (cs ++ (c ∷ [])) x q
 
       before′ : ℕ → Bool
-      before′ q = or (eqb q j) (lowestBut n cs x q)
+      before′ q = eqb q j || lowestBut n cs x q
 
       low : ℕ → List ℕ → Bool
-      low y ds = not (some y (λ y. and (left n ds y) (not (eqb y x))))
+      low y ds = not (some y (λ y. left n ds y && not (eqb y x)))
 
       same : (q : ℕ) → q < length cs → low (getD (cs ++ (c ∷ [])) q 0) (take q (cs ++ (c ∷ []))) ≡ low (getD cs q 0) (take q cs)
       same q l = ap₂ low (List·getD-append cs (c ∷ []) 0 q l) (take-append-le q cs (c ∷ []) (omega arith))
@@ -139,8 +139,8 @@ may-other n cs c y j x d f (inr (l, v)) = inr (
   in-of-left n (cs ++ (y ∷ [])) x (left-other n cs y x (λ e. f (sym e)) ∙ left-of-in n cs x (still-left n cs c x v .1)),
 )
 
-turned : (a b d : Bool) → cond (and (not a) b) true (not d) ≡ not (and d (or a (not b)))
-unfolding and or
+turned : (a b d : Bool) → cond (not a && b) true (not d) ≡ not (d && (a || not b))
+unfolding _&&_ _||_
 turned true b true = refl
 turned true b false = refl
 turned false true true = refl
@@ -182,7 +182,7 @@ module _ (ante bet n : ℕ) (one : 1 ≤ n) where
       j = turn n h
 
       abbrev earlier : Bool
-      earlier = and (not (eqb (length cs) j)) (lower n cs c x)
+      earlier = not (eqb (length cs) j) && lower n cs c x
 
       in-remaining : (y : ℕ) → In y (those c (left n cs)) → In y (remaining n cs)
       in-remaining y v = in-of-left n cs y (in-those (left n cs) c y v .1)
@@ -196,7 +196,7 @@ module _ (ante bet n : ℕ) (one : 1 ≤ n) where
               (deals-may k (cs ++ (y ∷ [])) d (omega (arith, length-append cs (y ∷ []))) b)
 
           at : (y : ℕ) → In y (those c (left n cs)) → May n (cs ++ (y ∷ [])) j x → earlier ≡ true
-          at y a q = both (ap not (ne-eqb (length cs) j elsewhere)) (some-here c (λ y. and (left n cs y) (not (eqb y x))) y (in-those (left n cs) c y a .0)
+          at y a q = both (ap not (ne-eqb (length cs) j elsewhere)) (some-here c (λ y. left n cs y && not (eqb y x)) y (in-those (left n cs) c y a .0)
               (both (in-those (left n cs) c y a .1) (ap not (ne-eqb y x (may-not n cs y j x elsewhere (in-remaining y a) q)))))
             where
               elsewhere : length cs ≡ j → ⊥
@@ -204,12 +204,12 @@ module _ (ante bet n : ℕ) (one : 1 ≤ n) where
 
       lies : earlier ≡ true → met j (j ∷ x ∷ h) (under c) ≡ true
       unfolding lower under
-      lies e = some-at c (λ y. and (left n cs y) (not (eqb y x))) (and-right (not (eqb (length cs) j)) (lower n cs c x) e) at
+      lies e = some-at c (λ y. left n cs y && not (eqb y x)) (and-right (not (eqb (length cs) j)) (lower n cs c x) e) at
         where
           elsewhere : length cs ≡ j → ⊥
           elsewhere = eqb-false (length cs) j (not-true (eqb (length cs) j) (and-left (not (eqb (length cs) j)) (lower n cs c x) e))
 
-          at : (y : ℕ) → y < c → and (left n cs y) (not (eqb y x)) ≡ true → met j (j ∷ x ∷ h) (under c) ≡ true
+          at : (y : ℕ) → y < c → (left n cs y && not (eqb y x)) ≡ true → met j (j ∷ x ∷ h) (under c) ≡ true
           at y l q =
               let u : left n cs y ≡ true = and-left (left n cs y) (not (eqb y x)) q in
               let v : y ≡ x → ⊥ = eqb-false y x (not-true (eqb y x) (and-right (left n cs y) (not (eqb y x)) q)) in

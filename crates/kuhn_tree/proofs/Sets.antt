@@ -10,7 +10,7 @@ use lib.Dec.{eqb, leb}
 use lib.ListN.{length, getD, length-append, List·getD-append}
 use lib.Seq.{getD-append-seam}
 use borrow.Author.Tests.{eqb-true, eqb-false, le-leb}
-use Rattle.prelude.specs.Finite.{and, has}
+use Rattle.prelude.specs.Finite.{_&&_, has}
 use Rattle.prelude.proofs.Tests.{Tested, holds, fails, tested, true≢false, both, and-left}
 use Rattle.game_tree.specs.Tree.{Tree, fan}
 use Rattle.game_tree.specs.Sets.{Decision, decisions, decisionsAll, sets, setCount, entries, entriesOf}

@@ -4,7 +4,7 @@ use mathlib.Core.List.{List, [], _∷_, _++_}
 use Prim.Native.Nat.{ℕ, zero, suc}
 use lib.Dec.{eqb}
 use lib.ListN.{length, getD, take}
-use Rattle.prelude.specs.Finite.{and, or, some, every}
+use Rattle.prelude.specs.Finite.{_&&_, _||_, some, every}
 use Rattle.game_tree.specs.Sets.{Decision}
 use Rattle.kuhn_rules.specs.Rules.{PASS, BET, ended, turn, key, left, remaining}
 use Rattle.kuhn_tree.specs.Tree.{m}
@@ -28,12 +28,12 @@ decisionAt n cs h = (turn n h, key cs h (turn n h), 2)
 
 -- seat q was dealt the lowest card then left, but for card x
 unfoldable pub lowestBut : ℕ → List ℕ → ℕ → ℕ → Bool
-lowestBut n cs x q = not (some (getD cs q 0) (λ y. and (left n (take q cs) y) (not (eqb y x))))
+lowestBut n cs x q = not (some (getD cs q 0) (λ y. left n (take q cs) y && not (eqb y x)))
 
 -- every seat but j was, x being seat j's
 unfoldable pub lowest : ℕ → List ℕ → ℕ → ℕ → Bool
 unfolding lowestBut
-lowest n cs j x = every (length cs) (λ q. or (eqb q j) (lowestBut n cs x q))
+lowest n cs j x = every (length cs) (λ q. eqb q j || lowestBut n cs x q)
 
 -- a node at which seat j acts is first of its set: every other seat was dealt the lowest card then left, but for seat j's card
 abbrev pub first : ℕ → List ℕ → ℕ → Bool

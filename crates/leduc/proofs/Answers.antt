@@ -8,7 +8,7 @@ use lib.Dec.{eqb, ltb}
 use lib.ListN.{length, getD}
 use borrow.Author.Tests.{eqb-true, not-false, ltb-true, lt-ltb, le-ltb, le-leb, lt-leb, eq-eqb, ne-eqb}
 use Rattle.refusals.specs.Refusals.{first, _refuses_}
-use Rattle.prelude.specs.Finite.{and}
+use Rattle.prelude.specs.Finite.{_&&_}
 use Rattle.prelude.proofs.Lists.{getD-within}
 use Rattle.leduc_betting.specs.Betting.{ended}
 use Rattle.leduc_rules.specs.Rules.{due, live}
@@ -46,15 +46,15 @@ module _ (s : LeducState) where
   module _ (e : reachable s ≡ true) where
     -- then what the call asks of the position
     pub deal-idle : (k : ℕ) → due (cardsOf s) (s .public) (roundOne s) (roundTwo s) ≡ false → deal-refusal s k ≡ 20
-    unfolding deal-refusal and
+    unfolding deal-refusal _&&_
     deal-idle k f = rw (e, f)
 
     pub deal-past : (k : ℕ) → due (cardsOf s) (s .public) (roundOne s) (roundTwo s) ≡ true → ltb k (length (remaining (seenOf s))) ≡ false → deal-refusal s k ≡ 20
-    unfolding deal-refusal and
+    unfolding deal-refusal _&&_
     deal-past k f g = rw (e, f, g)
 
     pub deal-accepted : (k : ℕ) → due (cardsOf s) (s .public) (roundOne s) (roundTwo s) ≡ true → ltb k (length (remaining (seenOf s))) ≡ true → deal-refusal s k ≡ 0
-    unfolding deal-refusal and
+    unfolding deal-refusal _&&_
     deal-accepted k f g = rw (e, f, g)
 
     pub step-idle : live (cardsOf s) (s .public) (roundOne s) (roundTwo s) ≡ false → step-refusal s ≡ 20

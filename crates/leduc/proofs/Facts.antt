@@ -10,7 +10,7 @@ use lib.Seq.{length-take-le}
 use borrow.Author.Tests.{eq-eqb, le-leb, le-ltb}
 use Rattle.refusals.specs.Refusals.{first, _refuses_}
 use Rattle.refusals.proofs.Order.{fails-first, fails-rest}
-use Rattle.prelude.specs.Finite.{and, or}
+use Rattle.prelude.specs.Finite.{_&&_, _||_}
 use Rattle.prelude.proofs.Tests.{both, neither, or-left, or-false-right, true≢false}
 use Rattle.leduc_betting.specs.Betting.{closes, ended}
 use Rattle.leduc_betting.specs.Cards.{hidden, seen, strange, twice}
@@ -63,14 +63,14 @@ module _ (s : LeducState) (z : Sized s) where
 
     saved-due : public-due (s .public) h₁ h₂ ≡ false
     unfolding public-due
-    saved-due = fails-first (and (hidden (s .public)) (and (closes h₁) (not (ended h₁ h₂)))) 15 ((and (not (hidden (s .public))) (not (closes h₁)) refuses 17) ∷ []) public-passed
+    saved-due = fails-first (hidden (s .public) && (closes h₁ && not (ended h₁ h₂))) 15 (((not (hidden (s .public)) && not (closes h₁)) refuses 17) ∷ []) public-passed
 
-    saved-late : or (hidden (s .public)) (closes h₁) ≡ true
-    unfolding and or
-    saved-late = go (hidden (s .public)) (closes h₁) (fails-first (and (not (hidden (s .public))) (not (closes h₁))) 16 [] (fails-rest (and (hidden
-        (s .public)) (and (closes h₁) (not (ended h₁ h₂)))) 15 ((and (not (hidden (s .public))) (not (closes h₁)) refuses 17) ∷ []) public-passed))
+    saved-late : (hidden (s .public) || closes h₁) ≡ true
+    unfolding _&&_ _||_
+    saved-late = go (hidden (s .public)) (closes h₁) (fails-first (not (hidden (s .public)) && not (closes h₁)) 16 [] (fails-rest ((hidden
+        (s .public)) && (closes h₁ && not (ended h₁ h₂))) 15 (((not (hidden (s .public)) && not (closes h₁)) refuses 17) ∷ []) public-passed))
       where
-        go : (a b : Bool) → and (not a) (not b) ≡ false → or a b ≡ true
+        go : (a b : Bool) → (not a && not b) ≡ false → (a || b) ≡ true
         go true b q = refl
         go false true q = refl
         go false false q = true≢false true refl q
@@ -124,11 +124,11 @@ module _ (s : LeducState) (z : Sized s) where
         ∙ round-pass false false (s .acted1) h₁ (second-checks (hidden (s .public)) (s .acted2) h₁ h₂) (first-passes (s .acted1) h₁ (reachable-short s r .first-short) (parts .first-played))
         ∙ round-pass (barred-by h₁) (hidden (s .public)) (s .acted2) h₂ (public-checks (hidden (s .public)) h₁ h₂) (second-passes parts (s .acted2) (reachable-short s r .second-short))
 
-    not-early : and (not (hidden (s .public))) (not (closes h₁)) ≡ false
-    unfolding and or
+    not-early : (not (hidden (s .public)) && not (closes h₁)) ≡ false
+    unfolding _&&_ _||_
     not-early = go (hidden (s .public)) (closes h₁) (parts .shown-late)
       where
-        go : (a b : Bool) → or a b ≡ true → and (not a) (not b) ≡ false
+        go : (a b : Bool) → (a || b) ≡ true → (not a && not b) ≡ false
         go true b q = refl
         go false true q = refl
         go false false q = true≢false false q refl
@@ -141,7 +141,7 @@ module _ (s : LeducState) (z : Sized s) where
     unfolding public-due
     public-stops q = rw q
 
-no-card-due : (cs : List ℕ) (b : Bool) → or (ltb (length cs) 2) b ≡ false → b ≡ false
+no-card-due : (cs : List ℕ) (b : Bool) → (ltb (length cs) 2 || b) ≡ false → b ≡ false
 no-card-due cs b e = or-false-right (ltb (length cs) 2) b e
 
 pub saved-accepts : Saved-accepts

@@ -11,7 +11,7 @@ use lib.ListN.{length, getD, take, drop, set, length-set, length-drop}
 use lib.Seq.{take-suc-set, take-set-le, drop-set-lt, drop-set-add, getD-set-other}
 use borrow.Author.Tests.{lt-ltb, le-ltb, ltb-true, ltb-false, not-false}
 use Rattle.refusals.specs.Facts.{None-holds}
-use Rattle.prelude.specs.Finite.{and, or}
+use Rattle.prelude.specs.Finite.{_&&_, _||_}
 use Rattle.prelude.proofs.Tests.{Tested, holds, fails, tested, true≢false, and-left, and-right, neither, or-cases}
 use Rattle.prelude.proofs.Lists.{those-below}
 use Rattle.leduc_betting.specs.Betting.{FOLD, CALL, closes, may, counted, in-play}
@@ -104,7 +104,7 @@ module _ (s : LeducState) (k : ℕ) (e : dealt s k .refusal ≡ 0) where
   unfolding None-holds
   deal-passed =
       let (b, (c, d)) = calls-decide s .deal-decides k .accepts .0 e in
-      let f : and (due (cardsOf s) (s .public) (roundOne s) (roundTwo s)) (ltb k (length (remaining (seenOf s)))) ≡ true = not-false _ c in
+      let f : (due (cardsOf s) (s .public) (roundOne s) (roundTwo s) && ltb k (length (remaining (seenOf s)))) ≡ true = not-false _ c in
       (not-false _ b, and-left _ _ f, ltb-true _ _ (and-right (due (cardsOf s) (s .public) (roundOne s) (roundTwo s)) _ f))
 
   card-left : left (seenOf s) (getD (remaining (seenOf s)) k 0) ≡ true

@@ -8,7 +8,7 @@ use lib.IntN.{pos}
 use lib.ListN.{length, getD, drop, replicate}
 use Rattle.refusals.specs.Refusals.{Check, first, _refuses_}
 use Rattle.refusals.specs.Refusals as Refusals
-use Rattle.prelude.specs.Finite.{and}
+use Rattle.prelude.specs.Finite.{_&&_}
 use Rattle.leduc_betting.specs.Betting.{counted, ended}
 use Rattle.leduc_betting.specs.Cards.{remaining}
 use Rattle.leduc_rules.specs.Rules.{due, live, key}
@@ -45,7 +45,7 @@ started = record { refusal = Refusals.accepted; state = initial }
 -- deal: the card of an outcome is the one that stands there among those left
 abbrev pub deal-checks : LeducState → ℕ → List Check
 deal-checks s k =
-    (not (and (due (cardsOf s) (s .public) (roundOne s) (roundTwo s)) (ltb k (length (remaining (seenOf s))))) refuses Refusals.unfit) ∷ []
+    (not (due (cardsOf s) (s .public) (roundOne s) (roundTwo s) && ltb k (length (remaining (seenOf s)))) refuses Refusals.unfit) ∷ []
 
 unfoldable pub deal-refusal : LeducState → ℕ → ℕ
 deal-refusal s k = first (position-checks s ++ deal-checks s k)

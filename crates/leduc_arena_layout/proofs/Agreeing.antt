@@ -8,7 +8,7 @@ use lib.IntN.{ℤ, pos, negsuc}
 use mathlib.Core.List.{List, [], _∷_, _++_}
 use lib.ListN.{length, getD}
 use borrow.Author.Tests.{eqb-true}
-use Rattle.prelude.specs.Finite.{and, or, some, those, has}
+use Rattle.prelude.specs.Finite.{_&&_, _||_, some, those, has}
 use Rattle.prelude.proofs.Tests.{true≢false, and-left, and-right}
 use Rattle.game_tree.specs.Tree.{Key, Tree, end, chance, decide, Trees, nil, cons, fan}
 use Rattle.game_tree.specs.Conditions.{Every, EveryAll}
@@ -61,7 +61,7 @@ keyOf x =
 -- code x is small and tells key k, the key tells seat j, and there is an action
 unfoldable pub told : (x j : ℕ) → Key → ℕ → Bool
 unfolding keyOf
-told x j k n = and (ltb x codes) (and (same (keyOf x) k) (and (eqb j (getD k 0 0)) (leb 1 n)))
+told x j k n = ltb x codes && (same (keyOf x) k && (eqb j (getD k 0 0) && leb 1 n))
 
 -- a decision's code does
 abbrev pub Told : ℕ → Key → ℕ → Type 0
@@ -72,7 +72,7 @@ unfoldable mutual
   unfolding equal told fan
 
   agrees : Tree → Tree → Bool
-  agrees (end p) (end q) = and (equal (p 0) (q 0)) (equal (p 1) (q 1))
+  agrees (end p) (end q) = equal (p 0) (q 0) && equal (p 1) (q 1)
   agrees (end p) (chance g) = false
   agrees (end p) (decide i l g) = false
   agrees (chance f) (end q) = false
@@ -80,16 +80,16 @@ unfoldable mutual
   agrees (chance f) (decide i l g) = false
   agrees (decide j k f) (end q) = false
   agrees (decide j k f) (chance g) = false
-  agrees (decide j k f) (decide i l g) = and (eqb j i) (and (eqb (codeOf j k) (plain i l)) (and (told (plain i l) j k (fan f)) (agreesAll f g)))
+  agrees (decide j k f) (decide i l g) = eqb j i && (eqb (codeOf j k) (plain i l) && (told (plain i l) j k (fan f) && agreesAll f g))
 
   agreesAll : Trees → Trees → Bool
   agreesAll nil nil = true
   agreesAll nil (cons u g) = false
   agreesAll (cons t f) nil = false
-  agreesAll (cons t f) (cons u g) = and (agrees t u) (agreesAll f g)
+  agreesAll (cons t f) (cons u g) = agrees t u && agreesAll f g
 
 all-agree : agrees (leducTree ante raise₁ raise₂) dealsTree ≡ true
-unfolding agrees equal told same keyOf historyOf fan codeOf codeFrom numberFrom leducTree below next each and or some those has ends-with folded closes behind raises may options in-play turn ended left remaining public-due due key after-action put-in contribution folds pairs beats wins payoff byteFor endTree raisedTree calledTree roundTree only rowTo join showdownFor secondTree publicTree firstTree dealTree
+unfolding agrees equal told same keyOf historyOf fan codeOf codeFrom numberFrom leducTree below next each _&&_ _||_ some those has ends-with folded closes behind raises may options in-play turn ended left remaining public-due due key after-action put-in contribution folds pairs beats wins payoff byteFor endTree raisedTree calledTree roundTree only rowTo join showdownFor secondTree publicTree firstTree dealTree
 all-agree = refl
 
 -- ---- what holds the one holds the other

@@ -10,7 +10,7 @@ use lib.Dec.{eqb}
 use lib.ListN.{length, getD, take, drop, drop-of-length-le}
 use lib.Seq.{drop-cons, take-suc}
 use Rattle.refusals.specs.Refusals.{Check, first, _refuses_}
-use Rattle.prelude.specs.Finite.{and, or}
+use Rattle.prelude.specs.Finite.{_&&_, _||_}
 use Rattle.leduc_betting.specs.Betting.{open-round, may, closes, ended, played, unknown}
 use Rattle.leduc_betting.specs.Checks.{action-checks, barred-by, malformed, card-checks, round-checks, public-checks}
 
@@ -37,14 +37,14 @@ module _ (barred blind : Bool) (h : List ℕ) (i : ℕ) (w : i < length h) where
   unfolding action-checks
   action-passes e =
       from-here
-      ∙ two-pass (or barred (not (open-round (take i h)))) (or blind (not (may (take i h) (getD h i 0)))) (action-checks barred blind (take i h ++ (getD h i 0 ∷ [])) (drop (i + 1) h)) e
+      ∙ two-pass (barred || not (open-round (take i h))) (blind || not (may (take i h) (getD h i 0))) (action-checks barred blind (take i h ++ (getD h i 0 ∷ [])) (drop (i + 1) h)) e
       ∙ ap (λ l. first (action-checks barred blind l (drop (i + 1) h))) (sym (take-suc h i 0 w) ∙ ap (λ k. take k h) (sym (add-one i)))
 
   pub action-stops : (first here ≡ 0 → ⊥) → first (action-checks barred blind (take i h) (drop i h)) ≡ first here
   unfolding action-checks
   action-stops e =
       from-here
-      ∙ two-stop (or barred (not (open-round (take i h)))) (or blind (not (may (take i h) (getD h i 0)))) (action-checks barred blind (take i h ++ (getD h i 0 ∷ [])) (drop (i + 1) h)) e
+      ∙ two-stop (barred || not (open-round (take i h))) (blind || not (may (take i h) (getD h i 0))) (action-checks barred blind (take i h ++ (getD h i 0 ∷ [])) (drop (i + 1) h)) e
 
 pub actions-end : (barred blind : Bool) (h : List ℕ) (i : ℕ) → length h ≤ i → first (action-checks barred blind (take i h) (drop i h)) ≡ 0
 unfolding action-checks
@@ -53,10 +53,10 @@ actions-end barred blind h i w = ap (λ l. first (action-checks barred blind (ta
 -- the number of one action
 module _ (barred blind : Bool) (before : List ℕ) (a : ℕ) where
   abbrev late : Bool
-  late = or barred (not (open-round before))
+  late = barred || not (open-round before)
 
   abbrev unlawful : Bool
-  unlawful = or blind (not (may before a))
+  unlawful = blind || not (may before a)
 
   pub late-first : late ≡ true → 14 ≡ first (action-checks barred blind before (a ∷ []))
   unfolding action-checks
@@ -72,13 +72,13 @@ module _ (barred blind : Bool) (before : List ℕ) (a : ℕ) where
 
 -- the actions of a round were played by the rules exactly if none of them is refused
 pub played-first : (before h : List ℕ) → eqb (first (action-checks false false before h)) 0 ≡ played before h
-unfolding action-checks played or and
+unfolding action-checks played _||_ _&&_
 played-first before [] = refl
 played-first before (a ∷ h) =
     go (open-round before) (may before a) (action-checks false false (before ++ (a ∷ [])) h)
-    ∙ ap (and (and (open-round before) (may before a))) (played-first (before ++ (a ∷ [])) h)
+    ∙ ap (_&&_ (open-round before && may before a)) (played-first (before ++ (a ∷ [])) h)
   where
-    go : (x y : Bool) (cs : List Check) → eqb (first ((not x refuses 14) ∷ (not y refuses 15) ∷ cs)) 0 ≡ and (and x y) (eqb (first cs) 0)
+    go : (x y : Bool) (cs : List Check) → eqb (first ((not x refuses 14) ∷ (not y refuses 15) ∷ cs)) 0 ≡ ((x && y) && eqb (first cs) 0)
     go true true cs = refl
     go true false cs = refl
     go false y cs = refl
@@ -114,17 +114,17 @@ round-firm barred blind n h = (omega arith, actions-firm barred blind [] h)
 
 -- a round is refused with 13 if it is too long
 pub too-long : (barred blind : Bool) (n : ℕ) (h : List ℕ) (ds : List Check) → 4 < n → 13 ≡ first (round-checks barred blind n h ++ ds)
-unfolding malformed or
+unfolding malformed _||_
 too-long barred blind n h ds w = rw (lt-ltb 4 n w)
 
 -- or else by its actions
 pub not-too-long : (n : ℕ) (h : List ℕ) → n ≤ 4 → malformed n h ≡ unknown h
-unfolding malformed or
+unfolding malformed _||_
 not-too-long n h w = rw (le-ltb 4 n w)
 
 -- the public card: missing, or there
-pub public-missing : (h₁ h₂ : List ℕ) (blind x : Bool) → blind ≡ true → and (closes h₁) (not (ended h₁ h₂)) ≡ x → first (public-checks blind h₁ h₂) ≡ cond x 16 0
-unfolding and
+pub public-missing : (h₁ h₂ : List ℕ) (blind x : Bool) → blind ≡ true → (closes h₁ && not (ended h₁ h₂)) ≡ x → first (public-checks blind h₁ h₂) ≡ cond x 16 0
+unfolding _&&_
 public-missing h₁ h₂ blind x b e =
     ap (λ y. first (public-checks y h₁ h₂)) b ∙ ap (λ y. first ((y refuses 16) ∷ (false refuses 17) ∷ [])) e ∙ go x
   where
@@ -133,7 +133,7 @@ public-missing h₁ h₂ blind x b e =
     go false = refl
 
 pub public-there : (h₁ h₂ : List ℕ) (blind x : Bool) → blind ≡ false → closes h₁ ≡ x → first (public-checks blind h₁ h₂) ≡ cond x 0 17
-unfolding and
+unfolding _&&_
 public-there h₁ h₂ blind x b e =
     ap (λ y. first (public-checks y h₁ h₂)) b ∙ ap (λ y. first ((false refuses 16) ∷ (not y refuses 17) ∷ [])) e ∙ go x
   where

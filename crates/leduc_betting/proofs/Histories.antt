@@ -8,7 +8,7 @@ use native.Mathlib.Numerals.{add-one}
 use lib.Dec.{eqb, ltb}
 use lib.ListN.{length, getD, drop, drop-of-length-le}
 use lib.Seq.{drop-cons}
-use Rattle.prelude.specs.Finite.{and, or, those}
+use Rattle.prelude.specs.Finite.{_&&_, _||_, those}
 use Rattle.prelude.proofs.Lists.{those-kept, those-passed}
 use borrow.Author.Tests.{ne-eqb, ltb-true, ltb-false, lt-ltb}
 use Rattle.prelude.proofs.Tests.{Tested, holds, fails, tested, or-none, true≢false}
@@ -30,19 +30,19 @@ raise-at-most-one a = at-most-one (eqb a RAISE)
 -- ---- what is legal, action by action
 
 pub may-fold : (h : List ℕ) → may h FOLD ≡ ends-with RAISE h
-unfolding may behind and or
+unfolding may behind _&&_ _||_
 may-fold h = or-none (ends-with RAISE h)
 
 pub may-call : (h : List ℕ) → may h CALL ≡ true
-unfolding may and or
+unfolding may _&&_ _||_
 may-call h = refl
 
 pub may-raise : (h : List ℕ) → may h RAISE ≡ ltb (raises h) 2
-unfolding may and or
+unfolding may _&&_ _||_
 may-raise h = refl
 
 pub may-other : (h : List ℕ) (a : ℕ) → (a ≡ FOLD → ⊥) → (a ≡ RAISE → ⊥) → may h a ≡ eqb a CALL
-unfolding may and or
+unfolding may _&&_ _||_
 may-other h a f r = rw (ne-eqb a 0 f, ne-eqb a 2 r) (or-none (eqb a 1))
 
 -- a legal action is one of the three

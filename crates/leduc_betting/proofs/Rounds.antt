@@ -7,7 +7,7 @@ use native.Mathlib.Omega.{arith}
 use lib.Dec.{eqb, leb}
 use lib.ListN.{length}
 use borrow.Author.Tests.{eqb-true, leb-true, not-true}
-use Rattle.prelude.specs.Finite.{and, or, some, every}
+use Rattle.prelude.specs.Finite.{_&&_, _||_, some, every}
 use Rattle.prelude.proofs.Tests.{and-left, and-right, or-cases, every-at, true≢false}
 use Rattle.leduc_betting.specs.Betting.{ends-with, folded, closes, open-round, behind, raises, may, played}
 use Rattle.leduc_betting.proofs.Histories.{may-small}
@@ -17,7 +17,7 @@ unfoldable same : List ℕ → List ℕ → Bool
 same [] [] = true
 same [] (b ∷ y) = false
 same (a ∷ x) [] = false
-same (a ∷ x) (b ∷ y) = and (eqb a b) (same x y)
+same (a ∷ x) (b ∷ y) = eqb a b && same x y
 
 same-true : (x y : List ℕ) → same x y ≡ true → x ≡ y
 unfolding same
@@ -29,11 +29,11 @@ same-true (a ∷ x) (b ∷ y) e =
 
 unfoldable among : List ℕ → List (List ℕ) → Bool
 among h [] = false
-among h (x ∷ xs) = or (same h x) (among h xs)
+among h (x ∷ xs) = same h x || among h xs
 
 unfoldable pub all-of : (List ℕ → Bool) → List (List ℕ) → Bool
 all-of P [] = true
-all-of P (x ∷ xs) = and (P x) (all-of P xs)
+all-of P (x ∷ xs) = P x && all-of P xs
 
 at-among : (P : List ℕ → Bool) (xs : List (List ℕ)) → all-of P xs ≡ true → (h : List ℕ) → among h xs ≡ true → P h ≡ true
 unfolding all-of among
@@ -65,19 +65,19 @@ rounds =
 
 -- a legal action leads from one of them to another
 grown : List ℕ → Bool
-grown h = every 3 (λ a. or (not (and (open-round h) (may h a))) (among (h ++ (a ∷ [])) rounds))
+grown h = every 3 (λ a. not (open-round h && may h a) || among (h ++ (a ∷ [])) rounds)
 
 all-grown : all-of grown rounds ≡ true
-unfolding all-of grown rounds among same and or some every ends-with folded closes open-round behind raises may
+unfolding all-of grown rounds among same _&&_ _||_ some every ends-with folded closes open-round behind raises may
 all-grown = refl
 
-grow : (h : List ℕ) (a : ℕ) → among h rounds ≡ true → and (open-round h) (may h a) ≡ true → among (h ++ (a ∷ [])) rounds ≡ true
+grow : (h : List ℕ) (a : ℕ) → among h rounds ≡ true → (open-round h && may h a) ≡ true → among (h ++ (a ∷ [])) rounds ≡ true
 unfolding grown
 grow h a m e =
     let s : a ≤ 2 = may-small h a (and-right (open-round h) (may h a) e) in
-    or-cases (not (and (open-round h) (may h a))) (among (h ++ (a ∷ [])) rounds)
+    or-cases (not (open-round h && may h a)) (among (h ++ (a ∷ [])) rounds)
     (every-at 3 _ (at-among grown rounds all-grown h m) a (omega arith))
-    (λ q. true≢false (and (open-round h) (may h a)) e (not-true _ q))
+    (λ q. true≢false (open-round h && may h a) e (not-true _ q))
     (λ q. q)
 
 played-among : (before h : List ℕ) → among before rounds ≡ true → played before h ≡ true → among (before ++ h) rounds ≡ true
@@ -86,11 +86,11 @@ played-among before [] m e = ap (λ t. among t rounds) (append-nil before) ∙ m
 played-among before (a ∷ h) m e =
     ap (λ t. among t rounds) (sym (append-assoc before (a ∷ []) h))
     ∙ played-among (before ++ (a ∷ [])) h
-    (grow before a m (and-left (and (open-round before) (may before a)) (played (before ++ (a ∷ [])) h) e))
-    (and-right (and (open-round before) (may before a)) (played (before ++ (a ∷ [])) h) e)
+    (grow before a m (and-left (open-round before && may before a) (played (before ++ (a ∷ [])) h) e))
+    (and-right (open-round before && may before a) (played (before ++ (a ∷ [])) h) e)
 
 start-among : among [] rounds ≡ true
-unfolding among rounds same or
+unfolding among rounds same _||_
 start-among = refl
 
 -- a test that holds of the fifteen histories holds of every history played by the rules
@@ -101,10 +101,10 @@ round-rule P t h e = at-among P rounds t h (played-among [] h start-among e)
 
 -- a round that goes on has at most three actions
 goes-on : List ℕ → Bool
-goes-on h = or (not (open-round h)) (leb (length h) 3)
+goes-on h = not (open-round h) || leb (length h) 3
 
 all-go-on : all-of goes-on rounds ≡ true
-unfolding all-of goes-on rounds and or some ends-with folded closes open-round
+unfolding all-of goes-on rounds _&&_ _||_ some ends-with folded closes open-round
 all-go-on = refl
 
 pub open-short : (h : List ℕ) → played [] h ≡ true → open-round h ≡ true → length h ≤ 3
@@ -116,10 +116,10 @@ open-short h e o =
 
 -- nobody has folded in a round that has closed
 unfolded : List ℕ → Bool
-unfolded h = or (not (closes h)) (not (folded h))
+unfolded h = not (closes h) || not (folded h)
 
 all-unfolded : all-of unfolded rounds ≡ true
-unfolding all-of unfolded rounds and or some ends-with folded closes
+unfolding all-of unfolded rounds _&&_ _||_ some ends-with folded closes
 all-unfolded = refl
 
 pub closed-unfolded : (h : List ℕ) → played [] h ≡ true → closes h ≡ true → folded h ≡ false

@@ -5,7 +5,7 @@ use mathlib.Core.List.{List, [], _∷_, _++_}
 use Prim.Native.Nat.{ℕ, _+_, _-_, _%_}
 use lib.Dec.{eqb, leb, ltb}
 use lib.ListN.{length, getD}
-use Rattle.prelude.specs.Finite.{and, or, some, those}
+use Rattle.prelude.specs.Finite.{_&&_, _||_, some, those}
 
 -- ---- one round
 
@@ -20,7 +20,7 @@ RAISE = 2
 
 -- the round's last action is a
 unfoldable pub ends-with : ℕ → List ℕ → Bool
-ends-with a h = and (ltb 0 (length h)) (eqb (getD h (length h - 1) 0) a)
+ends-with a h = ltb 0 (length h) && eqb (getD h (length h - 1) 0) a
 
 -- a seat has folded
 unfoldable pub folded : List ℕ → Bool
@@ -28,11 +28,11 @@ folded h = some (length h) (λ i. eqb (getD h i 0) FOLD)
 
 -- the round closes at a CALL that is its second or later action
 unfoldable pub closes : List ℕ → Bool
-closes h = and (leb 2 (length h)) (ends-with CALL h)
+closes h = leb 2 (length h) && ends-with CALL h
 
 -- the round goes on
 unfoldable pub open-round : List ℕ → Bool
-open-round h = not (or (folded h) (closes h))
+open-round h = not (folded h || closes h)
 
 -- the seat to act is behind: the other has just raised
 unfoldable pub behind : List ℕ → Bool
@@ -45,7 +45,7 @@ raises (a ∷ h) = cond (eqb a RAISE) 1 0 + raises h
 
 -- FOLD is legal only when behind, CALL always, RAISE while the round has fewer than 2 raises
 unfoldable pub may : List ℕ → ℕ → Bool
-may h a = or (and (eqb a FOLD) (behind h)) (or (eqb a CALL) (and (eqb a RAISE) (ltb (raises h) 2)))
+may h a = (eqb a FOLD && behind h) || (eqb a CALL || (eqb a RAISE && ltb (raises h) 2))
 
 -- the legal actions, in ascending order
 unfoldable pub options : List ℕ → List ℕ
@@ -64,7 +64,7 @@ unknown h = some (length h) (λ i. ltb RAISE (getD h i 0))
 -- after the actions before of a round come those of h, each legal when made and none after the round closed
 unfoldable pub played : (before h : List ℕ) → Bool
 played before [] = true
-played before (a ∷ h) = and (and (open-round before) (may before a)) (played (before ++ (a ∷ [])) h)
+played before (a ∷ h) = (open-round before && may before a) && played (before ++ (a ∷ [])) h
 
 -- ---- both rounds
 
@@ -78,4 +78,4 @@ turn h₁ h₂ = length (in-play h₁ h₂) % 2
 
 -- the hand ends when a seat folds, or round 2 closes
 unfoldable pub ended : List ℕ → List ℕ → Bool
-ended h₁ h₂ = or (folded h₁) (or (folded h₂) (closes h₂))
+ended h₁ h₂ = folded h₁ || (folded h₂ || closes h₂)

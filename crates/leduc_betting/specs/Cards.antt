@@ -4,7 +4,7 @@ use mathlib.Core.List.{List, [], _∷_, _++_}
 use Prim.Native.Nat.{ℕ, _/_}
 use lib.Dec.{leb, ltb}
 use lib.ListN.{length, getD, take}
-use Rattle.prelude.specs.Finite.{and, some, those, has}
+use Rattle.prelude.specs.Finite.{_&&_, some, those, has}
 use Rattle.leduc_betting.specs.declared.Public.{Public}
 use Rattle.leduc_betting.specs.declared.Public.the-variants.{Hidden, Card}
 
@@ -24,7 +24,7 @@ seen cs (Card c) = cs ++ (c ∷ [])
 
 -- card c is left once the cards cs are dealt
 unfoldable pub left : List ℕ → ℕ → Bool
-left cs c = and (ltb c 6) (not (has c cs))
+left cs c = ltb c 6 && not (has c cs)
 
 -- the cards left, in ascending order
 unfoldable pub remaining : List ℕ → List ℕ

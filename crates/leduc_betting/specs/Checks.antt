@@ -5,7 +5,7 @@ use Prim.Native.Nat.{ℕ}
 use lib.Dec.{ltb}
 use Rattle.refusals.specs.Refusals.{Check, _refuses_}
 use Rattle.refusals.specs.Refusals as Refusals
-use Rattle.prelude.specs.Finite.{and, or}
+use Rattle.prelude.specs.Finite.{_&&_, _||_}
 use Rattle.leduc_betting.specs.Betting.{open-round, folded, closes, may, ended, unknown}
 use Rattle.leduc_betting.specs.Cards.{strange, twice}
 
@@ -18,17 +18,17 @@ card-checks cs = (strange cs refuses Refusals.card) ∷ (twice cs refuses Refusa
 unfoldable pub action-checks : (barred blind : Bool) (before h : List ℕ) → List Check
 action-checks barred blind before [] = []
 action-checks barred blind before (a ∷ h) =
-    (or barred (not (open-round before)) refuses Refusals.closed)
-    ∷ (or blind (not (may before a)) refuses Refusals.illegal)
+    ((barred || not (open-round before)) refuses Refusals.closed)
+    ∷ ((blind || not (may before a)) refuses Refusals.illegal)
     ∷ action-checks barred blind (before ++ (a ∷ [])) h
 
 -- no action may stand in round 2: the hand has ended in round 1, or round 1 has not closed
 unfoldable pub barred-by : List ℕ → Bool
-barred-by h₁ = or (folded h₁) (not (closes h₁))
+barred-by h₁ = folded h₁ || not (closes h₁)
 
 -- a round's history is too long or holds an unknown action
 unfoldable pub malformed : ℕ → List ℕ → Bool
-malformed n h = or (ltb 4 n) (unknown h)
+malformed n h = ltb 4 n || unknown h
 
 -- numbers 13 to 15 of a round of n actions
 abbrev pub round-checks : (barred blind : Bool) (n : ℕ) (h : List ℕ) → List Check
@@ -37,6 +37,6 @@ round-checks barred blind n h = (malformed n h refuses Refusals.history) ∷ act
 -- numbers 16 and 17: a live second round is blind; a public card lies there before round 1 closed
 abbrev pub public-checks : (blind : Bool) (h₁ h₂ : List ℕ) → List Check
 public-checks blind h₁ h₂ =
-    (and blind (and (closes h₁) (not (ended h₁ h₂))) refuses Refusals.no-public)
-    ∷ (and (not blind) (not (closes h₁)) refuses Refusals.early-public)
+    ((blind && (closes h₁ && not (ended h₁ h₂))) refuses Refusals.no-public)
+    ∷ ((not blind && not (closes h₁)) refuses Refusals.early-public)
     ∷ []

@@ -8,7 +8,7 @@ ghost use mathlib.Core.List.{[]};
 ghost use Prim.Native.Nat.{_≤_, _%_};
 ghost use lib.Dec.{eqb};
 ghost use lib.ListN.{length, take};
-ghost use Rattle.prelude.specs.Finite.{and};
+ghost use Rattle.prelude.specs.Finite.{_&&_};
 ghost use Rattle.leduc_betting.specs.Betting.{options, in-play, turn};
 
 // The legal actions of a seat, in ascending order.
@@ -66,7 +66,7 @@ fn options_at(h: &[u8], agent: usize) -> Legal
 pub fn legal_in(round1: &[u8], round2: &[u8], live: bool, agent: usize) -> Legal
     ensures within { λ r. ⌜ r .count ≤ 3 ⌝ }
     ensures whole { λ r. ⌜ take (r .count) (r .actions) ≡ cond
-        (and live (eqb agent (turn (now (round1 .entry)) (now (round2 .entry))))) (options (in-play (now (round1 .entry)) (now (round2 .entry)))) [] ⌝ }
+        (live && eqb agent (turn (now (round1 .entry)) (now (round2 .entry)))) (options (in-play (now (round1 .entry)) (now (round2 .entry)))) [] ⌝ }
 {
     if !live {
         return Legal {

@@ -4,7 +4,7 @@ use mathlib.Core.Bool.{true}
 use lib.Dec.{leb}
 use lib.ListN.{length}
 use borrow.Author.Tests.{leb-true}
-use Rattle.prelude.specs.Finite.{and, or, some, those, has}
+use Rattle.prelude.specs.Finite.{_&&_, _||_, some, those, has}
 use Rattle.game_tree.proofs.Checked.{every, every-sound}
 use Rattle.leduc_betting.specs.Betting.{ends-with, folded, closes, behind, raises, may, options, in-play, turn, ended}
 use Rattle.leduc_betting.specs.Cards.{left, remaining}
@@ -22,7 +22,7 @@ walked = Walk.walked
 
 -- computed over the whole tree
 all-short : every (λ j k a. leb (length k) 13) tree ≡ true
-unfolding every leducTree below next each and or some those has ends-with folded closes behind raises may options in-play turn ended left remaining public-due due key
+unfolding every leducTree below next each _&&_ _||_ some those has ends-with folded closes behind raises may options in-play turn ended left remaining public-due due key
 all-short = refl
 
 pub keys-fit : Keys-fit

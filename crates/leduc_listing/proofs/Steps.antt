@@ -6,7 +6,7 @@ use Prim.Native.Nat.{ℕ, zero, suc, _+_, _-_, _≤_}
 use native.Mathlib.Omega.{arith}
 use lib.ListN.{length, length-append}
 use lib.Seq.{sets}
-use Rattle.prelude.specs.Finite.{or, those}
+use Rattle.prelude.specs.Finite.{_||_, those}
 use Rattle.prelude.proofs.Tests.{Tested, holds, fails, tested}
 use Rattle.prelude.proofs.Lists.{those-kept, those-passed}
 use Rattle.leduc_betting.specs.Cards.{seen, left, remaining}
@@ -81,11 +81,11 @@ module _ (r : ℕ) (q : Position) where
   by b d = joined (those (cond b 6 (cond d 0 3)) (λ a. cond b (left (seen (q .cards) (q .public)) a) (may (in-play (q .first) (q .second)) a))) (λ a. recordsOf (T (cond b (dealt q a) (acted q a))))
 
   pub from-node : recordsOf (turns (suc r) (next q) q) ≡ nodeRecords q ++ nextRecords r q (moveBound q)
-  unfolding next turns nodeRecords nextRecords isMove moveBound moved live or remaining options by recordsOf those joined
+  unfolding next turns nodeRecords nextRecords isMove moveBound moved live _||_ remaining options by recordsOf those joined
   from-node = at (tested (due q)) (tested (ended q))
     where
       at : Tested (due q) → Tested (ended q)
-          → recordsOf (turns (suc r) (cond (due q) card (cond (ended q) nothing action)) q) ≡ cond (not (or (due q) (ended q))) (recordsOf (q ∷ [])) [] ++ by (due q) (ended q)
+          → recordsOf (turns (suc r) (cond (due q) card (cond (ended q) nothing action)) q) ≡ cond (not (due q || ended q)) (recordsOf (q ∷ [])) [] ++ by (due q) (ended q)
       at (holds e) w = rw e (records-joined (dealt q) (remaining (seen (q .cards) (q .public))) T)
       at (fails e) (holds w) = rw (e, w) refl
       at (fails e) (fails w) = rw (e, w) (records-append (q ∷ []) (Turns.joined (map (acted q) (choices q)) T) ∙ ap (λ l. recordsOf (q ∷ []) ++ l) (records-joined (acted q) (choices q) T))
@@ -138,5 +138,5 @@ module _ (r : ℕ) (q s : Position) (b m : ℕ) (more : r ≡ 0 → ⊥) (some-b
 
 -- ---- from the start: its moves alone
 pub from-start : leducListing ≡ nextRecords 10 start 6
-unfolding nodeRecords live or Rattle.leduc_rules.specs.Rules.due moveBound
+unfolding nodeRecords live _||_ Rattle.leduc_rules.specs.Rules.due moveBound
 from-start = walked ∙ from-node 10 start

@@ -8,7 +8,7 @@ use leduc_rules::RAISE_TWO;
 ghost use mathlib.Core.Path.{_≡_};
 ghost use mathlib.Core.Bool.{cond};
 ghost use lib.IntN.{pos, negℤ};
-ghost use Rattle.prelude.specs.Finite.{or};
+ghost use Rattle.prelude.specs.Finite.{_||_};
 ghost use Prim.Native.Nat.{_+_, _-_, _≤_};
 ghost use lib.ListN.{length};
 ghost use Rattle.leduc_rules.specs.Stakes.{ante, raise₁, raise₂};
@@ -135,7 +135,7 @@ pub fn is_winner(
 
 // Whether a seat has folded in either round.
 fn folded_in(round1: &[u8], round2: &[u8], seat: usize) -> bool
-    ensures { λ r. ⌜ r ≡ or (folds (now (round1 .entry)) seat) (folds (now (round2 .entry)) seat) ⌝ }
+    ensures { λ r. ⌜ r ≡ (folds (now (round1 .entry)) seat || folds (now (round2 .entry)) seat) ⌝ }
 {
     if folded_by(round1, seat) {
         return true;

@@ -8,7 +8,7 @@ use lib.Dec.{eqb, leb}
 use lib.ListN.{length, take, drop, length-drop}
 use lib.Seq.{length-take-le}
 use borrow.Author.Tests.{le-leb, lt-leb, leb-true}
-use Rattle.prelude.specs.Finite.{and, or}
+use Rattle.prelude.specs.Finite.{_&&_, _||_}
 use Rattle.prelude.proofs.Tests.{and-left, and-right, and-left-fails, and-right-fails}
 use Rattle.leduc_betting.specs.Betting.{closes, ended, played}
 use Rattle.leduc_rules.specs.Rules.{live}
@@ -20,8 +20,8 @@ use Rattle.leduc_rules.specs.Reached.{possible}
 use Rattle.leduc_positions.specs.Positions.{cardsOf, seenOf, roundOne, roundTwo, reachable}
 use Rattle.leduc_positions.specs.declared.LeducState.{LeducState}
 
-and-assoc : (a b c : Bool) → and a (and b c) ≡ and (and a b) c
-unfolding and
+and-assoc : (a b c : Bool) → (a && (b && c)) ≡ ((a && b) && c)
+unfolding _&&_
 and-assoc true b c = refl
 and-assoc false b c = refl
 
@@ -34,7 +34,7 @@ pub record Short (s : LeducState) : Type 0 where
 pub reachable-short : (s : LeducState) → reachable s ≡ true → Short s
 unfolding reachable
 reachable-short s e =
-    let l : and (leb (s .dealt) 2) (and (leb (s .acted1) 4) (leb (s .acted2) 4)) ≡ true = and-left _ _ e in
+    let l : (leb (s .dealt) 2 && (leb (s .acted1) 4 && leb (s .acted2) 4)) ≡ true = and-left _ _ e in
     record {
       dealt-short = leb-true _ _ (and-left _ _ l);
       first-short = leb-true _ _ (and-left _ _ (and-right _ _ l));
@@ -59,13 +59,13 @@ second-too-long s h = and-left-fails _ (and-right-fails _ (and-right-fails _ (lt
 
 -- where no length is too great, the test is one of the cards and one of the rounds
 abbrev pub cards-test : LeducState → Bool
-cards-test s = and (not (strange (seenOf s))) (not (twice (seenOf s)))
+cards-test s = not (strange (seenOf s)) && not (twice (seenOf s))
 
 abbrev pub rounds-test : Bool → Bool → List ℕ → List ℕ → Bool
-rounds-test full closed h₁ h₂ = and (or full (eqb (length h₁) 0)) (and (played [] h₁) (and (played [] h₂) (and (or closed (closes h₁)) (or (not closed) (eqb (length h₂) 0)))))
+rounds-test full closed h₁ h₂ = (full || eqb (length h₁) 0) && (played [] h₁ && (played [] h₂ && ((closed || closes h₁) && (not closed || eqb (length h₂) 0))))
 
-pub reachable-tests : (s : LeducState) → Short s → length (s .cards) ≡ 2 → reachable s ≡ and (cards-test s) (rounds-test (eqb (s .dealt) 2) (hidden (s .public)) (roundOne s) (roundTwo s))
-unfolding reachable possible and
+pub reachable-tests : (s : LeducState) → Short s → length (s .cards) ≡ 2 → reachable s ≡ (cards-test s && rounds-test (eqb (s .dealt) 2) (hidden (s .public)) (roundOne s) (roundTwo s))
+unfolding reachable possible _&&_
 reachable-tests s h two =
     let d : s .dealt ≤ 2 = h .dealt-short in
     let n : length (take (s .dealt) (s .cards)) ≡ s .dealt = length-take-le (s .dealt) (s .cards) (omega arith) in

@@ -7,7 +7,7 @@ use lib.IntN.{ℤ}
 use lib.ListN.{take, drop, set, replicate}
 use Rattle.refusals.specs.Refusals.{Check, _refuses_}
 use Rattle.refusals.specs.Refusals as Refusals
-use Rattle.prelude.specs.Finite.{and}
+use Rattle.prelude.specs.Finite.{_&&_}
 use Rattle.leduc_betting.specs.Betting.{closes, in-play}
 use Rattle.leduc_betting.specs.Cards.{hidden, seen}
 use Rattle.leduc_betting.specs.Checks.{barred-by, card-checks, round-checks, public-checks}
@@ -95,8 +95,8 @@ payoff-of s t = payoff ante raise₁ raise₂ (cardsOf s) (s .public) (roundOne 
 -- number 19: no length is above its part of the array, and the cards and actions can be reached by legal moves
 unfoldable pub reachable : LeducState → Bool
 reachable s =
-    and (and (leb (s .dealt) 2) (and (leb (s .acted1) 4) (leb (s .acted2) 4)))
-    (possible (cardsOf s) (s .public) (roundOne s) (roundTwo s))
+    (leb (s .dealt) 2 && (leb (s .acted1) 4 && leb (s .acted2) 4))
+    && possible (cardsOf s) (s .public) (roundOne s) (roundTwo s)
 
 -- the check of every rules call on a position, before its own
 abbrev pub position-checks : LeducState → List Check

@@ -8,7 +8,7 @@ use native.Mathlib.Omega.{arith}
 use lib.Dec.{eqb, ltb}
 use lib.ListN.{length, getD}
 use borrow.Author.Tests.{eqb-true, eqb-false, ltb-true, lt-ltb, le-ltb}
-use Rattle.prelude.specs.Finite.{and, or, some}
+use Rattle.prelude.specs.Finite.{_&&_, _||_, some}
 use Rattle.prelude.proofs.Tests.{Tested, holds, fails, tested, iff, true≢false, and-left, and-right, and-right-fails, or-cases}
 use Rattle.leduc_betting.specs.Betting.{CALL, RAISE, ends-with, folded, closes, behind, in-play, turn, played}
 use Rattle.leduc_betting.specs.declared.Public.{Public}
@@ -46,10 +46,10 @@ shifted u {b} {x} {y} {x′} {y′} f v p q =
 
 -- the last action is CALL or RAISE, unless a seat has folded
 last-known : List ℕ → Bool
-last-known h = or (eqb (length h) 0) (or (ends-with CALL h) (or (ends-with RAISE h) (folded h)))
+last-known h = eqb (length h) 0 || (ends-with CALL h || (ends-with RAISE h || folded h))
 
 all-known : all-of last-known rounds ≡ true
-unfolding all-of last-known rounds and or some ends-with folded
+unfolding all-of last-known rounds _&&_ _||_ some ends-with folded
 all-known = refl
 
 last-is : (h : List ℕ) (a : ℕ) → ends-with a h ≡ true → (length h ≡ suc (length h - 1)) × (getD h (length h - 1) 0 ≡ a)
@@ -61,7 +61,7 @@ module _ (size : ℕ) (h : List ℕ) where
   Now = Level (0 < size) (behind h) (acting size h (length h)) (other size h (length h))
 
   at-start : length h ≡ 0 → Now
-  unfolding behind ends-with and put-in
+  unfolding behind ends-with _&&_ put-in
   at-start e = even (behind h) _ _ (rw e refl) (rw e refl)
 
   after-call : ends-with CALL h ≡ true → Now

@@ -1,6 +1,6 @@
 -- The facts of specs/Facts.antt, proved. Assumes nothing.
 use mathlib.Core.Path.{_≡_, refl, sym, ap, ap₂, _∙_}
-use mathlib.Core.Bool.{Bool, true, false, not, cond, _&&_}
+use mathlib.Core.Bool.{Bool, true, false, not, cond}
 use mathlib.Core.List.{List, [], _∷_, _++_}
 use Prim.Native.Nat.{ℕ, zero, suc, _+_, _-_, _≤_, _<_}
 use native.Mathlib.Omega.{arith}
@@ -9,7 +9,7 @@ use lib.IntN.{pos, _+ℤ_, +ℤ-invr, +ℤ-invl}
 use lib.ListN.{length, getD, take, drop}
 use lib.Seq.{take-append-seam, drop-append-seam}
 use borrow.Author.Tests.{eq-eqb, lt-ltb, ltb-true, leb-true, leb-false, not-true}
-use Rattle.prelude.specs.Finite.{and, or, some, has}
+use Rattle.prelude.specs.Finite.{_&&_, _||_, some, has}
 use Rattle.prelude.proofs.Tests.{Tested, holds, fails, tested, both, and-left, and-right, and-left-fails, and-right-fails, and-rest, or-left, or-right, or-cases, or-false-right, true≢false}
 use Rattle.prelude.proofs.Lists.{those-ascending, has-those}
 use Rattle.leduc_betting.specs.Cards.{rank, left, remaining, strange}
@@ -29,10 +29,10 @@ use Rattle.leduc_rules.proofs.Moves.{reached-parts, still-hidden, hidde
 
 -- only one seat folds in a round, and none where none has folded
 lone-folder : List ℕ → Bool
-lone-folder h = and (not (and (folds h 0) (folds h 1))) (or (folded h) (and (not (folds h 0)) (not (folds h 1))))
+lone-folder h = not (folds h 0 && folds h 1) && (folded h || (not (folds h 0) && not (folds h 1)))
 
 all-lone : all-of lone-folder rounds ≡ true
-unfolding all-of lone-folder rounds and or some folds folded
+unfolding all-of lone-folder rounds _&&_ _||_ some folds folded
 all-lone = refl
 
 -- not both seats win
@@ -56,12 +56,12 @@ nobody-folds s = refl
 module _ {cs : List ℕ} {p : Public} {h₁ h₂ : List ℕ} (w : Possible cs p h₁ h₂) where
   lone : (h : List ℕ) → lone-folder h ≡ true → folds h 0 ≡ true → folds h 1 ≡ true → ⊥
   unfolding lone-folder
-  lone h e a b = true≢false (and (folds h 0) (folds h 1)) (both a b) (not-true (and (folds h 0) (folds h 1)) (and-left (not (and (folds h 0) (folds h 1))) _ e))
+  lone h e a b = true≢false (folds h 0 && folds h 1) (both a b) (not-true (folds h 0 && folds h 1) (and-left (not (folds h 0 && folds h 1)) _ e))
 
   none-folds : (h : List ℕ) → lone-folder h ≡ true → folded h ≡ false → (s : ℕ) → s ≤ 1 → folds h s ≡ false
   unfolding lone-folder
   none-folds h e f s l =
-      or-cases (folded h) (and (not (folds h 0)) (not (folds h 1))) (and-right (not (and (folds h 0) (folds h 1))) _ e)
+      or-cases (folded h) (not (folds h 0) && not (folds h 1)) (and-right (not (folds h 0 && folds h 1)) _ e)
       (λ q. true≢false (folded h) q f)
       (λ q. pick s l (not-true (folds h 0) (and-left (not (folds h 0)) (not (folds h 1)) q)) (not-true (folds h 1) (and-right (not (folds h 0)) (not (folds h 1)) q)))
     where
@@ -84,7 +84,7 @@ module _ {cs : List ℕ} {p : Public} {h₁ h₂ : List ℕ} (w : Possible cs p 
       go (holds c) = true≢false (folded h₁) f (closed-unfolded h₁ (w .first-played) c)
       go (fails c) = hidden-none w (still-hidden w c)
 
-  one-folds : or (folds h₁ 0) (folds h₂ 0) ≡ true → or (folds h₁ 1) (folds h₂ 1) ≡ true → ⊥
+  one-folds : (folds h₁ 0 || folds h₂ 0) ≡ true → (folds h₁ 1 || folds h₂ 1) ≡ true → ⊥
   one-folds a b = go (tested (folded h₁))
     where
       go : Tested (folded h₁) → ⊥
@@ -100,9 +100,9 @@ module _ {cs : List ℕ} {p : Public} {h₁ h₂ : List ℕ} (w : Possible cs p 
 
   one-wins : wins cs p h₁ h₂ 0 1 ≡ true → wins cs p h₁ h₂ 1 0 ≡ true → ⊥
   unfolding wins
-  one-wins e f = go (or (folded h₁) (folded h₂)) e f
+  one-wins e f = go (folded h₁ || folded h₂) e f
     where
-      go : (b : Bool) → cond b (or (folds h₁ 1) (folds h₂ 1)) (beats cs p 0 1) ≡ true → cond b (or (folds h₁ 0) (folds h₂ 0)) (beats cs p 1 0) ≡ true → ⊥
+      go : (b : Bool) → cond b (folds h₁ 1 || folds h₂ 1) (beats cs p 0 1) ≡ true → cond b (folds h₁ 0 || folds h₂ 0) (beats cs p 1 0) ≡ true → ⊥
       go true x y = one-folds y x
       go false x y = one-beats cs p x y
 
@@ -131,7 +131,7 @@ pub all-left : All-left
 unfolding remaining
 all-left cs c = has-those (left cs) c 6 ∙ below (tested (ltb c 6))
   where
-    below : Tested (ltb c 6) → and (ltb c 6) (left cs c) ≡ left cs c
+    below : Tested (ltb c 6) → (ltb c 6 && left cs c) ≡ left cs c
     below (holds t) = and-rest (left cs c) t
     below (fails t) = and-left-fails (left cs c) t ∙ sym (past-deck cs c t)
 
@@ -141,7 +141,7 @@ at-most-four : List ℕ → Bool
 at-most-four h = leb (length h) 4
 
 all-short : all-of at-most-four rounds ≡ true
-unfolding all-of at-most-four rounds and
+unfolding all-of at-most-four rounds _&&_
 all-short = refl
 
 pub longest-round : Longest-round
@@ -155,19 +155,19 @@ options-may : (h : List ℕ) (a : ℕ) → has a (options h) ≡ may h a
 unfolding options
 options-may h a = has-those (may h) a 3 ∙ go (tested (may h a))
   where
-    go : Tested (may h a) → and (ltb a 3) (may h a) ≡ may h a
+    go : Tested (may h a) → (ltb a 3 && may h a) ≡ may h a
     go (holds t) = and-rest (may h a) (lt-ltb a 3 (let l = may-small h a t in omega arith))
     go (fails t) = and-right-fails (ltb a 3) t ∙ sym t
 
 pub legal-moves : Legal-moves
-unfolding legal in-play has and
+unfolding legal in-play has _&&_
 legal-moves cs p h₁ h₂ a = at (live cs p h₁ h₂)
   where
     round : (b : Bool) → may (cond b h₂ h₁) a ≡ cond b (may h₂ a) (may h₁ a)
     round true = refl
     round false = refl
 
-    at : (b : Bool) → has a (cond (and b (eqb (turn h₁ h₂) (turn h₁ h₂))) (options (in-play h₁ h₂)) []) ≡ (b && cond (closes h₁) (may h₂ a) (may h₁ a))
+    at : (b : Bool) → has a (cond (b && eqb (turn h₁ h₂) (turn h₁ h₂)) (options (in-play h₁ h₂)) []) ≡ (b && cond (closes h₁) (may h₂ a) (may h₁ a))
     at true = ap (λ t. has a (cond t (options (in-play h₁ h₂)) [])) (eq-eqb (turn h₁ h₂) (turn h₁ h₂) refl) ∙ options-may (in-play h₁ h₂) a ∙ round (closes h₁)
     at false = refl
 

@@ -9,7 +9,7 @@ use lib.ListN.{length}
 use borrow.Author.Tests.{eqb-true, ltb-false, le-ltb, not-true, not-false}
 use Rattle.refusals.specs.Refusals.{first, _refuses_}
 use Rattle.refusals.proofs.Order.{fails-first, fails-rest}
-use Rattle.prelude.specs.Finite.{and, or, some}
+use Rattle.prelude.specs.Finite.{_&&_, _||_, some}
 use Rattle.prelude.proofs.Tests.{Tested, holds, fails, tested, both, neither, or-cases, or-false-left, or-false-right, true≢false}
 use Rattle.leduc_betting.specs.Betting.{closes, open-round, may, played, unknown}
 use Rattle.leduc_betting.specs.Cards.{hidden}
@@ -26,19 +26,19 @@ pub actions-played : (barred blind : Bool) (before h : List ℕ) → first (acti
 unfolding action-checks played
 actions-played barred blind before [] e = refl
 actions-played barred blind before (a ∷ h) e =
-    let e₁ = fails-rest (or barred (not (open-round before))) 13 ((or blind (not (may before a)) refuses 15) ∷ action-checks barred blind (before ++ (a ∷ [])) h) e in
+    let e₁ = fails-rest (barred || not (open-round before)) 13 (((blind || not (may before a)) refuses 15) ∷ action-checks barred blind (before ++ (a ∷ [])) h) e in
     both
     (both
-    (not-false (open-round before) (or-false-right barred (not (open-round before)) (fails-first (or barred (not (open-round before))) 13 ((or blind (not (may before a)) refuses 15) ∷ action-checks barred blind (before ++ (a ∷ [])) h) e)))
-    (not-false (may before a) (or-false-right blind (not (may before a)) (fails-first (or blind (not (may before a))) 14 (action-checks barred blind (before ++ (a ∷ [])) h) e₁))))
-    (actions-played barred blind (before ++ (a ∷ [])) h (fails-rest (or blind (not (may before a))) 14 (action-checks barred blind (before ++ (a ∷ [])) h) e₁))
+    (not-false (open-round before) (or-false-right barred (not (open-round before)) (fails-first (barred || not (open-round before)) 13 (((blind || not (may before a)) refuses 15) ∷ action-checks barred blind (before ++ (a ∷ [])) h) e)))
+    (not-false (may before a) (or-false-right blind (not (may before a)) (fails-first (blind || not (may before a)) 14 (action-checks barred blind (before ++ (a ∷ [])) h) e₁))))
+    (actions-played barred blind (before ++ (a ∷ [])) h (fails-rest (blind || not (may before a)) 14 (action-checks barred blind (before ++ (a ∷ [])) h) e₁))
 
 -- a round that is blind holds no action
-pub blind-empty : (barred blind : Bool) (h : List ℕ) → first (action-checks barred blind [] h) ≡ 0 → or (not blind) (eqb (length h) 0) ≡ true
-unfolding action-checks or
+pub blind-empty : (barred blind : Bool) (h : List ℕ) → first (action-checks barred blind [] h) ≡ 0 → (not blind || eqb (length h) 0) ≡ true
+unfolding action-checks _||_
 blind-empty barred false h e = refl
 blind-empty barred true [] e = refl
-blind-empty barred true (a ∷ h) e = true≢false true refl (fails-first true 14 (action-checks barred true (a ∷ []) h) (fails-rest (or barred (not (open-round []))) 13 ((true refuses 15) ∷ action-checks barred true (a ∷ []) h) e))
+blind-empty barred true (a ∷ h) e = true≢false true refl (fails-first true 14 (action-checks barred true (a ∷ []) h) (fails-rest (barred || not (open-round [])) 13 ((true refuses 15) ∷ action-checks barred true (a ∷ []) h) e))
 
 pub fits-length : (n : ℕ) (h : List ℕ) → malformed n h ≡ false → n ≤ 4
 unfolding malformed
@@ -50,7 +50,7 @@ known : List ℕ → Bool
 known h = not (unknown h)
 
 all-known : all-of known rounds ≡ true
-unfolding all-of known rounds and or some unknown
+unfolding all-of known rounds _&&_ _||_ some unknown
 all-known = refl
 
 pub played-known : (n : ℕ) (h : List ℕ) → n ≤ 4 → played [] h ≡ true → malformed n h ≡ false

@@ -9,7 +9,7 @@ use native.Mathlib.Omega.{arith}
 use lib.Dec.{eqb, leb, ltb}
 use lib.ListN.{length, getD}
 use borrow.Author.Tests.{eq-eqb, ne-eqb, eqb-true, eqb-false, leb-true}
-use Rattle.prelude.specs.Finite.{and}
+use Rattle.prelude.specs.Finite.{_&&_}
 use Rattle.prelude.proofs.Tests.{Tested, holds, fails, tested, and-left, and-right}
 use Rattle.leduc_betting.specs.Betting.{CALL, RAISE, ends-with, closes}
 use Rattle.leduc_rules.specs.Rules.{after-action, put-in, added, contribution}

@@ -9,7 +9,7 @@ use lib.Dec.{eqb, leb, ltb}
 use lib.ListN.{length, getD, take, length-append, List·getD-append}
 use lib.Seq.{take-append-le, take-append-seam, getD-at}
 use borrow.Author.Tests.{eqb-true, eq-eqb, leb-false, le-leb, lt-leb, lt-ltb, le-ltb, ltb-true, ltb-false, not-true}
-use Rattle.prelude.specs.Finite.{and, or, some, has}
+use Rattle.prelude.specs.Finite.{_&&_, _||_, some, has}
 use Rattle.prelude.proofs.Tests.{some-same, both, and-left, and-right, and-left-fails, and-right-fails, or-left, or-right, or-cases, or-false-left, or-false-right, neither, true≢false}
 use Rattle.leduc_betting.specs.Betting.{folded, closes, open-round, may, ended, played}
 use Rattle.leduc_betting.specs.Cards.{hidden, seen, left, strange, twice}
@@ -27,23 +27,23 @@ module _ (xs : List ℕ) (x : ℕ) where
   long : length (xs ++ (x ∷ [])) ≡ suc (length xs)
   long = length-append xs (x ∷ []) ∙ (let e : length xs + 1 ≡ suc (length xs) = omega arith in e)
 
-  some-more : (Q : List ℕ → ℕ → Bool) → ((i : ℕ) → i < length xs → Q (xs ++ (x ∷ [])) i ≡ Q xs i) → some (length (xs ++ (x ∷ []))) (Q (xs ++ (x ∷ []))) ≡ or (some (length xs) (Q xs)) (Q (xs ++ (x ∷ [])) (length xs))
+  some-more : (Q : List ℕ → ℕ → Bool) → ((i : ℕ) → i < length xs → Q (xs ++ (x ∷ [])) i ≡ Q xs i) → some (length (xs ++ (x ∷ []))) (Q (xs ++ (x ∷ []))) ≡ (some (length xs) (Q xs) || Q (xs ++ (x ∷ [])) (length xs))
   unfolding some
   some-more Q f =
       ap (λ n. some n (Q (xs ++ (x ∷ [])))) long
-      ∙ ap (λ b. or b (Q (xs ++ (x ∷ [])) (length xs))) (some-same (length xs) (Q (xs ++ (x ∷ []))) (Q xs) f)
+      ∙ ap (λ b. b || Q (xs ++ (x ∷ [])) (length xs)) (some-same (length xs) (Q (xs ++ (x ∷ []))) (Q xs) f)
 
-  pub strange-more : strange (xs ++ (x ∷ [])) ≡ or (strange xs) (leb 6 x)
+  pub strange-more : strange (xs ++ (x ∷ [])) ≡ (strange xs || leb 6 x)
   unfolding strange
   strange-more =
       some-more (λ l i. leb 6 (getD l i 0)) (λ i w. ap (leb 6) (List·getD-append xs (x ∷ []) 0 i w))
-      ∙ ap (λ y. or (some (length xs) (λ i. leb 6 (getD xs i 0))) (leb 6 y)) (getD-at xs x [] 0 (length xs) refl)
+      ∙ ap (λ y. some (length xs) (λ i. leb 6 (getD xs i 0)) || leb 6 y) (getD-at xs x [] 0 (length xs) refl)
 
-  pub twice-more : twice (xs ++ (x ∷ [])) ≡ or (twice xs) (has x xs)
+  pub twice-more : twice (xs ++ (x ∷ [])) ≡ (twice xs || has x xs)
   unfolding twice
   twice-more =
       some-more (λ l i. has (getD l i 0) (take i l)) (λ i w. ap₂ has (List·getD-append xs (x ∷ []) 0 i w) (take-append-le i xs (x ∷ []) (omega arith)))
-      ∙ ap₂ (λ y l. or (some (length xs) (λ i. has (getD xs i 0) (take i xs))) (has y l)) (getD-at xs x [] 0 (length xs) refl) (take-append-seam xs (x ∷ []))
+      ∙ ap₂ (λ y l. some (length xs) (λ i. has (getD xs i 0) (take i xs)) || has y l) (getD-at xs x [] 0 (length xs) refl) (take-append-seam xs (x ∷ []))
 
   -- a card that is left may be added, and only such
   pub added : strange xs ≡ false → twice xs ≡ false → left xs x ≡ true → (strange (xs ++ (x ∷ [])) ≡ false) × (twice (xs ++ (x ∷ [])) ≡ false)
@@ -61,11 +61,11 @@ module _ (xs : List ℕ) (x : ℕ) where
 
 -- one action more of a round
 pub played-more : (before h : List ℕ) (a : ℕ) → played before h ≡ true → open-round (before ++ h) ≡ true → may (before ++ h) a ≡ true → played before (h ++ (a ∷ [])) ≡ true
-unfolding played and
+unfolding played _&&_
 played-more before [] a e o m = both (both (ap open-round (sym (append-nil before)) ∙ o) (ap (λ t. may t a) (sym (append-nil before)) ∙ m)) refl
 played-more before (b ∷ h) a e o m =
-    both (and-left (and (open-round before) (may before b)) (played (before ++ (b ∷ [])) h) e)
-    (played-more (before ++ (b ∷ [])) h a (and-right (and (open-round before) (may before b)) (played (before ++ (b ∷ [])) h) e)
+    both (and-left (open-round before && may before b) (played (before ++ (b ∷ [])) h) e)
+    (played-more (before ++ (b ∷ [])) h a (and-right (open-round before && may before b) (played (before ++ (b ∷ [])) h) e)
     (ap open-round (append-assoc before (b ∷ []) h) ∙ o)
     (ap (λ t. may t a) (append-assoc before (b ∷ []) h) ∙ m))
 
@@ -84,7 +84,7 @@ module _ (cs : List ℕ) (p : Public) (h₁ h₂ : List ℕ) where
       (both (w .shown-late) (w .blind-early)))))))
 
 start-possible : Possible [] Hidden [] []
-unfolding strange twice some played or
+unfolding strange twice some played _||_
 start-possible =
     record { few = omega arith; in-deck = refl; once = refl; dealt-first = refl; first-played = refl; second-played = refl; shown-late = refl; blind-early = refl }
 
@@ -123,7 +123,7 @@ deal-possible cs Hidden h₁ h₂ c w l e =
 
 reveal-possible : (cs : List ℕ) (p : Public) (h₁ h₂ : List ℕ) (c : ℕ) → Possible cs p h₁ h₂ → public-due p h₁ h₂ ≡ true → left (seen cs p) c ≡ true → Possible cs (Card c) h₁ h₂
 unfolding public-due
-reveal-possible cs (Card x) h₁ h₂ c w d e = true≢false false (and-left false (and (closes h₁) (not (ended h₁ h₂))) d) refl
+reveal-possible cs (Card x) h₁ h₂ c w d e = true≢false false (and-left false (closes h₁ && not (ended h₁ h₂)) d) refl
 reveal-possible cs Hidden h₁ h₂ c w d e =
     let (s, t) = added cs c (w .in-deck) (w .once) e in
     record {
@@ -133,7 +133,7 @@ reveal-possible cs Hidden h₁ h₂ c w d e =
       dealt-first = w .dealt-first;
       first-played = w .first-played;
       second-played = w .second-played;
-      shown-late = or-right false (and-left (closes h₁) (not (ended h₁ h₂)) (and-right true (and (closes h₁) (not (ended h₁ h₂))) d));
+      shown-late = or-right false (and-left (closes h₁) (not (ended h₁ h₂)) (and-right true (closes h₁ && not (ended h₁ h₂)) d));
       blind-early = or-left (eqb (length h₂) 0) refl;
     }
 
@@ -148,15 +148,15 @@ pub record Acting (cs : List ℕ) (p : Public) (h₁ h₂ : List ℕ) : Type 0 w
 pub acting : (cs : List ℕ) (p : Public) (h₁ h₂ : List ℕ) → live cs p h₁ h₂ ≡ true → Acting cs p h₁ h₂
 unfolding live due ended
 acting cs p h₁ h₂ e =
-    let n : or (or (ltb (length cs) 2) (public-due p h₁ h₂)) (or (folded h₁) (or (folded h₂) (closes h₂))) ≡ false = not-true _ e in
-    let d = or-false-left (or (ltb (length cs) 2) (public-due p h₁ h₂)) _ n in
-    let o = or-false-right (or (ltb (length cs) 2) (public-due p h₁ h₂)) _ n in
+    let n : ((ltb (length cs) 2 || public-due p h₁ h₂) || (folded h₁ || (folded h₂ || closes h₂))) ≡ false = not-true _ e in
+    let d = or-false-left (ltb (length cs) 2 || public-due p h₁ h₂) _ n in
+    let o = or-false-right (ltb (length cs) 2 || public-due p h₁ h₂) _ n in
     record {
       two-cards = ltb-false (length cs) 2 (or-false-left (ltb (length cs) 2) (public-due p h₁ h₂) d);
       none-due = or-false-right (ltb (length cs) 2) (public-due p h₁ h₂) d;
       not-ended = o;
-      first-unfolded = or-false-left (folded h₁) (or (folded h₂) (closes h₂)) o;
-      second-open = still-open h₂ (or-false-right (folded h₁) (or (folded h₂) (closes h₂)) o);
+      first-unfolded = or-false-left (folded h₁) (folded h₂ || closes h₂) o;
+      second-open = still-open h₂ (or-false-right (folded h₁) (folded h₂ || closes h₂) o);
     }
 
 act₁-possible : (cs : List ℕ) (p : Public) (h₁ h₂ : List ℕ) (a : ℕ) → Possible cs p h₁ h₂ → live cs p h₁ h₂ ≡ true → closes h₁ ≡ false → may h₁ a ≡ true → Possible cs p (h₁ ++ (a ∷ [])) h₂
@@ -176,9 +176,9 @@ act₁-possible cs p h₁ h₂ a w l c m =
 
 -- the public card lies there once round 1 has closed and a seat acts
 shown-by-then : (p : Public) (h₁ h₂ : List ℕ) → public-due p h₁ h₂ ≡ false → ended h₁ h₂ ≡ false → closes h₁ ≡ true → hidden p ≡ false
-unfolding public-due and
+unfolding public-due _&&_
 shown-by-then (Card x) h₁ h₂ d n c = refl
-shown-by-then Hidden h₁ h₂ d n c = true≢false (and (closes h₁) (not (ended h₁ h₂))) (both c (ap not n)) d
+shown-by-then Hidden h₁ h₂ d n c = true≢false (closes h₁ && not (ended h₁ h₂)) (both c (ap not n)) d
 
 act₂-possible : (cs : List ℕ) (p : Public) (h₁ h₂ : List ℕ) (a : ℕ) → Possible cs p h₁ h₂ → live cs p h₁ h₂ ≡ true → closes h₁ ≡ true → may h₂ a ≡ true → Possible cs p h₁ (h₂ ++ (a ∷ []))
 act₂-possible cs p h₁ h₂ a w l c m =
@@ -207,7 +207,7 @@ reached-parts (act₂ {cs = cs} {h₁ = h₁} {h₂ = h₂} {p = p} a r l c m) =
 pub goes-on : (h : List ℕ) → open-round h ≡ true → (folded h ≡ false) × (closes h ≡ false)
 unfolding open-round
 goes-on h o =
-    let q : or (folded h) (closes h) ≡ false = not-true (or (folded h) (closes h)) o in
+    let q : (folded h || closes h) ≡ false = not-true (folded h || closes h) o in
     (or-false-left (folded h) (closes h) q, or-false-right (folded h) (closes h) q)
 
 nothing-folded : folded [] ≡ false
@@ -231,20 +231,20 @@ play-first : (cs : List ℕ) → length cs ≡ 2 → (before h : List ℕ) → p
 unfolding played
 play-first cs two before [] e r = subst (λ t. Reached cs Hidden t []) (sym (append-nil before)) r
 play-first cs two before (a ∷ h) e r =
-    let now = and-left (and (open-round before) (may before a)) (played (before ++ (a ∷ [])) h) e in
+    let now = and-left (open-round before && may before a) (played (before ++ (a ∷ [])) h) e in
     let o = and-left (open-round before) (may before a) now in
     subst (λ t. Reached cs Hidden t []) (append-assoc before (a ∷ []) h)
-    (play-first cs two (before ++ (a ∷ [])) h (and-right (and (open-round before) (may before a)) (played (before ++ (a ∷ [])) h) e)
+    (play-first cs two (before ++ (a ∷ [])) h (and-right (open-round before && may before a) (played (before ++ (a ∷ [])) h) e)
     (act₁ a r (live-first cs before two o) (goes-on before o .1) (and-right (open-round before) (may before a) now)))
 
 play-second : (cs : List ℕ) (x : ℕ) (h₁ : List ℕ) → length cs ≡ 2 → closes h₁ ≡ true → folded h₁ ≡ false → (before h : List ℕ) → played before h ≡ true → Reached cs (Card x) h₁ before → Reached cs (Card x) h₁ (before ++ h)
 unfolding played
 play-second cs x h₁ two c f before [] e r = subst (λ t. Reached cs (Card x) h₁ t) (sym (append-nil before)) r
 play-second cs x h₁ two c f before (a ∷ h) e r =
-    let now = and-left (and (open-round before) (may before a)) (played (before ++ (a ∷ [])) h) e in
+    let now = and-left (open-round before && may before a) (played (before ++ (a ∷ [])) h) e in
     let o = and-left (open-round before) (may before a) now in
     subst (λ t. Reached cs (Card x) h₁ t) (append-assoc before (a ∷ []) h)
-    (play-second cs x h₁ two c f (before ++ (a ∷ [])) h (and-right (and (open-round before) (may before a)) (played (before ++ (a ∷ [])) h) e)
+    (play-second cs x h₁ two c f (before ++ (a ∷ [])) h (and-right (open-round before && may before a) (played (before ++ (a ∷ [])) h) e)
     (act₂ a r (live-second cs h₁ before x two f o) c (and-right (open-round before) (may before a) now)))
 
 -- the cards of both seats

@@ -7,7 +7,7 @@ use native.Mathlib.Omega.{arith}
 use lib.Dec.{eqb}
 use lib.ListN.{length}
 use borrow.Author.Tests.{eqb-true, leb-true, not-true}
-use Rattle.prelude.specs.Finite.{and, or, some}
+use Rattle.prelude.specs.Finite.{_&&_, _||_, some}
 use Rattle.prelude.proofs.Tests.{and-left, and-right, or-cases, or-false-right, true≢false}
 use Rattle.leduc_betting.specs.Betting.{folded, closes, open-round, ended, played}
 use Rattle.leduc_rules.specs.Rules.{due, live}
@@ -20,11 +20,11 @@ pub record Possible (cs : List ℕ) (p : Public) (h₁ h₂ : List ℕ) : Type 0
   pub few : length cs ≤ 2
   pub in-deck : strange (seen cs p) ≡ false
   pub once : twice (seen cs p) ≡ false
-  pub dealt-first : or (eqb (length cs) 2) (eqb (length h₁) 0) ≡ true
+  pub dealt-first : (eqb (length cs) 2 || eqb (length h₁) 0) ≡ true
   pub first-played : played [] h₁ ≡ true
   pub second-played : played [] h₂ ≡ true
-  pub shown-late : or (hidden p) (closes h₁) ≡ true
-  pub blind-early : or (not (hidden p)) (eqb (length h₂) 0) ≡ true
+  pub shown-late : (hidden p || closes h₁) ≡ true
+  pub blind-early : (not (hidden p) || eqb (length h₂) 0) ≡ true
 
 module _ (cs : List ℕ) (p : Public) (h₁ h₂ : List ℕ) where
   pub possible-parts : possible cs p h₁ h₂ ≡ true → Possible cs p h₁ h₂
@@ -52,14 +52,14 @@ no-actions [] e = refl
 no-actions (a ∷ h) e = let q = eqb-true (length (a ∷ h)) 0 e in absurd (omega arith)
 
 pub nothing-closed : closes [] ≡ false
-unfolding closes and
+unfolding closes _&&_
 nothing-closed = refl
 
 pub nothing-ended : ended [] [] ≡ false
-unfolding ended folded closes some and or
+unfolding ended folded closes some _&&_ _||_
 nothing-ended = refl
 
-pub still-open : (h : List ℕ) → or (folded h) (closes h) ≡ false → open-round h ≡ true
+pub still-open : (h : List ℕ) → (folded h || closes h) ≡ false → open-round h ≡ true
 unfolding open-round
 still-open h q = rw q
 
@@ -85,5 +85,5 @@ module _ {cs : List ℕ} {p : Public} {h₁ h₂ : List ℕ} (w : Possible cs p 
   pub live-open : live cs p h₁ h₂ ≡ true → length h₂ ≤ 3
   unfolding live ended
   live-open e =
-      let o : or (folded h₁) (or (folded h₂) (closes h₂)) ≡ false = or-false-right (due cs p h₁ h₂) _ (not-true _ e) in
+      let o : (folded h₁ || (folded h₂ || closes h₂)) ≡ false = or-false-right (due cs p h₁ h₂) _ (not-true _ e) in
       open-short h₂ (w .second-played) (still-open h₂ (or-false-right (folded h₁) _ o))

@@ -1,6 +1,6 @@
 -- What holds of Leduc's rules, proved in proofs/. cs are the seats' cards, p the public card, h₁ and h₂ the histories of the rounds.
 use mathlib.Core.Path.{_≡_}
-use mathlib.Core.Bool.{Bool, true, false, cond, _&&_}
+use mathlib.Core.Bool.{Bool, true, false, cond}
 use mathlib.Core.List.{List, [], _∷_}
 use Prim.Native.Nat.{ℕ, _+_, _*_, _-_, _≤_, _<_}
 use lib.Dec.{ltb}
@@ -8,7 +8,7 @@ use lib.IntN.{pos, _+ℤ_}
 use lib.ListN.{length, getD, take}
 use Rattle.refusals.specs.Refusals.{first}
 use Rattle.refusals.specs.Refusals as Refusals
-use Rattle.prelude.specs.Finite.{has}
+use Rattle.prelude.specs.Finite.{_&&_, has}
 use Rattle.leduc_betting.specs.Betting.{closes, behind, may, in-play, turn, ended}
 use Rattle.leduc_betting.specs.Cards.{hidden, left, remaining}
 use Rattle.leduc_rules.specs.Rules.{due, live, legal, shown-public, key, added, contribution, payoff}

@@ -5,7 +5,7 @@ use mathlib.Core.List.{List, []}
 use Prim.Native.Nat.{ℕ}
 use lib.Dec.{eqb, leb}
 use lib.ListN.{length}
-use Rattle.prelude.specs.Finite.{and, or}
+use Rattle.prelude.specs.Finite.{_&&_, _||_}
 use Rattle.leduc_betting.specs.Betting.{closes, played}
 use Rattle.leduc_betting.specs.Cards.{hidden, seen, strange, twice}
 use Rattle.leduc_betting.specs.declared.Public.{Public}
@@ -14,11 +14,11 @@ use Rattle.leduc_betting.specs.declared.Public.{Public}
 -- the public card lies there only once round 1 has closed, and no action of round 2 without it
 unfoldable pub possible : List ℕ → Public → List ℕ → List ℕ → Bool
 possible cs p h₁ h₂ =
-    and (leb (length cs) 2)
-    (and (not (strange (seen cs p)))
-    (and (not (twice (seen cs p)))
-    (and (or (eqb (length cs) 2) (eqb (length h₁) 0))
-    (and (played [] h₁)
-    (and (played [] h₂)
-    (and (or (hidden p) (closes h₁))
-    (or (not (hidden p)) (eqb (length h₂) 0))))))))
+    leb (length cs) 2
+    && (not (strange (seen cs p))
+    && (not (twice (seen cs p))
+    && ((eqb (length cs) 2 || eqb (length h₁) 0)
+    && (played [] h₁
+    && (played [] h₂
+    && ((hidden p || closes h₁)
+    && (not (hidden p) || eqb (length h₂) 0)))))))

@@ -6,7 +6,7 @@ use Prim.Native.Nat.{ℕ, zero, suc, _+_, _-_, _%_}
 use lib.Dec.{eqb, ltb}
 use lib.IntN.{ℤ, pos, negℤ}
 use lib.ListN.{length, getD}
-use Rattle.prelude.specs.Finite.{and, or, some}
+use Rattle.prelude.specs.Finite.{_&&_, _||_, some}
 use Rattle.leduc_betting.specs.Betting.{FOLD, CALL, RAISE, folded, closes, options, in-play, turn, ended}
 use Rattle.leduc_betting.specs.Cards.{rank, hidden}
 use Rattle.leduc_betting.specs.declared.Public.{Public}
@@ -16,19 +16,19 @@ use Rattle.leduc_betting.specs.declared.Public.the-variants.{Hidden, Card}
 
 -- the public card is due once round 1 has closed
 unfoldable pub public-due : Public → List ℕ → List ℕ → Bool
-public-due p h₁ h₂ = and (hidden p) (and (closes h₁) (not (ended h₁ h₂)))
+public-due p h₁ h₂ = hidden p && (closes h₁ && not (ended h₁ h₂))
 
 -- a card is due while a seat has none, and then the public one in its time
 unfoldable pub due : List ℕ → Public → List ℕ → List ℕ → Bool
-due cs p h₁ h₂ = or (ltb (length cs) 2) (public-due p h₁ h₂)
+due cs p h₁ h₂ = ltb (length cs) 2 || public-due p h₁ h₂
 
 -- a seat acts while no card is due and until the hand ends
 unfoldable pub live : List ℕ → Public → List ℕ → List ℕ → Bool
-live cs p h₁ h₂ = not (or (due cs p h₁ h₂) (ended h₁ h₂))
+live cs p h₁ h₂ = not (due cs p h₁ h₂ || ended h₁ h₂)
 
 -- what seat s may do at its turn; nothing otherwise
 unfoldable pub legal : List ℕ → Public → List ℕ → List ℕ → ℕ → List ℕ
-legal cs p h₁ h₂ s = cond (and (live cs p h₁ h₂) (eqb s (turn h₁ h₂))) (options (in-play h₁ h₂)) []
+legal cs p h₁ h₂ s = cond (live cs p h₁ h₂ && eqb s (turn h₁ h₂)) (options (in-play h₁ h₂)) []
 
 -- what a key shows of a card: the card itself
 abbrev pub shown : ℕ → ℕ
@@ -69,7 +69,7 @@ contribution ante raise₁ raise₂ h₁ h₂ s = ante + added raise₁ h₁ s +
 
 -- seat s has folded: at a place of a history where the turn was its own
 unfoldable pub folds : List ℕ → ℕ → Bool
-folds h s = some (length h) (λ i. and (eqb (i % 2) s) (eqb (getD h i 0) FOLD))
+folds h s = some (length h) (λ i. eqb (i % 2) s && eqb (getD h i 0) FOLD)
 
 -- seat s has a pair with the public card
 unfoldable pub pairs : List ℕ → Public → ℕ → Bool
@@ -78,11 +78,11 @@ pairs cs (Card c) s = eqb (rank (getD cs s 0)) (rank c)
 
 -- seat s beats seat t at the showdown: a pair wins, else the higher rank
 unfoldable pub beats : List ℕ → Public → ℕ → ℕ → Bool
-beats cs p s t = and (not (pairs cs p t)) (or (pairs cs p s) (ltb (rank (getD cs t 0)) (rank (getD cs s 0))))
+beats cs p s t = not (pairs cs p t) && (pairs cs p s || ltb (rank (getD cs t 0)) (rank (getD cs s 0)))
 
 -- seat s wins against seat t: t has folded, or nobody has and s beats t
 unfoldable pub wins : List ℕ → Public → List ℕ → List ℕ → ℕ → ℕ → Bool
-wins cs p h₁ h₂ s t = cond (or (folded h₁) (folded h₂)) (or (folds h₁ t) (folds h₂ t)) (beats cs p s t)
+wins cs p h₁ h₂ s t = cond (folded h₁ || folded h₂) (folds h₁ t || folds h₂ t) (beats cs p s t)
 
 -- the winner gains the loser's contribution; 0 to both if nobody wins
 unfoldable pub payoff : (ante raise₁ raise₂ : ℕ) → List ℕ → Public → List ℕ → List ℕ → ℕ → ℤ

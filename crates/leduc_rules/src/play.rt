@@ -12,7 +12,7 @@ ghost use mathlib.Core.List.{[]};
 ghost use Prim.Native.Nat.{_≤_};
 ghost use lib.Dec.{eqb};
 ghost use lib.ListN.{length, take};
-ghost use Rattle.prelude.specs.Finite.{and, or};
+ghost use Rattle.prelude.specs.Finite.{_&&_, _||_};
 ghost use Rattle.leduc_betting.specs.Betting.{closes, played};
 ghost use Rattle.leduc_betting.specs.Cards.{hidden, seen, strange, twice};
 ghost use Rattle.leduc_rules.specs.Rules.{public-due, due};
@@ -30,7 +30,7 @@ pub fn is_hidden(public: Public) -> bool
 // Whether the cards are of the deck and differ.
 pub fn cards_fit(cards: [u8; 2], dealt: usize, public: Public) -> bool
     requires { ⌜ dealt ≤ 2 ⌝ }
-    ensures { λ r. ⌜ r ≡ and (not (strange (seen (take dealt cards) public))) (not (twice (seen (take dealt cards) public))) ⌝ }
+    ensures { λ r. ⌜ r ≡ (not (strange (seen (take dealt cards) public)) && not (twice (seen (take dealt cards) public))) ⌝ }
 {
     let seen = all_seen(cards, dealt, public);
     let n = seen.count;
@@ -44,9 +44,9 @@ pub fn cards_fit(cards: [u8; 2], dealt: usize, public: Public) -> bool
 
 // Whether the actions of both rounds can have been made by the rules, with both cards dealt or not and the public card there or not.
 pub fn rounds_fit(round1: &[u8], round2: &[u8], full: bool, blind: bool) -> bool
-    ensures { λ r. ⌜ r ≡ and (or full (eqb (length (now (round1 .entry))) 0))
-        (and (played [] (now (round1 .entry))) (and (played [] (now (round2 .entry)))
-        (and (or blind (closes (now (round1 .entry)))) (or (not blind) (eqb (length (now (round2 .entry))) 0))))) ⌝ }
+    ensures { λ r. ⌜ r ≡ ((full || eqb (length (now (round1 .entry))) 0)
+        && (played [] (now (round1 .entry)) && (played [] (now (round2 .entry))
+        && ((blind || closes (now (round1 .entry))) && (not blind || eqb (length (now (round2 .entry))) 0))))) ⌝ }
 {
     if early(full, round1.len()) {
         return false;
@@ -65,7 +65,7 @@ pub fn rounds_fit(round1: &[u8], round2: &[u8], full: bool, blind: bool) -> bool
 
 // Whether a seat has acted before both have a card.
 fn early(full: bool, acted: usize) -> bool
-    ensures { λ r. ⌜ r ≡ not (or full (eqb acted 0)) ⌝ }
+    ensures { λ r. ⌜ r ≡ not (full || eqb acted 0) ⌝ }
 {
     if full {
         return false;

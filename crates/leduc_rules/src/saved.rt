@@ -14,7 +14,7 @@ ghost use mathlib.Core.List.{_++_};
 ghost use Prim.Native.Nat.{_≤_};
 ghost use lib.ListN.{length, take};
 ghost use Rattle.refusals.specs.Refusals.{first};
-ghost use Rattle.prelude.specs.Finite.{and};
+ghost use Rattle.prelude.specs.Finite.{_&&_};
 ghost use Rattle.leduc_betting.specs.Betting.{closes, ended};
 ghost use Rattle.leduc_betting.specs.Cards.{seen};
 ghost use Rattle.leduc_betting.specs.Checks.{barred-by, card-checks, round-checks, public-checks};
@@ -75,7 +75,7 @@ fn public_refusal(round1: &[u8], round2: &[u8], blind: bool) -> u64
 
 // Whether round 1 has closed in a hand that has not ended.
 fn is_waiting(round1: &[u8], round2: &[u8]) -> bool
-    ensures { λ r. ⌜ r ≡ and (closes (now (round1 .entry))) (not (ended (now (round1 .entry)) (now (round2 .entry)))) ⌝ }
+    ensures { λ r. ⌜ r ≡ (closes (now (round1 .entry)) && not (ended (now (round1 .entry)) (now (round2 .entry)))) ⌝ }
 {
     if !round_over(round1) {
         return false;

@@ -3,7 +3,7 @@ use mathlib.Core.Path.{_≡_, refl, sym, ap, _∙_}
 use mathlib.Core.List.{List, [], _∷_}
 use Prim.Native.Nat.{ℕ, _+_, _/_, _%_, _^_, _<_}
 use lib.ListN.{length, getD}
-use Rattle.prelude.specs.Finite.{and, or, some, those, has, places}
+use Rattle.prelude.specs.Finite.{_&&_, _||_, some, those, has, places}
 use Rattle.prelude.proofs.Lists.{length-places, getD-places}
 use Rattle.leduc_betting.specs.Betting.{ends-with, folded, closes, behind, raises, may, options, in-play, turn, ended}
 use Rattle.leduc_betting.specs.Cards.{left, remaining}
@@ -22,7 +22,7 @@ unfolding threes
 actionsAt s = 2 + getD threes (s / 64) 0 / 2 ^ (s % 64) % 2
 
 pub in-words : actionsInOrder ≡ places 936 actionsAt
-unfolding actionsAt threes places actionsInOrder firstTurns firstOnes isFirst turns joined next and or some those has ends-with folded closes behind raises may options in-play turn ended left remaining public-due due
+unfolding actionsAt threes places actionsInOrder firstTurns firstOnes isFirst turns joined next _&&_ _||_ some those has ends-with folded closes behind raises may options in-play turn ended left remaining public-due due
 in-words = refl
 
 pub actions-in-all : length actionsInOrder ≡ 936

@@ -6,7 +6,7 @@ use Prim.Native.Nat.{ℕ}
 use lib.Dec.{eqb}
 use lib.ListN.{length}
 use borrow.Author.Tests.{eqb-true}
-use Rattle.prelude.specs.Finite.{and, or, some, those, has}
+use Rattle.prelude.specs.Finite.{_&&_, _||_, some, those, has}
 use Rattle.prelude.proofs.Tests.{and-left, and-right}
 use Rattle.game_tree.specs.Sets.{Decision, met, firsts, sets, setCount, entries, entriesOf}
 use Rattle.game_tree.proofs.Tries.{none, finds}
@@ -19,14 +19,14 @@ use Rattle.leduc_tree.proofs.Firsts.{below-decisions, Tells, tells-firs
 
 -- so many are the sets and their entries
 unfoldable many : List Decision → Bool
-many xs = and (eqb (length xs) 936) (eqb (entriesOf xs) 2184)
+many xs = eqb (length xs) 936 && eqb (entriesOf xs) 2184
 
 -- the rule tells of the turns qs which are the first of their set, and so many are those
 unfoldable checked : List Position → Bool
-checked qs = and (told none qs) (many (map decisionAt (firstOnes qs)))
+checked qs = told none qs && many (map decisionAt (firstOnes qs))
 
 is-checked : checked (turns fuel (next start) start) ≡ true
-unfolding checked many told turns firstOnes entriesOf next and or some those has ends-with folded closes behind raises may options in-play turn ended left remaining public-due due key
+unfolding checked many told turns firstOnes entriesOf next _&&_ _||_ some those has ends-with folded closes behind raises may options in-play turn ended left remaining public-due due key
 is-checked = refl
 
 pub turns-told : Tells [] (turns fuel (next start) start)

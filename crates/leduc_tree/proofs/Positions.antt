@@ -9,7 +9,7 @@ use lib.Dec.{eqb, ltb}
 use lib.IntN.{ℤ, pos, _+ℤ_, +ℤ-idl}
 use lib.ListN.{length}
 use borrow.Author.Tests.{eq-eqb, ltb-true, not-true}
-use Rattle.prelude.specs.Finite.{and, or, sumℤ}
+use Rattle.prelude.specs.Finite.{_&&_, _||_, sumℤ}
 use Rattle.prelude.proofs.Tests.{Tested, holds, fails, tested, true≢false, both, and-left, and-right, or-left, or-right, or-cases, or-false-left}
 use Rattle.game_tree.specs.Tree.{Tree, end, chance, decide, Trees, nil, cons}
 use Rattle.game_tree.specs.Sets.{size}

@@ -6,7 +6,7 @@ use Prim.Native.Nat.{ℕ, _≤_}
 use lib.Dec.{eqb, leb}
 use lib.ListN.{getD}
 use borrow.Author.Tests.{eqb-true, leb-true}
-use Rattle.prelude.specs.Finite.{and, or, some, those, has}
+use Rattle.prelude.specs.Finite.{_&&_, _||_, some, those, has}
 use Rattle.prelude.proofs.Tests.{and-left, and-right}
 use Rattle.game_tree.specs.Tree.{Key, Tree}
 use Rattle.game_tree.specs.Conditions.{Splits, Every}
@@ -25,24 +25,24 @@ use Rattle.leduc_tree_facts.proofs.Shape.{shaped, hands-fit}
 
 -- the key tells who acts and with how many actions, and those are two or three
 unfoldable keyed : ℕ → Key → ℕ → Bool
-keyed j k n = and (and (eqb j (getD k 0 0)) (eqb n (actionsOf k))) (and (leb 2 n) (leb n 3))
+keyed j k n = (eqb j (getD k 0 0) && eqb n (actionsOf k)) && (leb 2 n && leb n 3)
 
 -- the fans and the most decisions on a path; what a key tells, the decisions to come, and the nodes that may follow
 unfoldable regular : Tree → Bool
-regular t = and (and (splits C m t) (every keyed t)) (and (heights (λ j k. depthOf k) t) (levels (λ j k. levelOf k) 12 t))
+regular t = (splits C m t && every keyed t) && (heights (λ j k. depthOf k) t && levels (λ j k. levelOf k) 12 t)
 
 -- the own moves before each decision are those that its key tells
 unfoldable recalled : Tree → Bool
-recalled t = and (recall 0 past actionsOf [] t) (recall 1 past actionsOf [] t)
+recalled t = recall 0 past actionsOf [] t && recall 1 past actionsOf [] t
 
 -- all of it, so that the tree is worked out once: the nodes too, and that the hands of t have the shape of u
 unfoldable checked : Tree → Tree → Bool
-checked u t = and (eqb (size t) 9457) (and (hands-fit u t) (and (regular t) (recalled t)))
+checked u t = eqb (size t) 9457 && (hands-fit u t && (regular t && recalled t))
 
 module _ (ante raise₁ raise₂ : ℕ) where
   is-checked : checked (hand ante raise₁ raise₂ (withCards 0 1)) (leducTree ante raise₁ raise₂) ≡ true
   unfolding checked size hands-fit shaped hand regular keyed recalled splits every heights levels recall actionsOf depthOf levelOf past leducTree
-      below next each and or some those has ends-with folded closes behind raises may options in-play turn ended left remaining public-due due key
+      below next each _&&_ _||_ some those has ends-with folded closes behind raises may options in-play turn ended left remaining public-due due key
   is-checked = refl
 
   pub node-count : size (leducTree ante raise₁ raise₂) ≡ leducNodes

@@ -4,7 +4,7 @@ use mathlib.Core.Logic.{inl, inr}
 use mathlib.Core.Bool.{Bool, true}
 use mathlib.Core.List.{List, [], _∷_, map}
 use Prim.Native.Nat.{ℕ, _+_}
-use Rattle.prelude.specs.Finite.{or}
+use Rattle.prelude.specs.Finite.{_||_}
 use Rattle.prelude.proofs.Tests.{and-left, and-right}
 use Rattle.game_tree.specs.Tree.{Tree, chance, cons}
 use Rattle.game_tree.specs.Sets.{size}
@@ -32,7 +32,7 @@ module _ (ante raise₁ raise₂ : ℕ) where
   each-same (c ∷ l) move g k h = ap₂ cons (h c) (each-same l move g k h)
 
   pub deals-first : leducTree ante raise₁ raise₂ ≡ chance (each (afterDeal start) (λ s. chance (each (afterDeal s) (hand ante raise₁ raise₂))))
-  unfolding leducTree below next hand due or
+  unfolding leducTree below next hand due _||_
   deals-first = ap chance (each-same (remaining []) (dealt start) (λ s. below (payoff ante raise₁ raise₂) (2 + m) (next s) s) (λ s. chance (each (afterDeal s) (hand ante raise₁ raise₂))) (λ c. refl))
 
   -- ---- the shape behind each deal is that behind the first

@@ -9,7 +9,7 @@ use lib.Dec.{leb}
 use lib.IntN.{pos, negℤ, natAbs}
 use lib.ListN.{length}
 use borrow.Author.Tests.{ne-eqb, leb-true}
-use Rattle.prelude.specs.Finite.{and}
+use Rattle.prelude.specs.Finite.{_&&_}
 use Rattle.prelude.proofs.Tests.{and-left, and-right}
 use Rattle.game_tree.specs.Tree.{Tree, end, chance, decide, Trees, nil, cons}
 use Rattle.game_tree.specs.Conditions.{Pays, PaysAll}
@@ -28,10 +28,10 @@ use Rattle.leduc_tree.proofs.Growth.{Stands, leduc-follows}
 
 -- ---- a seat pays at most two raises of a round
 few-raises : List ℕ → Bool
-few-raises h = and (leb (raises-paid h 0) 2) (leb (raises-paid h 1) 2)
+few-raises h = leb (raises-paid h 0) 2 && leb (raises-paid h 1) 2
 
 all-few : all-of few-raises rounds ≡ true
-unfolding all-of few-raises rounds and put-in after-action
+unfolding all-of few-raises rounds _&&_ put-in after-action
 all-few = refl
 
 -- a seat that never acts pays none

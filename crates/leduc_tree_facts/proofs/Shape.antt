@@ -4,7 +4,7 @@ use mathlib.Core.Bool.{Bool, true, false}
 use mathlib.Core.List.{[]}
 use lib.Dec.{eqb}
 use borrow.Author.Tests.{eqb-true}
-use Rattle.prelude.specs.Finite.{and}
+use Rattle.prelude.specs.Finite.{_&&_}
 use Rattle.prelude.proofs.Tests.{true≢false, and-left, and-right}
 use Rattle.game_tree.specs.Tree.{Tree, end, chance, decide, Trees, nil, cons}
 use Rattle.game_tree.specs.Sets.{size}
@@ -21,13 +21,13 @@ unfoldable mutual
   shaped (chance f) (decide i l g) = false
   shaped (decide j k f) (end q) = false
   shaped (decide j k f) (chance g) = false
-  shaped (decide j k f) (decide i l g) = and (eqb j i) (shapedAll f g)
+  shaped (decide j k f) (decide i l g) = eqb j i && shapedAll f g
 
   pub shapedAll : Trees → Trees → Bool
   shapedAll nil nil = true
   shapedAll nil (cons u g) = false
   shapedAll (cons t f) nil = false
-  shapedAll (cons t f) (cons u g) = and (shaped t u) (shapedAll f g)
+  shapedAll (cons t f) (cons u g) = shaped t u && shapedAll f g
 
 mutual
   unfolding shaped bare
@@ -52,7 +52,7 @@ mutual
 -- ---- every hand of a tree has one shape
 -- the tree below a deal has the shape of u and 315 nodes
 unfoldable pub fits : Tree → Tree → Bool
-fits u t = and (shaped t u) (eqb (size t) 315)
+fits u t = shaped t u && eqb (size t) 315
 
 pub fits-sound : (u t : Tree) → fits u t ≡ true → (bare t ≡ bare u) × (size t ≡ 315)
 unfolding fits
@@ -61,7 +61,7 @@ fits-sound u t e = (shaped-sound t u (and-left _ _ e), eqb-true _ _ (and-right _
 -- a test of every tree of a row
 unfoldable pub every-tree : (Tree → Bool) → Trees → Bool
 every-tree p nil = true
-every-tree p (cons t f) = and (p t) (every-tree p f)
+every-tree p (cons t f) = p t && every-tree p f
 
 unfoldable pub children : Tree → Trees
 children (end p) = nil

@@ -10,7 +10,7 @@ use lib.Dec.{eqb, ltb}
 use lib.ListN.{length, getD, take, set, replicate, length-append, length-set, length-replicate, getD-replicate, List·getD-append}
 use lib.Seq.{length-take-le, getD-take, take-suc, getD-at, getD-set-same, getD-set-other, ext-getD}
 use borrow.Author.Tests.{eq-eqb, ne-eqb, eqb-true, eqb-false, lt-ltb, le-ltb, ltb-true}
-use Rattle.prelude.specs.Finite.{and, or, some, sum, those, has, places}
+use Rattle.prelude.specs.Finite.{_&&_, _||_, some, sum, those, has, places}
 use Rattle.prelude.proofs.Tests.{Tested, holds, fails, tested, iff, both, and-left-fails, and-right-fails, or-left, or-right, or-none, or-assoc, below-cases, some-same}
 
 -- ---- a front part
@@ -27,16 +27,16 @@ getD-within (x ∷ l) (suc i) d e h = getD-within l i d e (omega arith)
 
 -- ---- what stands in a list
 
-pub has-append : (c : ℕ) (xs ys : List ℕ) → has c (xs ++ ys) ≡ or (has c xs) (has c ys)
-unfolding has or
+pub has-append : (c : ℕ) (xs ys : List ℕ) → has c (xs ++ ys) ≡ (has c xs || has c ys)
+unfolding has _||_
 has-append c [] ys = refl
-has-append c (x ∷ xs) ys = ap (or (eqb x c)) (has-append c xs ys) ∙ or-assoc (eqb x c) (has c xs) (has c ys)
+has-append c (x ∷ xs) ys = ap (_||_ (eqb x c)) (has-append c xs ys) ∙ or-assoc (eqb x c) (has c xs) (has c ys)
 
 -- c stands in a front part if it stands at one of its places
 pub has-take : (c a : ℕ) (l : List ℕ) → a ≤ length l → has c (take a l) ≡ some a (λ i. eqb (getD l i 0) c)
 unfolding has some
 has-take c zero l h = refl
-has-take c (suc a) l h = ap (has c) (take-suc l a 0 h) ∙ has-append c (take a l) (getD l a 0 ∷ []) ∙ ap₂ or (has-take c a l (omega arith)) (or-none (eqb (getD l a 0) c))
+has-take c (suc a) l h = ap (has c) (take-suc l a 0 h) ∙ has-append c (take a l) (getD l a 0 ∷ []) ∙ ap₂ _||_ (has-take c a l (omega arith)) (or-none (eqb (getD l a 0) c))
 
 -- ---- the numbers below a bound of which a test holds
 
@@ -130,7 +130,7 @@ module _ (p : ℕ → Bool) where
       go (fails e) f = rw (those-passed n e) (f (rw (those-passed n e) at w))
 
   -- c stands there just if it is below the bound and the test holds of it
-  pub has-those : (c n : ℕ) → has c (those n p) ≡ and (ltb c n) (p c)
+  pub has-those : (c n : ℕ) → has c (those n p) ≡ (ltb c n && p c)
   unfolding those has
   has-those c zero = rw (le-ltb c 0 (omega arith)) (sym (and-left-fails (p c) refl))
   has-those c (suc n) = go (tested (p n)) (has-those c n)
@@ -138,16 +138,16 @@ module _ (p : ℕ → Bool) where
       wider : (c ≡ n → ⊥) → ltb c n ≡ ltb c (suc n)
       wider f = iff (λ t. let v = ltb-true c n t in lt-ltb c (suc n) (omega arith)) (λ t. let v = ltb-true c (suc n) t in lt-ltb c n (omega arith))
 
-      here : p n ≡ true → Tested (eqb c n) → or (and (ltb c n) (p c)) (or (eqb n c) false) ≡ and (ltb c (suc n)) (p c)
-      here e (holds t) = let q = eqb-true c n t in or-right (and (ltb c n) (p c)) (or-left false (eq-eqb n c (sym q))) ∙ sym (both (lt-ltb c (suc n) (omega arith)) (ap p q ∙ e))
-      here e (fails t) = let q = eqb-false c n t in ap (or (and (ltb c n) (p c))) (or-none (eqb n c) ∙ ne-eqb n c (λ z. q (sym z))) ∙ or-none (and (ltb c n) (p c)) ∙ ap (λ b. and b (p c)) (wider q)
+      here : p n ≡ true → Tested (eqb c n) → ((ltb c n && p c) || (eqb n c || false)) ≡ (ltb c (suc n) && p c)
+      here e (holds t) = let q = eqb-true c n t in or-right (ltb c n && p c) (or-left false (eq-eqb n c (sym q))) ∙ sym (both (lt-ltb c (suc n) (omega arith)) (ap p q ∙ e))
+      here e (fails t) = let q = eqb-false c n t in ap (_||_ (ltb c n && p c)) (or-none (eqb n c) ∙ ne-eqb n c (λ z. q (sym z))) ∙ or-none (ltb c n && p c) ∙ ap (λ b. b && p c) (wider q)
 
-      gone : p n ≡ false → Tested (eqb c n) → and (ltb c n) (p c) ≡ and (ltb c (suc n)) (p c)
+      gone : p n ≡ false → Tested (eqb c n) → (ltb c n && p c) ≡ (ltb c (suc n) && p c)
       gone e (holds t) = let q = eqb-true c n t in and-right-fails (ltb c n) (ap p q ∙ e) ∙ sym (and-right-fails (ltb c (suc n)) (ap p q ∙ e))
-      gone e (fails t) = ap (λ b. and b (p c)) (wider (eqb-false c n t))
+      gone e (fails t) = ap (λ b. b && p c) (wider (eqb-false c n t))
 
-      go : Tested (p n) → has c (those n p) ≡ and (ltb c n) (p c) → has c (those (suc n) p) ≡ and (ltb c (suc n)) (p c)
-      go (holds e) f = ap (has c) (those-kept n e) ∙ has-append c (those n p) (n ∷ []) ∙ ap (λ b. or b (or (eqb n c) false)) f ∙ here e (tested (eqb c n))
+      go : Tested (p n) → has c (those n p) ≡ (ltb c n && p c) → has c (those (suc n) p) ≡ (ltb c (suc n) && p c)
+      go (holds e) f = ap (has c) (those-kept n e) ∙ has-append c (those n p) (n ∷ []) ∙ ap (λ b. b || (eqb n c || false)) f ∙ here e (tested (eqb c n))
       go (fails e) f = ap (has c) (those-passed n e) ∙ f ∙ gone e (tested (eqb c n))
 
 -- ---- sums

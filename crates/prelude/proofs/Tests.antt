@@ -6,7 +6,7 @@ use native.Mathlib.Numerals.{add-one}
 use native.Mathlib.Omega.{arith}
 use lib.Dec.{ltb, eqb}
 use borrow.Author.Tests.{ltb-true, ltb-false, eq-eqb, eqb-true}
-use Rattle.prelude.specs.Finite.{and, or, some, every}
+use Rattle.prelude.specs.Finite.{_&&_, _||_, some, every}
 
 -- ---- a test and its value
 
@@ -36,78 +36,78 @@ eqb-iff a b c d f g = iff (λ p. eq-eqb c d (f (eqb-true a b p))) (λ p. eq-eqb 
 
 -- ---- and, or
 
-pub both : {a b : Bool} → a ≡ true → b ≡ true → and a b ≡ true
-unfolding and
+pub both : {a b : Bool} → a ≡ true → b ≡ true → (a && b) ≡ true
+unfolding _&&_
 both p q = rw (p, q)
 
-pub and-left : (a b : Bool) → and a b ≡ true → a ≡ true
-unfolding and
+pub and-left : (a b : Bool) → (a && b) ≡ true → a ≡ true
+unfolding _&&_
 and-left true b e = refl
 and-left false b e = e
 
-pub and-right : (a b : Bool) → and a b ≡ true → b ≡ true
-unfolding and
+pub and-right : (a b : Bool) → (a && b) ≡ true → b ≡ true
+unfolding _&&_
 and-right true b e = e
 and-right false b e = true≢false false e refl
 
-pub and-left-fails : {a : Bool} (b : Bool) → a ≡ false → and a b ≡ false
-unfolding and
+pub and-left-fails : {a : Bool} (b : Bool) → a ≡ false → (a && b) ≡ false
+unfolding _&&_
 and-left-fails b p = rw p
 
-pub and-right-fails : (a : Bool) {b : Bool} → b ≡ false → and a b ≡ false
-unfolding and
+pub and-right-fails : (a : Bool) {b : Bool} → b ≡ false → (a && b) ≡ false
+unfolding _&&_
 and-right-fails true q = q
 and-right-fails false q = refl
 
-pub and-all : (b : Bool) → and b true ≡ b
-unfolding and
+pub and-all : (b : Bool) → (b && true) ≡ b
+unfolding _&&_
 and-all true = refl
 and-all false = refl
 
 -- the first test is settled, and the second decides
-pub and-rest : {a : Bool} (b : Bool) → a ≡ true → and a b ≡ b
-unfolding and
+pub and-rest : {a : Bool} (b : Bool) → a ≡ true → (a && b) ≡ b
+unfolding _&&_
 and-rest b p = rw p
 
-pub or-rest : {a : Bool} (b : Bool) → a ≡ false → or a b ≡ b
-unfolding or
+pub or-rest : {a : Bool} (b : Bool) → a ≡ false → (a || b) ≡ b
+unfolding _||_
 or-rest b p = rw p
 
-pub or-left : {a : Bool} (b : Bool) → a ≡ true → or a b ≡ true
-unfolding or
+pub or-left : {a : Bool} (b : Bool) → a ≡ true → (a || b) ≡ true
+unfolding _||_
 or-left b p = rw p
 
-pub or-right : (a : Bool) {b : Bool} → b ≡ true → or a b ≡ true
-unfolding or
+pub or-right : (a : Bool) {b : Bool} → b ≡ true → (a || b) ≡ true
+unfolding _||_
 or-right true q = refl
 or-right false q = q
 
-pub or-none : (b : Bool) → or b false ≡ b
-unfolding or
+pub or-none : (b : Bool) → (b || false) ≡ b
+unfolding _||_
 or-none true = refl
 or-none false = refl
 
-pub or-assoc : (a b c : Bool) → or a (or b c) ≡ or (or a b) c
-unfolding or
+pub or-assoc : (a b c : Bool) → (a || (b || c)) ≡ ((a || b) || c)
+unfolding _||_
 or-assoc true b c = refl
 or-assoc false b c = refl
 
-pub neither : {a b : Bool} → a ≡ false → b ≡ false → or a b ≡ false
-unfolding or
+pub neither : {a b : Bool} → a ≡ false → b ≡ false → (a || b) ≡ false
+unfolding _||_
 neither p q = rw (p, q)
 
-pub or-false-left : (a b : Bool) → or a b ≡ false → a ≡ false
-unfolding or
+pub or-false-left : (a b : Bool) → (a || b) ≡ false → a ≡ false
+unfolding _||_
 or-false-left true b e = e
 or-false-left false b e = refl
 
-pub or-false-right : (a b : Bool) → or a b ≡ false → b ≡ false
-unfolding or
+pub or-false-right : (a b : Bool) → (a || b) ≡ false → b ≡ false
+unfolding _||_
 or-false-right true b e = true≢false true refl e
 or-false-right false b e = e
 
-pub or-cases : {A : Type 0} (a b : Bool) → or a b ≡ true → (a ≡ true → A) → (b ≡ true → A) → A
-unfolding or
+pub or-cases : {A : Type 0} (a b : Bool) → (a || b) ≡ true → (a ≡ true → A) → (b ≡ true → A) → A
+unfolding _||_
 or-cases true b e f g = f refl
 or-cases false b e f g = g e
 
@@ -157,7 +157,7 @@ none-passed i n p h k e = let q : n ≡ i = omega arith in rw q e
 pub some-same : (n : ℕ) (p q : ℕ → Bool) → ((i : ℕ) → i < n → p i ≡ q i) → some n p ≡ some n q
 unfolding some
 some-same zero p q f = refl
-some-same (suc n) p q f = ap₂ or (some-same n p q (λ i h. f i (omega arith))) (f n (omega arith))
+some-same (suc n) p q f = ap₂ _||_ (some-same n p q (λ i h. f i (omega arith))) (f n (omega arith))
 
 pub every-at : (n : ℕ) (p : ℕ → Bool) → every n p ≡ true → (i : ℕ) → i < n → p i ≡ true
 unfolding every

@@ -5,23 +5,25 @@ use Prim.Native.Nat.{ℕ, zero, suc, _+_}
 use lib.Dec.{eqb}
 use lib.IntN.{ℤ, pos, _+ℤ_}
 
-unfoldable pub and : Bool → Bool → Bool
-and true b = b
-and false b = false
+infixl 35 _&&_
+infixl 30 _||_
+unfoldable pub _&&_ : Bool → Bool → Bool
+true && b = b
+false && b = false
 
-unfoldable pub or : Bool → Bool → Bool
-or true b = true
-or false b = b
+unfoldable pub _||_ : Bool → Bool → Bool
+true || b = true
+false || b = b
 
 -- p holds of some number below n
 unfoldable pub some : ℕ → (ℕ → Bool) → Bool
 some zero p = false
-some (suc n) p = or (some n p) (p n)
+some (suc n) p = some n p || p n
 
 -- p holds of every number below n
 unfoldable pub every : ℕ → (ℕ → Bool) → Bool
 every zero p = true
-every (suc n) p = and (every n p) (p n)
+every (suc n) p = every n p && p n
 
 -- the sum of f over the numbers below n
 unfoldable pub sum : ℕ → (ℕ → ℕ) → ℕ
@@ -45,7 +47,7 @@ those (suc n) p = those n p ++ keep (p n) n
 -- x stands in the list
 unfoldable pub has : ℕ → List ℕ → Bool
 has x [] = false
-has x (y ∷ ys) = or (eqb y x) (has x ys)
+has x (y ∷ ys) = eqb y x || has x ys
 
 -- f at each of the numbers below n, in ascending order
 unfoldable pub places : {A : Type 0} → ℕ → (ℕ → A) → List A

@@ -7,7 +7,7 @@ use lib.Dec.{eqb, leb, ltb}
 use lib.ListN.{length}
 use Rattle.refusals.specs.Refusals.{Check, _refuses_, first}
 use Rattle.refusals.specs.Refusals as Refusals
-use Rattle.prelude.specs.Finite.{or}
+use Rattle.prelude.specs.Finite.{_||_}
 use Rattle.game_tree.specs.Sets.{size, setCount, setActions, entries}
 use Rattle.game_tree.specs.Table.{Table, addUp}
 use Rattle.games.specs.declared.Game.{Game}
@@ -36,7 +36,7 @@ seat-check g seat = leb (g .seats) seat refuses Refusals.seat
 
 -- 6: D, the parts per set
 abbrev pub parts-check : Game → ℕ → Check
-parts-check g D = or (eqb D 0) (ltb (mostParts g) D) refuses Refusals.parts
+parts-check g D = (eqb D 0 || ltb (mostParts g) D) refuses Refusals.parts
 
 -- 7: a table or a profile of n entries
 abbrev pub length-check : Game → ℕ → Check

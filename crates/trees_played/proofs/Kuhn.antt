@@ -9,7 +9,7 @@ use lib.Dec.{ltb}
 use lib.IntN.{ℤ, pos}
 use lib.ListN.{length, drop}
 use borrow.Author.Tests.{le-ltb, lt-ltb, ne-eqb}
-use Rattle.prelude.specs.Finite.{and, places}
+use Rattle.prelude.specs.Finite.{_&&_, places}
 use Rattle.prelude.proofs.Tests.{neither, and-right-fails}
 use Rattle.game_tree.specs.Tree.{Tree, end, chance, decide, Trees, nil, cons}
 use Rattle.game_tree.specs.Nodes.{nodeOf}
@@ -45,7 +45,7 @@ module _ (g : KuhnPoker) (least : 2 ≤ g .players) (most : g .players ≤ 10) w
     passes = reachable-by-moves n s .1 (z .within .0, z .within .1, z .reached)
 
     deal-accepted : (k : ℕ) → due n (cardsOf s) ≡ true → k < length (remaining n (cardsOf s)) → dealt g s k .refusal ≡ 0
-    unfolding deal-refusal and
+    unfolding deal-refusal _&&_
     deal-accepted k d l = moved-number (deal-refusal g s k) s _ ∙ rw (seats-in, passes, d, lt-ltb k (length (remaining n (cardsOf s))) l) refl
 
     deal-refused : (k : ℕ) → length (remaining n (cardsOf s)) ≤ k → dealt g s k .refusal ≡ 20

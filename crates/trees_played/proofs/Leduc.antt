@@ -9,7 +9,7 @@ use lib.Dec.{eqb, ltb}
 use lib.IntN.{ℤ, pos}
 use lib.ListN.{length, drop, replicate}
 use borrow.Author.Tests.{eq-eqb, le-ltb, lt-ltb, ltb-true, ltb-false, ne-eqb}
-use Rattle.prelude.specs.Finite.{and}
+use Rattle.prelude.specs.Finite.{_&&_}
 use Rattle.prelude.proofs.Tests.{Tested, holds, fails, tested, both, and-right-fails}
 use Rattle.game_tree.specs.Tree.{Tree, end, chance, decide, Trees, nil, cons}
 use Rattle.game_tree.specs.Nodes.{nodeOf}
@@ -53,7 +53,7 @@ module _ (s : LeducState) (z : Fit s) where
   passes = let (x, y, w) = z .within in reachable-by-moves s .1 (x, y, w, z .reached)
 
   deal-accepted : (k : ℕ) → due (cardsOf s) (s .public) (roundOne s) (roundTwo s) ≡ true → k < length (remaining (seenOf s)) → dealt s k .refusal ≡ 0
-  unfolding deal-refusal and
+  unfolding deal-refusal _&&_
   deal-accepted k d l = moved-number (deal-refusal s k) s _ ∙ rw (passes, d, lt-ltb k (length (remaining (seenOf s))) l) refl
 
   deal-refused : (k : ℕ) → length (remaining (seenOf s)) ≤ k → dealt s k .refusal ≡ 20

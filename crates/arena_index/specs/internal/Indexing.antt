@@ -5,7 +5,7 @@ use mathlib.Core.List.{List}
 use Prim.Native.Nat.{ℕ, suc, _+_, _-_, _%_}
 use lib.Dec.{eqb}
 use lib.ListN.{getD, set}
-use Rattle.prelude.specs.Finite.{and}
+use Rattle.prelude.specs.Finite.{_&&_}
 use Rattle.game_tree.specs.Tree.{Key, Tree}
 use Rattle.game_tree.specs.Conditions.{Every}
 use Rattle.game_tree.specs.Sets.{size, firstEntry}
@@ -14,7 +14,7 @@ use Rattle.arena.specs.internal.Index.{Kept, Coded, Indexed}
 
 -- word x is a decision, and the word at its set's code is 0
 unfoldable pub isNew : List ℕ → ℕ → ℕ → Bool
-isNew w nodes x = and (eqb (kindOf x) DECISION) (eqb (getD w (nodes + setOf x) 0) 0)
+isNew w nodes x = eqb (kindOf x) DECISION && eqb (getD w (nodes + setOf x) 0) 0
 
 -- such a word has its set entered
 pub record Met (nodes x entry : ℕ) (old new : List ℕ) (r : ℕ) : Type 0 where
@@ -23,7 +23,7 @@ pub record Met (nodes x entry : ℕ) (old new : List ℕ) (r : ℕ) : Type 0 whe
 
 -- word x is a decision, and the word at its set's code is not 0
 unfoldable pub isKnown : List ℕ → ℕ → ℕ → Bool
-isKnown w nodes x = and (eqb (kindOf x) DECISION) (not (eqb (getD w (nodes + setOf x) 0) 0))
+isKnown w nodes x = eqb (kindOf x) DECISION && not (eqb (getD w (nodes + setOf x) 0) 0)
 
 -- the first entry that stands at the code of word x
 abbrev pub entryOf : List ℕ → ℕ → ℕ → ℕ

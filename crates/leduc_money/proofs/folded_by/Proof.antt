@@ -9,14 +9,14 @@ use borrow.Author.Needs.{needs}
 use borrow.Author.Tests.{eq-eqb, ne-eqb}
 use lib.Dec.{eqb}
 use lib.ListN.{length, getD}
-use Rattle.prelude.specs.Finite.{some, and}
+use Rattle.prelude.specs.Finite.{some, _&&_}
 use Rattle.prelude.proofs.Tests.{some-none, none-more, none-passed, some-here}
 use Rattle.leduc_rules.specs.Rules.{folds}
 use Rattle.leduc_money.proofs.folded_by.Statement.{statement}
 use Rattle.leduc_money.proofs.folded_by.Tie as tie
 
 abbrev Inv-loop : tie.InvT-loop
-Inv-loop h seat i₀ i = (i ≤ length h) × (some i (λ k. and (eqb (k % 2) seat) (eqb (getD h k 0) 0)) ≡ false)
+Inv-loop h seat i₀ i = (i ≤ length h) × (some i (λ k. eqb (k % 2) seat && eqb (getD h k 0) 0) ≡ false)
 
 abbrev μ-loop : tie.MeasureT-loop
 μ-loop h seat i₀ i = length h - i

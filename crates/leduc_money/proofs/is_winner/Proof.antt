@@ -1,6 +1,6 @@
 -- Whether a seat wins against the other. Assumes nothing.
 use mathlib.Core.Path.{sym, _∙_}
-use Rattle.prelude.specs.Finite.{or}
+use Rattle.prelude.specs.Finite.{_||_}
 use Rattle.leduc_rules.specs.Rules.{wins}
 use borrow.Author.Needs.{needs}
 use Rattle.leduc_money.proofs.is_winner.Statement.{statement}
@@ -13,7 +13,7 @@ folded-in-requires : tie.Need-folded-in-requires
 folded-in-requires c κs = search needs
 
 returns : tie.Need-returns
-unfolding wins or
+unfolding wins _||_
 returns c = rw (sym c.before.before.has-fold.ensures ∙ c.before.if1.taken) c.folded-in.ensures
 
 has-fold-requires-2 : tie.Need-has-fold-requires-2
@@ -23,7 +23,7 @@ folded-in-requires-2 : tie.Need-folded-in-requires-2
 folded-in-requires-2 c κs = search needs
 
 returns-2 : tie.Need-returns-2
-unfolding wins or
+unfolding wins _||_
 returns-2 c = let s0 = c .before .before in
     rw (sym s0.before.before.has-fold.ensures ∙ s0.before.if1.left, sym s0.has-fold2.ensures ∙ c.before.if2.taken) c.folded-in2.ensures
 
@@ -31,7 +31,7 @@ is-stronger-requires : tie.Need-is-stronger-requires
 is-stronger-requires c κs = search needs
 
 returns-3 : tie.Need-returns-3
-unfolding wins or
+unfolding wins _||_
 returns-3 c = let s0 = c .before .before in
     rw (sym s0.before.before.has-fold.ensures ∙ s0.before.if1.left, sym s0.has-fold2.ensures ∙ c.before.if2.left) c.is-stronger.ensures
 

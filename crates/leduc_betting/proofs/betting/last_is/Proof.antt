@@ -2,18 +2,18 @@
 use borrow.Author.Tests.{le-ltb, lt-ltb}
 use native.Mathlib.Omega.{arith}
 use lib.ListN.{length}
-use Rattle.prelude.specs.Finite.{and}
+use Rattle.prelude.specs.Finite.{_&&_}
 use Rattle.leduc_betting.specs.Betting.{ends-with}
 use borrow.Author.Needs.{needs}
 use Rattle.leduc_betting.proofs.betting.last_is.Statement.{statement}
 use Rattle.leduc_betting.proofs.betting.last_is.Tie as tie
 
 returns : tie.Need-returns
-unfolding ends-with and
+unfolding ends-with _&&_
 returns c = rw (le-ltb 0 (length (c .before .args .h .now)) (omega arith))
 
 returns-2 : tie.Need-returns-2
-unfolding ends-with and
+unfolding ends-with _&&_
 returns-2 c = rw (lt-ltb 0 (length (c .before .before .args .h .now)) (omega arith))
 
 pub last-is-spec : {M : Type 1} → statement M

@@ -9,7 +9,7 @@ use native.Mathlib.Omega.{arith}
 use borrow.Author.Tests.{not-true, not-false}
 use lib.ListN.{length, take, drop}
 use lib.Seq.{length-take-le}
-use Rattle.prelude.specs.Finite.{and}
+use Rattle.prelude.specs.Finite.{_&&_}
 use Rattle.prelude.proofs.Tests.{and-left-fails}
 use borrow.Author.Needs.{needs}
 use Rattle.leduc_positions.proofs.state.is_reachable.Statement.{statement}
@@ -59,7 +59,7 @@ rounds-fit-requires : tie.Need-rounds-fit-requires
 rounds-fit-requires c κs = search needs
 
 returns-5 : tie.Need-returns-5
-unfolding and
+unfolding _&&_
 returns-5 c = let s0 = c .before .before .before .before .before .before in let a = s0 .before .before .before .before .before .before .args in
     let fit : cards-test a.state ≡ true = sym s0.before.cards-fit.ensures ∙ not-false _ s0.if4.left in
     let part : 4 + a.state.acted2 - 4 ≡ a.state.acted2 = omega arith in

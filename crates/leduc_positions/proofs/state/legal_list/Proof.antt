@@ -5,7 +5,7 @@ use mathlib.Core.List.{[]}
 use native.Mathlib.Omega.{arith}
 use lib.Dec.{eqb}
 use lib.ListN.{length}
-use Rattle.prelude.specs.Finite.{and}
+use Rattle.prelude.specs.Finite.{_&&_}
 use Rattle.leduc_rules.specs.Rules.{legal}
 use Rattle.leduc_betting.specs.Betting.{options, in-play, turn}
 use Rattle.leduc_positions.specs.Positions.{roundOne}
@@ -43,7 +43,7 @@ returns : tie.Need-returns
 unfolding legal
 returns c = let s0 = c .before .before .before .before .before in let a = s0 .before .args in (
   c.legal-in.ensures.0,
-  c.legal-in.ensures.1 ∙ ap₂ (λ b h₂. cond (and b (eqb a.agent (turn (roundOne a.state) h₂))) (options (in-play (roundOne a.state) h₂)) [])
+  c.legal-in.ensures.1 ∙ ap₂ (λ b h₂. cond (b && eqb a.agent (turn (roundOne a.state) h₂)) (options (in-play (roundOne a.state) h₂)) [])
       s0.seat-acts.ensures (second-part a.state.acted2 a.state.history),
 )
 

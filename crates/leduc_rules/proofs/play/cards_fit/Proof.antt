@@ -4,7 +4,7 @@ use mathlib.Core.Bool.{not}
 use native.Mathlib.Omega.{arith}
 use lib.ListN.{length}
 use lib.Seq.{length-take-le}
-use Rattle.prelude.specs.Finite.{and}
+use Rattle.prelude.specs.Finite.{_&&_}
 use borrow.Author.Needs.{needs}
 use Rattle.leduc_rules.proofs.play.cards_fit.Statement.{statement}
 use Rattle.leduc_rules.proofs.play.cards_fit.Tie as tie
@@ -24,14 +24,14 @@ card-outside-requires : tie.Need-card-outside-requires
 card-outside-requires c κs = search needs
 
 returns : tie.Need-returns
-unfolding and
+unfolding _&&_
 returns c = rw (← c.before.before.before.before.all-seen.ensures.1, sym c.before.card-outside.ensures ∙ c.if1.taken)
 
 card-twice-requires : tie.Need-card-twice-requires
 card-twice-requires c κs = search needs
 
 returns-2 : tie.Need-returns-2
-unfolding and
+unfolding _&&_
 returns-2 c = rw (← c.before.before.before.before.before.all-seen.ensures.1, sym c.before.before.card-outside.ensures ∙ c.before.if1.left)
     (ap not c.card-twice.ensures)
 

@@ -2,7 +2,7 @@
 use mathlib.Core.Path.{sym, ap, _∙_}
 use mathlib.Core.Bool.{not}
 use borrow.Author.Tests.{not-true, not-false}
-use Rattle.prelude.specs.Finite.{and}
+use Rattle.prelude.specs.Finite.{_&&_}
 use Rattle.prelude.proofs.Tests.{and-left-fails, and-right-fails}
 use Rattle.leduc_rules.specs.Rules.{public-due}
 use borrow.Author.Needs.{needs}
@@ -27,7 +27,7 @@ is-terminal-requires : tie.Need-is-terminal-requires
 is-terminal-requires c κs = search needs
 
 returns-3 : tie.Need-returns-3
-unfolding public-due and
+unfolding public-due _&&_
 returns-3 c = let s0 = c .before .before in rw (
   sym s0.before.before.is-hidden.ensures ∙ not-false s0.before.before.is-hidden.result s0.before.if1.left,
   sym s0.round-over.ensures ∙ not-false s0.round-over.result c.before.if2.left,

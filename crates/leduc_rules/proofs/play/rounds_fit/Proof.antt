@@ -5,7 +5,7 @@ use mathlib.Core.Path.{_≡_, sym, _∙_}
 use mathlib.Core.Bool.{true}
 use mathlib.Core.List.{[]}
 use borrow.Author.Tests.{eq-eqb, ne-eqb, not-true, not-false}
-use Rattle.prelude.specs.Finite.{and, or}
+use Rattle.prelude.specs.Finite.{_&&_, _||_}
 use Rattle.prelude.proofs.Tests.{and-left-fails, and-right-fails}
 use Rattle.leduc_betting.proofs.Checks.{played-first}
 use Rattle.prelude.proofs.Tests.{and-all}
@@ -35,9 +35,9 @@ returns-3 c = sym (and-right-fails _
     (λ e. c.if3.taken (c.before.round-refusal2.ensures ∙ e))))))
 
 returns-4 : tie.Need-returns-4
-unfolding and or
+unfolding _&&_ _||_
 returns-4 c = let s1 = c .before .before in let s0 = s1 .before .before in let a = s0 .before .before .before .before .before .args in
-    let fit : or a.full (eqb (length a.round1.now) 0) ≡ true = not-false _ (sym s0.before.before.early.ensures ∙ s0.before.if1.left) in rw (
+    let fit : (a.full || eqb (length a.round1.now) 0) ≡ true = not-false _ (sym s0.before.before.early.ensures ∙ s0.before.if1.left) in rw (
       fit,
       sym (played-first [] a.round1.now) ∙ eq-eqb _ _ (sym s0.round-refusal.ensures ∙ s1.before.if2.left),
       sym (played-first [] a.round2.now) ∙ eq-eqb _ _ (sym s1.round-refusal2.ensures ∙ c.before.if3.left),
@@ -48,10 +48,10 @@ round-over-requires : tie.Need-round-over-requires
 round-over-requires c κs = search needs
 
 returns-5 : tie.Need-returns-5
-unfolding and or
+unfolding _&&_ _||_
 returns-5 c = let s2 = c .before .before in let s1 = s2 .before .before in let s0 = s1 .before .before in
     let a = s0 .before .before .before .before .args in
-    let fit : or a.full (eqb (length a.round1.now) 0) ≡ true = not-false _ (sym s0.before.early.ensures ∙ s0.if1.left) in rw (
+    let fit : (a.full || eqb (length a.round1.now) 0) ≡ true = not-false _ (sym s0.before.early.ensures ∙ s0.if1.left) in rw (
       fit,
       sym (played-first [] a.round1.now) ∙ eq-eqb _ _ (sym s1.before.round-refusal.ensures ∙ s1.if2.left),
       sym (played-first [] a.round2.now) ∙ eq-eqb _ _ (sym s2.before.round-refusal2.ensures ∙ s2.if3.left),
