@@ -1,4 +1,4 @@
-// Leduc hold'em on cards and histories: the betting and the cards. The deal, the money and the checks over them are in the crate leduc_rules.
+// Leduc hold'em on cards and histories: the betting and the cards. The deal and the checks over them are in the crate leduc_rules, the money is in leduc_money.
 pub mod betting;
 pub mod cards;
 pub mod options;

@@ -1,4 +1,5 @@
-// The spots of Leduc's walk: a position in arrays, what the rules say of it, and it with one card or action more.
+// The spots of Leduc's walk: a position in arrays, what the rules say of it, and it with one card or action more. A spot is no LeducState: that has four places
+// for a round, which the rules alone say is enough; a spot has places for all moves of a hand in either round, so that counting moves is enough.
 use leduc_betting::Public;
 use leduc_betting::betting::is_legal;
 use leduc_betting::betting::is_terminal;
@@ -21,7 +22,8 @@ ghost use Rattle.leduc_tree.specs.Turns.{isFirst};
 ghost use Rattle.listing_records.specs.Listing.{padded};
 ghost use Rattle.leduc_listing_positions.specs.internal.Spots.{placed, made, Room};
 
-// A position of the walk: the seats' cards, the public card, and the actions of each round, with places for as many as a hand has moves.
+// A position of the walk: the seats' cards, the public card, and the actions of each round, with places for as many as a hand has moves: 11, the first card
+// and the LATER_MOVES of the crate leduc_listing.
 pub struct Spot {
     pub cards: [u8; 2],
     pub dealt: usize,

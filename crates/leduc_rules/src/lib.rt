@@ -1,5 +1,5 @@
 // Leduc hold'em on cards and histories: what the rules say of them.
-// The money is computed in the crate leduc_money; positions and the calls on them are in the crate leduc.
+// The money is computed in the crate leduc_money; positions are in the crate leduc_positions, the calls on them in the crate leduc.
 pub mod play;
 pub mod saved;
 

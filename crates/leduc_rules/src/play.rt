@@ -1,4 +1,4 @@
-// The play: which cards and actions can have come about, when a card is due and when a seat acts.
+// The play: which cards and actions can have come about, and when a card is due.
 use leduc_betting::Public;
 use leduc_betting::betting::is_terminal;
 use leduc_betting::betting::round_over;

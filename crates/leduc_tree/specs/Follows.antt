@@ -1,4 +1,4 @@
--- The positions of a tree's nodes, and what it is for a tree to follow Leduc's rules from a position, without fuel.
+-- What it is for a tree to follow Leduc's rules from a position, without fuel.
 -- Definitions only; nothing is assumed. cs are the seats' cards, p the public card, h₁ and h₂ the histories of the rounds.
 use mathlib.Core.Path.{_≡_}
 use mathlib.Core.Bool.{true}

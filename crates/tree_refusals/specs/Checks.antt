@@ -54,25 +54,25 @@ output-check n room = ltb room n refuses Refusals.output
 abbrev pub tree-checks : Game → (memory : ℕ) → List Check
 tree-checks g memory = game-check g ∷ seats-check g ∷ tree-check g ∷ memory-check g memory ∷ []
 
--- a listing into an output, 24 bytes for each set
+-- a listing into an output, 24 bytes for each set (enumerate_infosets)
 abbrev pub listing-checks : Game → (memory room : ℕ) → List Check
 listing-checks g memory room = tree-checks g memory ++ (output-check (24 * setCount (treeOf g)) room ∷ [])
 
--- all seats of a table
+-- all seats of a table (worths, nash_conv_units)
 abbrev pub evaluation-checks : Game → (memory D : ℕ) → Table → List Check
 evaluation-checks g memory D table = tree-checks g memory ++ (parts-check g D ∷ length-check g (length table) ∷ sum-check g D table ∷ [])
 
--- one seat of a table, into an output for a table
+-- one seat of a table, into an output for a table (best_reply)
 abbrev pub reply-checks : Game → (memory seat D : ℕ) → Table → (room : ℕ) → List Check
 reply-checks g memory seat D table room =
     tree-checks g memory ++ (seat-check g seat ∷ parts-check g D ∷ length-check g (length table) ∷ sum-check g D table
     ∷ output-check (entries (treeOf g)) room ∷ [])
 
--- one seat of a profile of n entries
+-- one seat of a profile of n entries (best_response_value)
 abbrev pub value-checks : Game → (memory seat n : ℕ) → List Check
 value-checks g memory seat n = tree-checks g memory ++ (seat-check g seat ∷ length-check g n ∷ [])
 
--- all seats of one
+-- all seats of a profile of n entries (best_response_values, profile_values, nash_conv, exploitability)
 abbrev pub values-checks : Game → (memory n : ℕ) → List Check
 values-checks g memory n = tree-checks g memory ++ (length-check g n ∷ [])
 

@@ -21,7 +21,7 @@ ghost use Rattle.tree_refusals.specs.Checks.{listing-checks, evaluation-
 ghost use Rattle.tree_refusals.specs.Accepted.{AcceptedTable};
 ghost use Rattle.tree_refusals.specs.internal.Accepted.{AcceptedProfile};
 
-// What refuses a listing into an output of room bytes, with so many words of work memory: 1 to 4, then 9.
+// What refuses a listing into an output of room bytes, with so many words of work memory (enumerate_infosets): 1 to 4, then 9.
 pub fn listing_refusal(g: Game, memory: usize, room: usize) -> u64
     ensures { λ r. ⌜ Settled (listing-checks g memory room) (Known g × (24 * setCount (treeOf g) ≤ room)) r ⌝ }
 {
@@ -32,7 +32,7 @@ pub fn listing_refusal(g: Game, memory: usize, room: usize) -> u64
     output_refusal(listing_records::RECORD * g.sets(), room)
 }
 
-// What refuses a call that evaluates all seats of a table with d parts in each set: 1 to 4, then 6 to 8.
+// What refuses a call that evaluates all seats of a table with d parts in each set (worths, nash_conv_units): 1 to 4, then 6 to 8.
 pub fn evaluation_refusal(g: Game, memory: usize, d: usize, table: &[u8]) -> u64
     ensures { λ r. ⌜ Settled (evaluation-checks g memory d (now (table .entry)))
         (AcceptedTable g d (now (table .entry)) × (12 * nodesOf g ≤ memory)) r ⌝ }
@@ -45,7 +45,7 @@ pub fn evaluation_refusal(g: Game, memory: usize, d: usize, table: &[u8]) -> u64
     earlier(refusal, table_refusal(g, d, table))
 }
 
-// What refuses a call that evaluates one seat of a table into an output of room bytes: 1 to 9.
+// What refuses a call that evaluates one seat of a table into an output of room bytes (best_reply): 1 to 9.
 pub fn reply_refusal(
     g: Game,
     memory: usize,
@@ -67,7 +67,7 @@ pub fn reply_refusal(
     earlier(refusal, output_refusal(g.entries(), room))
 }
 
-// What refuses a call that evaluates one seat of a profile: 1 to 5, then 7.
+// What refuses a call that evaluates one seat of a profile (best_response_value): 1 to 5, then 7.
 pub fn value_refusal(g: Game, memory: usize, seat: usize, profile: &[f64]) -> u64
     ensures { λ r. ⌜ Settled (value-checks g memory seat (length (now (profile .entry))))
         (AcceptedProfile g (now (profile .entry)) × (12 * nodesOf g ≤ memory) × (seat < g .seats)) r ⌝ }
@@ -80,7 +80,7 @@ pub fn value_refusal(g: Game, memory: usize, seat: usize, profile: &[f64]) -> u6
     earlier(refusal, length_refusal(g, profile.len()))
 }
 
-// What refuses a call that evaluates all its seats: 1 to 4, then 7.
+// What refuses a call that evaluates all seats of a profile (best_response_values, profile_values, nash_conv, exploitability): 1 to 4, then 7.
 pub fn values_refusal(g: Game, memory: usize, profile: &[f64]) -> u64
     ensures { λ r. ⌜ Settled (values-checks g memory (length (now (profile .entry))))
         (AcceptedProfile g (now (profile .entry)) × (12 * nodesOf g ≤ memory)) r ⌝ }

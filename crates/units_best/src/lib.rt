@@ -22,7 +22,7 @@ ghost use Rattle.units_best.specs.internal.Best.{Unbeaten};
 ghost use Rattle.units_best.specs.Best.{BestReply};
 ghost use Rattle.units_best.specs.internal.Staged.{Staged};
 
-// The best value of a seat against a table that is not refused.
+// The best value of a seat against a table that is not refused. From at.reach on stand the units of each node.
 pub fn best_value(g: Game, words: &mut [u64], seat: usize, d: usize, table: &[u8]) -> i64
     requires { ⌜ Stored g (now words) × AcceptedTable g d (now table) × (seat < g .seats) × (12 * nodesOf g ≤ length (now words)) ⌝ }
     ensures { λ r. ⌜ (r ≡ tableBest (treeOf g) d (rootUnits g d) (now (table .entry)) seat) × Unbeaten g d seat (now (table .entry)) r

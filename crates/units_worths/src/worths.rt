@@ -48,7 +48,8 @@ fn lowered_all(sums: Sums, u: u64, n: usize) -> [i64; 6]
     out
 }
 
-// The worths of a table that is not refused, where the game's tree is stored. For nobody's reply the units of each node are those of the table.
+// The worths of a table that is not refused, where the game's tree is stored. For nobody's reply the units of each node are those of the table; they stand
+// from at.reach on.
 pub fn table_worths(g: Game, words: &mut [u64], d: usize, table: &[u8]) -> [i64; 6]
     requires { ⌜ Stored g (now words) × AcceptedTable g d (now table) × (12 * nodesOf g ≤ length (now words)) ⌝ }
     ensures { λ r. ⌜ (r ≡ worthsOf g d (now (table .entry))) × Stored g (now (words .exit)) ⌝ }
