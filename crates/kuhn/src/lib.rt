@@ -7,7 +7,10 @@ use kuhn_positions::checks::is_over;
 use kuhn_positions::checks::position_refusal;
 use kuhn_positions::checks::saved_refusal;
 use kuhn_positions::checks::seats_outside;
+use kuhn_positions::with_action;
+use kuhn_positions::with_card;
 ghost use mathlib.Core.Path.{_≡_};
+ghost use mathlib.Core.List.{[], _∷_};
 ghost use Prim.Native.Nat.{_≤_, _<_};
 ghost use lib.ListN.{length, take};
 ghost use Rattle.kuhn_positions.specs.Positions.{position-checks};
@@ -42,6 +45,9 @@ pub struct Payoffs {
 }
 
 impl KuhnPoker {
+    // The game's number in a call over a tree.
+    pub const NUMBER: usize = 0;
+
     pub const PASS: u8 = kuhn_betting::PASS;
 
     pub const BET: u8 = kuhn_betting::BET;
@@ -57,6 +63,23 @@ impl KuhnPoker {
     pub const ANTE: u64 = kuhn_money::ANTE;
 
     pub const STAKE: u64 = kuhn_money::STAKE;
+
+    // Document 01's numbers, which the constants have: the game, actions, seats, places of a position, stakes.
+    fn constants() -> [u64; 9]
+        ensures { λ r. ⌜ r ≡ 0 ∷ 0 ∷ 1 ∷ 2 ∷ 10 ∷ 10 ∷ 19 ∷ 1 ∷ 1 ∷ [] ⌝ }
+    {
+        [
+            Self::NUMBER as u64,
+            Self::PASS as u64,
+            Self::BET as u64,
+            Self::LEAST_SEATS as u64,
+            Self::MOST_SEATS as u64,
+            Self::CARDS as u64,
+            Self::ACTIONS as u64,
+            Self::ANTE,
+            Self::STAKE,
+        ]
+    }
 
     // Number 2: the seat count is outside 2 to 10.
     pub fn validate(self) -> u64
@@ -85,7 +108,7 @@ impl KuhnPoker {
         if refusal != refusals::ACCEPTED {
             return Moved { refusal, state };
         }
-        let next = state.with_action(action);
+        let next = with_action(state, action);
         Moved {
             refusal,
             state: next,
@@ -115,7 +138,7 @@ impl KuhnPoker {
         }
         let cards = state.cards;
         let card = kuhn_cards::nth_remaining(&cards, state.dealt, self.players, outcome);
-        let next = state.with_card(card);
+        let next = with_card(state, card);
         Moved {
             refusal,
             state: next,

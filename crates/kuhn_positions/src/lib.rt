@@ -35,32 +35,32 @@ impl KuhnState {
             acted: 0,
         }
     }
+}
 
-    // One card more.
-    pub fn with_card(self, card: usize) -> Self
-        requires { ⌜ (self .dealt < 10) × (card ≤ 10) ⌝ }
-        ensures { λ r. ⌜ r ≡ with-card self card ⌝ }
-    {
-        let mut next = self;
-        let at = self.dealt;
-        let byte = card as u8;
-        next.cards[at] = byte;
-        next.dealt = at + 1;
-        next
-    }
+// One card more.
+pub fn with_card(state: KuhnState, card: usize) -> KuhnState
+    requires { ⌜ (state .dealt < 10) × (card ≤ 10) ⌝ }
+    ensures { λ r. ⌜ r ≡ with-card state card ⌝ }
+{
+    let mut next = state;
+    let at = state.dealt;
+    let byte = card as u8;
+    next.cards[at] = byte;
+    next.dealt = at + 1;
+    next
+}
 
-    // One action more.
-    pub fn with_action(self, action: usize) -> Self
-        requires { ⌜ self .acted < 19 ⌝ }
-        ensures { λ r. ⌜ r ≡ with-action self (counted action) ⌝ }
-    {
-        let mut next = self;
-        let at = self.acted;
-        let byte = as_action(action);
-        next.history[at] = byte;
-        next.acted = at + 1;
-        next
-    }
+// One action more.
+pub fn with_action(state: KuhnState, action: usize) -> KuhnState
+    requires { ⌜ state .acted < 19 ⌝ }
+    ensures { λ r. ⌜ r ≡ with-action state (counted action) ⌝ }
+{
+    let mut next = state;
+    let at = state.acted;
+    let byte = as_action(action);
+    next.history[at] = byte;
+    next.acted = at + 1;
+    next
 }
 
 // Every action above 1 counts as a bet.

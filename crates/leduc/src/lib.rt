@@ -18,6 +18,7 @@ use leduc_positions::state::step_action;
 use leduc_positions::state::with_action;
 use leduc_positions::state::with_card;
 ghost use mathlib.Core.Path.{_≡_};
+ghost use mathlib.Core.List.{[], _∷_};
 ghost use lib.IntN.{pos};
 ghost use lib.ListN.{length, replicate};
 ghost use Rattle.leduc_positions.specs.Positions.{legal-of};
@@ -48,6 +49,9 @@ pub struct Payoffs {
 }
 
 impl LeducPoker {
+    // The game's number in a call over a tree.
+    pub const NUMBER: usize = 1;
+
     pub const FOLD: u8 = leduc_betting::FOLD;
 
     pub const CALL: u8 = leduc_betting::CALL;
@@ -67,6 +71,25 @@ impl LeducPoker {
     pub const RAISE_ONE: usize = leduc_rules::RAISE_ONE;
 
     pub const RAISE_TWO: usize = leduc_rules::RAISE_TWO;
+
+    // Document 01's numbers, which the constants have: the game, actions, cards, raises a round, seats, actions a round, stakes.
+    fn constants() -> [u64; 11]
+        ensures { λ r. ⌜ r ≡ 1 ∷ 0 ∷ 1 ∷ 2 ∷ 6 ∷ 2 ∷ 2 ∷ 4 ∷ 1 ∷ 2 ∷ 4 ∷ [] ⌝ }
+    {
+        [
+            Self::NUMBER as u64,
+            Self::FOLD as u64,
+            Self::CALL as u64,
+            Self::RAISE as u64,
+            Self::DECK as u64,
+            Self::RAISES as u64,
+            Self::SEATS as u64,
+            Self::ROUND as u64,
+            Self::ANTE as u64,
+            Self::RAISE_ONE as u64,
+            Self::RAISE_TWO as u64,
+        ]
+    }
 
     // Start: the initial position.
     pub fn initial_state() -> Moved

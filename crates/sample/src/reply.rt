@@ -4,7 +4,7 @@ use crate::words::say_action;
 use crate::words::say_actions;
 use crate::words::say_number;
 use crate::words::wide;
-use games::Game;
+use kuhn::KuhnPoker;
 use kuhn::KuhnPoker;
 use replay::print_whole;
 
@@ -52,7 +52,7 @@ fn at(bytes: &[u8], i: usize) -> u8 {
 
 // What the table is worth to both seats.
 fn say_worths(work: &mut [u64], table: &[u8]) {
-    let answer = worths::worths(Game::KUHN, SEATS, work, PARTS, table);
+    let answer = worths::worths(KuhnPoker::NUMBER, SEATS, work, PARTS, table);
     let each = answer.worths;
     say(b"The table is worth ");
     print_whole(each[0]);
@@ -63,7 +63,7 @@ fn say_worths(work: &mut [u64], table: &[u8]) {
 
 // What a seat gets by its best reply, which is left in out.
 fn say_best(work: &mut [u64], table: &[u8], seat: usize, out: &mut [u8]) {
-    let answer = best_reply::best_reply(Game::KUHN, SEATS, work, seat, PARTS, table, out);
+    let answer = best_reply::best_reply(KuhnPoker::NUMBER, SEATS, work, seat, PARTS, table, out);
     say(b"The best reply of seat ");
     say_number(seat as u64);
     say(b" is worth ");
@@ -106,7 +106,7 @@ fn say_set(record: &[u8], pass: u8) {
 // What seat 0 does in each of its sets.
 fn say_reply(work: &[u64], reply: &[u8]) {
     let mut sets = [0u8; 288];
-    listing::enumerate_infosets(Game::KUHN, SEATS, work, &mut sets);
+    listing::enumerate_infosets(KuhnPoker::NUMBER, SEATS, work, &mut sets);
     let mut set = 0;
     while set < SETS {
         let from = RECORD * set;

@@ -78,6 +78,8 @@ pub struct Graph {
     pub calls: Vec<Call>,
     /// The crates whose public functions are public calls.
     pub interface: BTreeSet<String>,
+    /// The types and functions of other crates that these show as their own, by crate and name.
+    pub shown: BTreeSet<(String, String)>,
 }
 
 #[derive(Clone, Debug)]
@@ -432,7 +434,9 @@ pub fn graph(files: &Files) -> Result<Graph, String> {
     for (path, text) in files.below("crates", "antt").filter(|(path, _)| path.split('/').nth(2) == Some("specs")) {
         modules.modules.insert(path.to_string(), module(path, text)?);
     }
-    let mut graph = Graph { definitions: BTreeMap::new(), calls: Vec::new(), interface: interface(files)? };
+    let interface = interface(files)?;
+    let shown = shown(files, &interface)?;
+    let mut graph = Graph { definitions: BTreeMap::new(), calls: Vec::new(), interface, shown };
     for (path, found) in &modules.modules {
         let text: Vec<&str> = files.text(path)?.lines().collect();
         let names = modules.own_names(path, found)?;
@@ -480,7 +484,23 @@ fn interface(files: &Files) -> Result<BTreeSet<String>, String> {
     Ok(interface)
 }
 
-/// The functions of a file. Public are those of the interface that Rust lets another crate call, and the exports.
+/// What the crates of the interface show of others by `pub use`.
+fn shown(files: &Files, interface: &BTreeSet<String>) -> Result<BTreeSet<(String, String)>, String> {
+    let mut shown = BTreeSet::new();
+    for of in interface {
+        for (path, text) in files.below(&format!("crates/{of}/src"), "rt") {
+            for item in items(path, text)?.iter().filter(|item| item.public) {
+                let Form::Use(used) = &item.form else { continue };
+                if let (Some(home), Some(name)) = (used.split("::").next(), used.rsplit("::").next()) {
+                    shown.insert((home.to_string(), name.to_string()));
+                }
+            }
+        }
+    }
+    Ok(shown)
+}
+
+/// The functions of a file. Public are those of the interface that Rust lets another crate call, what it shows of other crates, and the exports.
 fn calls(modules: &Modules, of: &str, path: &str, text: &str, graph: &mut Graph) -> Result<(), String> {
     let found = items(path, text)?;
     let mut uses = Vec::new();
@@ -491,13 +511,14 @@ fn calls(modules: &Modules, of: &str, path: &str, text: &str, graph: &mut Graph)
     }
     let names = modules.names(path, &uses, &LOGIC)?;
     let inside = found.iter().flat_map(|item| match &item.form {
-        Form::Impl(_, items) => items.iter().collect::<Vec<_>>(),
-        _ => vec![item],
+        Form::Impl(head, items) => items.iter().map(|item| (Some(head), item)).collect::<Vec<_>>(),
+        _ => vec![(None, item)],
     });
     let open = graph.interface.contains(of) && is_open(modules.files, of, path)?;
-    for item in inside {
+    for (head, item) in inside {
         let Form::Function(function) = &item.form else { continue };
-        let public = item.public && (open || function.abi.is_some());
+        let shown = graph.shown.contains(&(of.to_string(), head.unwrap_or(&function.name).clone()));
+        let public = item.public && (open || shown || function.abi.is_some());
         graph.calls.push(call(modules, &names, &format!("{of}: {}", function.name), path, item, public)?);
     }
     Ok(())

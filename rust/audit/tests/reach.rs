@@ -132,6 +132,20 @@ fn the_interface_is_what_the_exports_name() {
     assert_eq!(public(&small().with(root, "mod calls;\n").with("crates/chukkanalli/src/calls.rt", export)), 2);
 }
 
+#[test]
+fn what_the_interface_shows_of_another_crate_is_public() {
+    let position = "pub struct Position {}\nimpl Position {\n    pub fn more(self) -> u64\n        requires { ⌜ self ⌝ }\n        ensures { λ r. ⌜ r ⌝ }\n    { 1 }\n}\n";
+    let below = small().with("crates/rules/src/lib.rt", position);
+    let asks = |files: &Files| {
+        let complaints = report(files).expect("it can be read").complaints;
+        complaints.iter().any(|complaint| complaint.contains("rules: more is public, and asks something"))
+    };
+    assert!(!asks(&below));
+    let shown = below.replaced(PUBLIC, "pub fn call", "pub use rules::Position;\npub fn call");
+    assert!(asks(&shown));
+    assert!(!asks(&shown.replaced(PUBLIC, "pub use rules::Position;", "use rules::Position;")));
+}
+
 /// A copy that is damaged so has a complaint that says this.
 #[track_caller]
 fn complains(files: &Files, said: &str) {

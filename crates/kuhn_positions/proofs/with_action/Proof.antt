@@ -3,8 +3,8 @@ use Prim.Native.Nat.{_+_}
 use mathlib.Core.Path.{ap}
 use borrow.Author.Needs.{needs}
 use lib.ListN.{set}
-use Rattle.kuhn_positions.proofs.KuhnState.with_action.Statement.{statement}
-use Rattle.kuhn_positions.proofs.KuhnState.with_action.Tie as tie
+use Rattle.kuhn_positions.proofs.with_action.Statement.{statement}
+use Rattle.kuhn_positions.proofs.with_action.Tie as tie
 
 as-action-requires : tie.Need-as-action-requires
 as-action-requires c κs = search needs
@@ -18,7 +18,7 @@ add-next c = search needs
 returns : tie.Need-returns
 returns c = let args = c .before .args in
     ap (λ a.
-    record { cards = args.self.cards; dealt = args.self.dealt; history = set args.self.history args.self.acted a; acted = args.self.acted + 1 })
+    record { cards = args.state.cards; dealt = args.state.dealt; history = set args.state.history args.state.acted a; acted = args.state.acted + 1 })
     c.as-action.ensures
 
 pub with-action-spec : {M : Type 1} → statement M
