@@ -1,17 +1,15 @@
 -- The statements of specs/Shaped.antt, each by its proof. Assumes nothing.
 use mathlib.Core.Path.{_≡_, refl, sym, subst, _∙_}
-use Prim.Native.Nat.{ℕ, _+_, _-_, _≤_}
+use Prim.Native.Nat.{ℕ, _+_, _≤_}
 use native.Mathlib.Omega.{arith}
 use lib.Dec.{eqb}
 use borrow.Author.Tests.{eq-eqb, ne-eqb, eqb-true, eqb-false}
 use Rattle.prelude.proofs.Tests.{Tested, holds, fails, tested}
 use Rattle.game_tree.specs.Tree.{Key, Tree}
 use Rattle.game_tree.specs.Conditions.{Every}
-use Rattle.game_tree.specs.Sets.{size, sets, entries, firstEntry}
+use Rattle.game_tree.specs.Sets.{size, entries, firstEntry}
 use Rattle.game_tree.specs.Shape.{Levels, SameActions, SameHeights}
 use Rattle.game_tree.proofs.Against.{every-both}
-use Rattle.game_tree.proofs.Sets.{Stands, sets-stand}
-use Rattle.game_tree.proofs.Tables.{seats-at}
 use Rattle.kuhn_tree.specs.Tree as Kuhn
 use Rattle.kuhn_tree.specs.Counts.{kuhnNodes}
 use Rattle.kuhn_tree.proofs.Facts as Kuhn-proofs
@@ -25,18 +23,15 @@ use Rattle.games.specs.Known.{Known}
 use Rattle.games.proofs.Facts.{nodes-are, games-fit}
 use Rattle.games.proofs.Known.{kuhn-two, kuhn-six, leduc-two}
 use Rattle.arena.specs.internal.Legible.{Entered}
+use Rattle.arena_walks.proofs.Standing.{entries-inside}
 use Rattle.arena_store.specs.internal.Shaped.{Shaped, Games-shaped, Games-legible}
 use Rattle.arena_store.proofs.Levels.{deep-levels, more-levels}
 
 -- ---- where the entries of a set stand
 module _ (t : Tree) (h : SameActions t) (f : Every (λ j k n. (2 ≤ n) × (n ≤ 3)) t) where
-  entries-inside : Every (λ j k n. firstEntry t j k + n ≤ entries t) t
-  entries-inside = every-both (λ j k n. Stands j k n (sets t)) (λ j k n. (2 ≤ n) × (n ≤ 3)) (λ j k n. firstEntry t j k + n ≤ entries t)
-      (λ j k n s (a, b). let l = seats-at j k n (sets t) s (n - 1) (omega arith) .1 in omega arith) t (sets-stand t h) f
-
   all-entered : (E : ℕ) → E ≡ entries t → Every (Entered t E) t
   all-entered E e = every-both (λ j k n. (2 ≤ n) × (n ≤ 3)) (λ j k n. firstEntry t j k + n ≤ entries t) (Entered t E)
-      (λ j k n (a, b) i. (a, b, omega arith)) t f entries-inside
+      (λ j k n (a, b) i. (a, b, omega arith)) t f (entries-inside t h f)
 
 -- ---- the games' trees
 module _ (g : Game) (a : Known g) where

@@ -1,14 +1,17 @@
 -- A tree that stands, its children and its words. Assumes nothing.
 use mathlib.Core.Path.{_≡_}
 use mathlib.Core.List.{List}
-use Prim.Native.Nat.{ℕ, suc, pred, _+_, _≤_, _<_}
+use Prim.Native.Nat.{ℕ, suc, pred, _+_, _-_, _≤_, _<_}
 use native.Mathlib.Nat as NatL
 use native.Mathlib.Omega.{arith}
 use lib.ListN.{getD}
 use Rattle.game_tree.specs.Tree.{Key, Tree, end, chance, decide, Trees, cons}
 use Rattle.game_tree.specs.Conditions.{Every}
-use Rattle.game_tree.specs.Shape.{Levels}
-use Rattle.game_tree.specs.Sets.{size, entries, firstEntry}
+use Rattle.game_tree.specs.Shape.{Levels, SameActions}
+use Rattle.game_tree.specs.Sets.{size, sets, entries, firstEntry}
+use Rattle.game_tree.proofs.Against.{every-both}
+use Rattle.game_tree.proofs.Sets.{Stands, sets-stand}
+use Rattle.game_tree.proofs.Tables.{seats-at}
 use Rattle.game_tree.proofs.Entries.{entry-inside}
 use Rattle.arena.specs.internal.Held.{Held, HeldAll}
 use Rattle.arena.specs.internal.Index.{laterIn}
@@ -21,6 +24,12 @@ unfolding Levels
 levels-some v d (end p) h = h
 levels-some v d (chance f) h = h .0
 levels-some v d (decide j k f) h = h .0
+
+-- where the entries of a set stand
+module _ (t : Tree) (h : SameActions t) (f : Every (λ j k n. (2 ≤ n) × (n ≤ 3)) t) where
+  pub entries-inside : Every (λ j k n. firstEntry t j k + n ≤ entries t) t
+  entries-inside = every-both (λ j k n. Stands j k n (sets t)) (λ j k n. (2 ≤ n) × (n ≤ 3)) (λ j k n. firstEntry t j k + n ≤ entries t)
+      (λ j k n s (a, b). let l = seats-at j k n (sets t) s (n - 1) (omega arith) .1 in omega arith) t (sets-stand t h) f
 
 module _ {i h k : ℕ} (S : Stage i h k) where
   -- the children of a node
@@ -56,6 +65,10 @@ module _ {i h k : ℕ} (S : Stage i h k) where
   -- a set's first entry is one of the table's
   pub inside : (j : ℕ) (y : Key) (n : ℕ) → Known S j y n → firstEntry (S .tree) j y < entries (S .tree)
   inside j y n g = entry-inside (S .tree) some (j, y, n) g
+
+  -- and so are all of its entries
+  pub set-inside : (j : ℕ) (y : Key) (n : ℕ) → Known S j y n → firstEntry (S .tree) j y + n ≤ entries (S .tree)
+  set-inside j y n g = known-of (λ j k n. firstEntry (S .tree) j k + n ≤ entries (S .tree)) (entries-inside (S .tree) (S .actions) (S .few)) j y n g
 
   -- all decisions of a set have as many actions, two or three
   pub same-fan : (j : ℕ) (y : Key) (m n : ℕ) → Known S j y m → Known S j y n → (m ≡ n) × (2 ≤ n) × (n ≤ 3)

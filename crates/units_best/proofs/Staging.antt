@@ -200,7 +200,7 @@ module _ (g : Game) (D i : ℕ) (table : Table) (a : AcceptedTable g D table) (l
   module _ (y : List ℕ) (x : Staged g D i table y) where
     tabled : Tabled (x .scene) table D
     unfolding strategyOf
-    tabled = record { strategy = λ j k b. ap (λ f. f j k b) (x .strategy) ∙ ap (λ f. getD table (firstEntry f j k + b) 0) (sym (x .tree)); parts = x .parts }
+    tabled = record { strategy = λ j k b. ap (λ f. f j k b) (x .strategy) ∙ ap (λ f. getD table (firstEntry f j k + b) 0) (sym (x .tree)); parts = x .parts; long = subst (λ t. entries t ≤ length table) (sym (x .tree)) (omega (arith, a .valid .0)) }
 
     -- the table of the reply, by what it depends on
     abbrev by : Tree → ℕ → Choice → Strategy → Table

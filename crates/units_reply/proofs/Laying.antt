@@ -3,14 +3,15 @@ use mathlib.Core.Path.{_≡_, refl, sym, ap, _∙_, subst}
 use mathlib.Core.Logic.{inl, inr}
 use mathlib.Core.Bool.{false, cond}
 use mathlib.Core.List.{List, [], _∷_, _++_, append-assoc, append-nil}
-use Prim.Native.Nat.{ℕ, zero, suc, pred, _+_, _%_, _≤_, _<_}
+use Prim.Native.Nat.{ℕ, zero, suc, pred, _+_, _-_, _%_, _≤_, _<_}
 use native.Mathlib.Nat as NatL
 use native.Mathlib.Omega.{arith}
 use lib.Dec.{eqb}
 use borrow.Author.Tests.{eq-eqb, ne-eqb}
-use lib.ListN.{length, getD, set, length-append}
+use lib.ListN.{length, getD, set, take, drop, length-append}
 use lib.Seq.{sets}
 use Rattle.prelude.proofs.Tests.{Tested, holds, fails, tested}
+use Rattle.prelude.proofs.Parts.{part-length, part-at}
 use Rattle.game_tree.specs.Sums.{sumℕ}
 use Rattle.game_tree.specs.Tree.{Key, Tree, end, chance, decide, Trees, nil, cons, fan, Strategy}
 use Rattle.game_tree.specs.Conditions.{Every, EveryAll}
@@ -29,9 +30,9 @@ use Rattle.arena.specs.internal.Held.{Says}
 use Rattle.arena.specs.internal.Index.{firstOf, laterIn}
 use Rattle.arena.proofs.Nodes.{none, node, held-node}
 use Rattle.arena_walks.specs.internal.Stage.{Stage, Known, Memo}
-use Rattle.arena_walks.proofs.Standing.{known-of, inside, same-fan}
+use Rattle.arena_walks.proofs.Standing.{known-of, inside, set-inside, same-fan}
 use Rattle.units_values.specs.internal.Valued.{Scene, Chosen}
-use Rattle.units_reply.specs.internal.Laid.{Tabled, replied, LaidSet, Laid}
+use Rattle.units_reply.specs.internal.Laid.{Tabled, replied, WrotePart, LaidSet, Laid}
 
 -- ---- no set stands deeper than its walk
 mutual
@@ -51,22 +52,23 @@ mutual
 abbrev pub Wrote : (e n x y z : ℕ) (out written : List ℕ) → Type 0
 Wrote e n x y z out written = (n ≡ 2 → written ≡ sets out e (x ∷ y ∷ [])) × (n ≡ 3 → written ≡ sets out e (x ∷ y ∷ z ∷ []))
 
-wrote-listed : (e n x y z : ℕ) (out written : List ℕ) (f : ℕ → ℕ) → Wrote e n x y z out written → (2 ≤ n) × (n ≤ 3) → x ≡ f 0 → y ≡ f 1 → z ≡ f 2 → written ≡ sets out e (listed n f)
+wrote-listed : (e n x y z : ℕ) (out written : List ℕ) (f : ℕ → ℕ) → Wrote e n x y z out written → (2 ≤ n) × (n ≤ 3) → (0 < n → x ≡ f 0) → (1 < n → y ≡ f 1) → (2 < n → z ≡ f 2) → written ≡ sets out e (listed n f)
 unfolding listed
 wrote-listed e zero x y z out written f w l p q r = absurd (omega (arith, l .0))
 wrote-listed e (suc zero) x y z out written f w l p q r = absurd (omega (arith, l .0))
-wrote-listed e (suc (suc zero)) x y z out written f w l p q r = w .0 refl ∙ rw (p, q) refl
-wrote-listed e (suc (suc (suc zero))) x y z out written f w l p q r = w .1 refl ∙ rw (p, q, r) refl
+wrote-listed e (suc (suc zero)) x y z out written f w l p q r = w .0 refl ∙ rw (p (omega arith), q (omega arith)) refl
+wrote-listed e (suc (suc (suc zero))) x y z out written f w l p q r = w .1 refl ∙ rw (p (omega arith), q (omega arith), r (omega arith)) refl
 wrote-listed e (suc (suc (suc (suc n)))) x y z out written f w l p q r = absurd (omega (arith, l .1))
 
 module _ (table : Table) (x e i D h b k : ℕ) (old : List ℕ) (out written : List ℕ) (n p q r : ℕ) (c : n ≡ actionsOf x) (w : Wrote e n p q r out written) where
   -- another seat's
-  pub laid-other : (actorOf x ≡ i → ⊥) → p ≡ getD table e 0 → q ≡ getD table (e + 1) 0 → r ≡ getD table (e + 2) 0 → LaidSet table x e i D h b k old old out written
+  laid-other : (actorOf x ≡ i → ⊥) → (0 < n → p ≡ getD table (e + 0) 0) → (1 < n → q ≡ getD table (e + 1) 0) → (2 < n → r ≡ getD table (e + 2) 0)
+      → LaidSet table x e i D h b k old old out written
   unfolding replied
   laid-other o P Q R S m t j y a g l z v = (
     m,
     subst (λ a. written ≡ sets out e (listed a (replied S j y))) (c ∙ v)
-        (wrote-listed e n p q r out written (replied S j y) w (subst (λ a. (2 ≤ a) × (a ≤ 3)) (sym (c ∙ v)) (known-of (S .stage) (λ j y n. (2 ≤ n) × (n ≤ 3)) (S .stage .few) j y a g)) (P ∙ ap (λ s. getD table s 0) (sym (NatL.add-zero e)) ∙ at 0) (Q ∙ at 1) (R ∙ at 2)),
+        (wrote-listed e n p q r out written (replied S j y) w (subst (λ a. (2 ≤ a) × (a ≤ 3)) (sym (c ∙ v)) (known-of (S .stage) (λ j y n. (2 ≤ n) × (n ≤ 3)) (S .stage .few) j y a g)) (λ l. P l ∙ at 0) (λ l. Q l ∙ at 1) (λ l. R l ∙ at 2)),
   )
     where
       at : (s : ℕ) → getD table (e + s) 0 ≡ replied S j y s
@@ -79,7 +81,7 @@ module _ (table : Table) (x e i D h b k : ℕ) (old : List ℕ) (out written : L
   laid-own new choice o C P Q R S m t j y a g l z v = (
     chosen .0,
     subst (λ a. written ≡ sets out e (listed a (replied S j y))) (c ∙ v)
-        (wrote-listed e n p q r out written (replied S j y) w (subst (λ a. (2 ≤ a) × (a ≤ 3)) (sym (c ∙ v)) (known-of (S .stage) (λ j y n. (2 ≤ n) × (n ≤ 3)) (S .stage .few) j y a g)) (P ∙ at 0) (Q ∙ at 1) (R ∙ at 2)),
+        (wrote-listed e n p q r out written (replied S j y) w (subst (λ a. (2 ≤ a) × (a ≤ 3)) (sym (c ∙ v)) (known-of (S .stage) (λ j y n. (2 ≤ n) × (n ≤ 3)) (S .stage .few) j y a g)) (λ _. P ∙ at 0) (λ _. Q ∙ at 1) (λ _. R ∙ at 2)),
   )
     where
       own : j ≡ i
@@ -93,6 +95,25 @@ module _ (table : Table) (x e i D h b k : ℕ) (old : List ℕ) (out written : L
       at : (s : ℕ) → cond (eqb s choice) D 0 ≡ replied S j y s
       at s = ap (λ u. cond (eqb s u) D 0) (chosen .1) ∙ ap (λ u. cond (eqb s (S .stage .choice y)) u 0) (sym (t .parts))
           ∙ ap (λ u. cond u (pure (S .parts) (S .stage .choice) y s) (S .strategy j y s)) (sym (eq-eqb j i own))
+
+-- the part of another seat's set, as it is written
+module _ (table : Table) (x e i D h b k : ℕ) (old : List ℕ) (out : List ℕ) (n z : ℕ) (c : n ≡ actionsOf x) (f : z ≡ e + n) where
+  abbrev own-part : List ℕ
+  own-part = take (z - e) (drop e table)
+
+  pub laid-part : (written : List ℕ) → z ≤ length table → (actorOf x ≡ i → ⊥) → WrotePart own-part e out written → LaidSet table x e i D h b k old old out written
+  laid-part written l o w =
+      let few : z - e ≡ n = omega arith in
+      let at : (s : ℕ) → s < n → getD own-part s 0 ≡ getD table (e + s) 0 = λ s v. part-at table e z s 0 (omega arith) in
+      laid-other table x e i D h b k old out written n _ _ _ c (subst (λ m. Wrote e m (getD own-part 0 0) (getD own-part 1 0) (getD own-part 2 0) out written) (part-length table e z l ∙ few) w) o (at 0) (at 1) (at 2)
+
+  -- a table is long enough for every set
+  pub laid-short : length table < z → LaidSet table x e i D h b k old old out out
+  laid-short s S m t j y a g l w v = absurd (omega (arith, s, f, c, l, v, set-inside (S .stage) j y a g, t .long))
+
+-- the same entries, named otherwise
+pub wrote-part : (part : List ℕ) (e x y z : ℕ) (out written : List ℕ) → x ≡ getD part 0 0 → y ≡ getD part 1 0 → z ≡ getD part 2 0 → Wrote e (length part) x y z out written → WrotePart part e out written
+wrote-part part e x y z out written p q r w = rw (p, q, r) at w
 
 -- ---- the first member of a set
 -- of nodes counted from a on, the first that is a decision of the set

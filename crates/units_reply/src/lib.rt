@@ -13,13 +13,13 @@ ghost use lib.Dec.{eqb};
 ghost use lib.ListN.{getD, set, take};
 ghost use lib.Seq.{sets};
 ghost use Rattle.units_values.specs.internal.Valued.{Walkable};
-ghost use Rattle.units_reply.specs.internal.Laid.{LaidSet, Laid};
+ghost use Rattle.units_reply.specs.internal.Laid.{WrotePart, LaidSet, Laid};
 
-// The byte at place i, 0 where there is none.
-fn byte(table: &[u8], i: usize) -> u8
-    ensures { λ r. ⌜ r ≡ getD (now (table .entry)) i 0 ⌝ }
+// The entry of action a in a set's own part of a table, 0 where it has none.
+fn byte(part: &[u8], a: usize) -> u8
+    ensures { λ r. ⌜ r ≡ getD (now (part .entry)) a 0 ⌝ }
 {
-    if i < table.len() { table[i] } else { 0 }
+    if a < part.len() { part[a] } else { 0 }
 }
 
 // Writes x at place i, where there is one.
@@ -52,6 +52,17 @@ fn write(out: &mut [u8], at: usize, count: usize, x: u8, y: u8, z: u8)
     }
 }
 
+// Writes a set's own part of the table from place at on.
+fn write_part(part: &[u8], out: &mut [u8], at: usize)
+    requires { ⌜ at ≤ 8388608 ⌝ }
+    ensures { λ _. ⌜ WrotePart (now (part .entry)) at (now (out .entry)) (now (out .exit)) ⌝ }
+{
+    let first = byte(part, 0);
+    let second = byte(part, 1);
+    let third = byte(part, 2);
+    write(out, at, part.len(), first, second, third);
+}
+
 // Writes the entries of the set whose first entry is given and whose members have words like x.
 fn write_set(
     w: &mut [u64],
@@ -70,10 +81,11 @@ fn write_set(
 {
     let count = actions(x);
     if actor(x) != seat {
-        let first = byte(table, at);
-        let second = byte(table, at + 1);
-        let third = byte(table, at + 2);
-        write(out, at, count, first, second, third);
+        let end = at + count;
+        if table.len() < end {
+            return;
+        }
+        write_part(&table[at..end], out, at);
         return;
     }
     let choice = choose(w, at, count, seat, DEPTH, heads, units, kept);
