@@ -21,7 +21,9 @@ same-length : tie.Need-same-length
 same-length c = search needs
 
 returns : tie.Need-returns
-returns c = laying.wrote-part (now (c .before .before .before .before .before .before .before .before .before .args .part)) (c .before .before .before .before .before .before .before .before .before .args .at) (c .before .before .before .before .before .before .byte .result) (c .before .before .before .before .before .byte2 .result) (c .before .before .before .before .byte3 .result) (now (c .before .before .before .before .before .before .before .before .before .args .out)) (c .before .before .write .last .0) (c .before .before .before .before .before .before .byte .ensures) (c .before .before .before .before .before .byte2 .ensures) (c .before .before .before .before .byte3 .ensures) (c .before .before .write .ensures)
+returns c = let s1 = c .before .before in let s0 = s1 .before .before in let a = s0 .before .before .before .before .before .args in
+    laying.wrote-part (now a.part) a.at s0.before.before.byte.result s0.before.byte2.result s0.byte3.result (now a.out) s1.write.last.0
+    s0.before.before.byte.ensures s0.before.byte2.ensures s0.byte3.ensures s1.write.ensures
 
 pub write-part-spec : {M : Type 1} → statement M
 write-part-spec = tie.close (tie.spec byte-requires byte-requires-2 byte-requires-3 write-requires same-length returns)

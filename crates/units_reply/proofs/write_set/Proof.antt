@@ -17,7 +17,8 @@ add-end : tie.Need-add-end
 add-end c = search needs
 
 returns : tie.Need-returns
-returns c = laying.laid-short (now (c .before .before .before .before .before .before .before .args .table)) (c .before .before .before .before .before .before .before .args .x) (c .before .before .before .before .before .before .before .args .at) (c .before .before .before .before .before .before .before .args .seat) (c .before .before .before .before .before .before .before .args .d) (c .before .before .before .before .before .before .before .args .heads) (c .before .before .before .before .before .before .before .args .units) (c .before .before .before .before .before .before .before .args .kept) (now (c .before .before .before .before .before .before .before .args .w)) (now (c .before .before .before .before .before .before .before .args .out)) (c .before .before .before .actions .result) _ (c .before .before .before .actions .ensures) refl (c .if2 .taken)
+returns c = let s1 = c .before .before .before in let a = s1 .before .before .before .before .args in
+    laying.laid-short (now a.table) a.x a.at a.seat a.d a.heads a.units a.kept (now a.w) (now a.out) s1.actions.result _ s1.actions.ensures refl c.if2.taken
 
 sub-write-part : tie.Need-sub-write-part
 sub-write-part c = search needs
@@ -35,7 +36,10 @@ same-length : tie.Need-same-length
 same-length c = search needs
 
 returns-2 : tie.Need-returns-2
-returns-2 c = laying.laid-part (now (c .before .before .before .before .before .before .before .before .before .before .before .before .args .table)) (c .before .before .before .before .before .before .before .before .before .before .before .before .args .x) (c .before .before .before .before .before .before .before .before .before .before .before .before .args .at) (c .before .before .before .before .before .before .before .before .before .before .before .before .args .seat) (c .before .before .before .before .before .before .before .before .before .before .before .before .args .d) (c .before .before .before .before .before .before .before .before .before .before .before .before .args .heads) (c .before .before .before .before .before .before .before .before .before .before .before .before .args .units) (c .before .before .before .before .before .before .before .before .before .before .before .before .args .kept) (now (c .before .before .before .before .before .before .before .before .before .before .before .before .args .w)) (now (c .before .before .before .before .before .before .before .before .before .before .before .before .args .out)) (c .before .before .before .before .before .before .before .before .actions .result) _ (c .before .before .before .before .before .before .before .before .actions .ensures) refl _ (omega (arith, c .before .before .before .before .before .if2 .left)) (λ q. c .before .before .before .before .before .before .if1 .taken (c .before .before .before .before .before .before .before .actor .ensures ∙ q)) (c .before .before .write-part .ensures)
+returns-2 c = let s3 = c .before .before in let s2 = s3 .before .before .before in let s1 = s2 .before .before in let s0 = s1 .before in
+    let a = s0 .before .before .before .before .args in
+    laying.laid-part (now a.table) a.x a.at a.seat a.d a.heads a.units a.kept (now a.w) (now a.out) s0.actions.result _ s0.actions.ensures refl _
+    (omega (arith, s2.if2.left)) (λ q. s2.before.if1.taken (s1.actor.ensures ∙ q)) s3.write-part.ensures
 
 choose-requires : tie.Need-choose-requires
 choose-requires c κs = search needs
@@ -59,7 +63,11 @@ same-length-3 : tie.Need-same-length-3
 same-length-3 c = search needs
 
 returns-3 : tie.Need-returns-3
-returns-3 c = laying.laid-own (now (c .before .before .before .before .before .before .before .before .before .before .before .before .before .before .before .before .before .args .table)) (c .before .before .before .before .before .before .before .before .before .before .before .before .before .before .before .before .before .args .x) (c .before .before .before .before .before .before .before .before .before .before .before .before .before .before .before .before .before .args .at) (c .before .before .before .before .before .before .before .before .before .before .before .before .before .before .before .before .before .args .seat) (c .before .before .before .before .before .before .before .before .before .before .before .before .before .before .before .before .before .args .d) (c .before .before .before .before .before .before .before .before .before .before .before .before .before .before .before .before .before .args .heads) (c .before .before .before .before .before .before .before .before .before .before .before .before .before .before .before .before .before .args .units) (c .before .before .before .before .before .before .before .before .before .before .before .before .before .before .before .before .before .args .kept) (now (c .before .before .before .before .before .before .before .before .before .before .before .before .before .before .before .before .before .args .w)) (now (c .before .before .before .before .before .before .before .before .before .before .before .before .before .before .before .before .before .args .out)) (c .before .before .write .last .0) (c .before .before .before .before .before .before .before .before .before .before .before .before .before .actions .result) (c .before .before .before .before .before .before .pure .result) (c .before .before .before .before .before .pure2 .result) (c .before .before .before .before .pure3 .result) (c .before .before .before .before .before .before .before .before .before .before .before .before .before .actions .ensures) (c .before .before .write .ensures) (c .before .before .before .before .before .before .before .before .before .choose .last .0) (c .before .before .before .before .before .before .before .before .before .choose .result) (sym (c .before .before .before .before .before .before .before .before .before .before .before .before .actor .ensures) ∙ c .before .before .before .before .before .before .before .before .before .before .before .if1 .left) (c .before .before .before .before .before .before .before .before .before .choose .ensures) (c .before .before .before .before .before .before .pure .ensures) (c .before .before .before .before .before .pure2 .ensures) (c .before .before .before .before .pure3 .ensures)
+returns-3 c = let s5 = c .before .before in let s4 = s5 .before .before in let s3 = s4 .before in let s2 = s3 .before .before .before .before in
+    let s1 = s2 .before .before in let s0 = s1 .before .before in let a = s0 .before .before .before .before .args in
+    laying.laid-own (now a.table) a.x a.at a.seat a.d a.heads a.units a.kept (now a.w) (now a.out) s5.write.last.0
+    s0.actions.result s3.before.pure.result s3.pure2.result s4.pure3.result s0.actions.ensures s5.write.ensures s2.choose.last.0 s2.choose.result
+    (sym s1.before.actor.ensures ∙ s1.if1.left) s2.choose.ensures s3.before.pure.ensures s3.pure2.ensures s4.pure3.ensures
 
 pub write-set-spec : {M : Type 1} → statement M
 write-set-spec =
