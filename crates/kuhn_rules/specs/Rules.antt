@@ -1,6 +1,7 @@
 -- Kuhn's rules for n seats (document 01, "The two games"; Kuhn 1950 has two seats),
 -- in three layers: the betting depends on the history alone,
 -- the deal on the cards, the money on both and on the stakes. A history lists the actions made, from the first.
+-- `abbrev` and `unfoldable` tell the prover when it may put a definition in place of its name; a reader may pass over both.
 use mathlib.Core.Bool.{Bool, true, false, not, cond}
 use mathlib.Core.List.{List, [], _∷_}
 use Prim.Native.Nat.{ℕ, _+_, _-_, _%_}

@@ -1,5 +1,6 @@
 -- Leduc's betting (document 01, "The two games"; Southey et al. 2005): what depends on the histories alone.
 -- A history lists the actions of one round, from the first; h₁ and h₂ are those of the two rounds.
+-- `abbrev` and `unfoldable` tell the prover when it may put a definition in place of its name; a reader may pass over both.
 use mathlib.Core.Bool.{Bool, true, not, cond}
 use mathlib.Core.List.{List, [], _∷_, _++_}
 use Prim.Native.Nat.{ℕ, _+_, _-_, _%_}

@@ -37,7 +37,7 @@ recalled t = recall 0 past actionsOf [] t && recall 1 past actionsOf [] t
 
 -- all of it, so that the tree is worked out once: the nodes too, and that the hands of t have the shape of u
 unfoldable checked : Tree → Tree → Bool
-checked u t = eqb (size t) 9457 && (hands-fit u t && (regular t && recalled t))
+checked u t = eqb (size t) leducNodes && (hands-fit u t && (regular t && recalled t))
 
 module _ (ante raise₁ raise₂ : ℕ) where
   is-checked : checked (hand ante raise₁ raise₂ (withCards 0 1)) (leducTree ante raise₁ raise₂) ≡ true
