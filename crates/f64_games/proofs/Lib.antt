@@ -2,3 +2,4 @@
 pub mod Staging
 pub mod Seats
 pub mod Signs
+pub mod Facts

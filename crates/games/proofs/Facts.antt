@@ -2,7 +2,7 @@
 use mathlib.Core.Path.{_≡_, refl, sym, ap, ap₂, subst, _∙_}
 use mathlib.Core.Bool.{true, false, not, cond}
 use mathlib.Core.List.{List, [], _∷_, map}
-use Prim.Native.Nat.{ℕ, _≤_}
+use Prim.Native.Nat.{ℕ, _≤_, _<_}
 use native.Mathlib.Omega.{arith}
 use lib.Dec.{eqb, ltb, leb}
 use borrow.Author.Tests.{eq-eqb, ne-eqb, eqb-true, eqb-false, not-false}
@@ -13,7 +13,10 @@ use Rattle.game_tree.specs.Conditions.{Splits, Pays}
 use Rattle.game_tree.specs.Recall.{PerfectRecall}
 use Rattle.game_tree.specs.Sets.{Decision, size, sets, setCount, setActions, entries}
 use Rattle.game_tree.specs.Shape.{SameActions}
-use Rattle.game_tree.proofs.TableTheorem.{reply-table-best}
+use Rattle.game_tree.specs.Table.{Table, strategyOf, tableBest}
+use Rattle.game_tree.specs.Recall.{RecallsOwn}
+use Rattle.game_tree.proofs.TableTheorem.{reply-table-best, own-table-entries-free, table-units-add-up}
+use Rattle.game_tree.proofs.Theorem.{units-exact, recall-kept, best-decides, decides-alike}
 use Rattle.game_tree.proofs.Sets.{Each, every→sets}
 use Rattle.kuhn_tree.specs.Tree.{kuhnTree}
 use Rattle.kuhn_tree.specs.Tree as KuhnTree
@@ -31,6 +34,7 @@ use Rattle.leduc_tree.specs.Counts.{leducNodes, leducSets, leducEntries}
 use Rattle.games.specs.Games.{treeOf, C, m, mostParts, rootUnits}
 use Rattle.games.specs.Seats.{seats-out}
 use Rattle.games.specs.Facts.{nodesOf, setsOf, entriesOf, Counted, kuhn, leduc, Table-of-counts, Fit, Games-fit, Reply-best}
+use Rattle.games.specs.Facts.{Units-exact, Units-add-up, Own-entries-free, openTo, Best-decides, Decides-alike}
 use Rattle.games.specs.internal.Facts.{Actions-listed}
 use Rattle.games.specs.internal.Actions.{actionsOf}
 use Rattle.games.specs.declared.Game.{Game}
@@ -141,3 +145,24 @@ games-fit g known out = by (tested (eqb (g .number) 0))
 pub reply-best : Reply-best
 reply-best g D i table known out w d v =
     let f = games-fit g known out in reply-table-best (treeOf g) (C g) (m g) D i table d (f .splits) (f .recall i w) (f .actions) v
+
+-- ---- the paper's sentences on whole units
+
+pub games-units-exact : Units-exact
+games-units-exact g D s known out d = units-exact (C g) (m g) D s (treeOf g) d (games-fit g known out .splits)
+
+pub games-units-add-up : Units-add-up
+games-units-add-up g D table known out d v = let f = games-fit g known out in table-units-add-up (treeOf g) (C g) (m g) D table d (f .splits) (f .actions) v
+
+pub own-entries-free : Own-entries-free
+own-entries-free g D i table z known out k = own-table-entries-free (treeOf g) D (rootUnits g D) i table z (games-fit g known out .actions) k
+
+open-recalls : (g : Game) (D i : ℕ) (table : Table) → g .number ≤ 1 → seats-out g ≡ false → i < g .seats → RecallsOwn (openTo g D i table)
+open-recalls g D i table known out w = recall-kept D i (rootUnits g D) (strategyOf (treeOf g) table) (treeOf g) (games-fit g known out .recall i w)
+
+pub games-best-decides : Best-decides
+games-best-decides g D i table known out w = best-decides (openTo g D i table) (open-recalls g D i table known out w)
+
+pub games-decides-alike : Decides-alike
+unfolding tableBest
+games-decides-alike g D i table c known out w = decides-alike (openTo g D i table) c (open-recalls g D i table known out w)

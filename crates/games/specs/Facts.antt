@@ -3,10 +3,13 @@
 use mathlib.Core.Path.{_≡_}
 use mathlib.Core.Bool.{false, cond}
 use Prim.Native.Nat.{ℕ, _≤_, _<_}
-use Rattle.game_tree.specs.Conditions.{Splits, Pays}
+use Rattle.game_tree.specs.Tree.{Strategy, all}
+use Rattle.game_tree.specs.Conditions.{units, Exact, Splits, Pays}
+use Rattle.game_tree.specs.Reply.{Reply, replyTree, Choice, value, best}
+use Rattle.game_tree.specs.Optimal.{EveryOwn, Decides}
 use Rattle.game_tree.specs.Recall.{PerfectRecall}
 use Rattle.game_tree.specs.Shape.{Sized, SameActions}
-use Rattle.game_tree.specs.Table.{Table, ValidTable, tableBest, replyTable, BestReply}
+use Rattle.game_tree.specs.Table.{Table, strategyOf, ValidTable, KeepsTable, tableBest, replyTable, BestReply}
 use Rattle.kuhn_tree.specs.Counts.{kuhnNodes, kuhnSets, kuhnEntries}
 use Rattle.games.specs.Games.{isKuhn, treeOf, C, m, rootUnits}
 use Rattle.games.specs.Seats.{seats-out}
@@ -63,3 +66,34 @@ Reply-best = (g : Game) (D i : ℕ) (table : Table) → g .number ≤ 1 → seat
     → ValidTable (treeOf g) D table
     → BestReply (treeOf g) D (rootUnits g D) i table (tableBest (treeOf g) D (rootUnits g D) table i)
     (replyTable (treeOf g) D (rootUnits g D) table i)
+
+-- every division on the way down from the root's units is exact, whatever the parts
+abbrev pub Units-exact : Type 0
+Units-exact = (g : Game) (D : ℕ) (s : Strategy) → g .number ≤ 1 → seats-out g ≡ false → 0 < D
+    → Exact (all D) s (rootUnits g D) (treeOf g)
+
+-- under a valid table the units of all ends add up to the root's
+abbrev pub Units-add-up : Type 0
+Units-add-up = (g : Game) (D : ℕ) (table : Table) → g .number ≤ 1 → seats-out g ≡ false → 0 < D
+    → ValidTable (treeOf g) D table → units (all D) (strategyOf (treeOf g) table) (rootUnits g D) (treeOf g) ≡ rootUnits g D
+
+-- two tables that differ only in the seat's entries have the same best value
+abbrev pub Own-entries-free : Type 0
+Own-entries-free = (g : Game) (D i : ℕ) (table z : Table) → g .number ≤ 1 → seats-out g ≡ false
+    → KeepsTable (treeOf g) i table z → tableBest (treeOf g) D (rootUnits g D) z i ≡ tableBest (treeOf g) D (rootUnits g D) table i
+
+-- what seat i replies to: the others' moves of a table settled, its own open
+abbrev pub openTo : Game → (D i : ℕ) → Table → Reply
+openTo g D i table = replyTree D (strategyOf (treeOf g) table) i (rootUnits g D) (treeOf g)
+
+-- in each of the seat's sets the best choice is the lowest action with the greatest sum over all members
+abbrev pub Best-decides : Type 0
+Best-decides = (g : Game) (D i : ℕ) (table : Table) → g .number ≤ 1 → seats-out g ≡ false → i < g .seats
+    → Decides (best (openTo g D i table)) (openTo g D i table)
+
+-- any choice that decides so takes the same action in each of them, and its value is the best value
+abbrev pub Decides-alike : Type 0
+Decides-alike = (g : Game) (D i : ℕ) (table : Table) (c : Choice) → g .number ≤ 1 → seats-out g ≡ false → i < g .seats
+    → Decides c (openTo g D i table)
+    → EveryOwn (λ k n. c k ≡ best (openTo g D i table) k) (openTo g D i table)
+    × (value c (openTo g D i table) ≡ tableBest (treeOf g) D (rootUnits g D) table i)
