@@ -1,13 +1,16 @@
 -- The order of the sets on a list, and the sets, tables and replies of the small tree, computed. Nothing is assumed.
 use mathlib.Core.Path.{_≡_, refl}
+use mathlib.Core.Bool.{true}
 use Prim.Native.Nat.{ℕ}
 use native.Mathlib.Omega.{arith}
 use Rattle.game_tree.specs.Sums.{_·_, sum, sumℕ}
-use Rattle.game_tree.specs.Reply.{best, value, withKey, highest}
-use Rattle.game_tree.specs.Sets.{size, preorder, firsts, sets, entriesOf, before, numbers}
-use Rattle.game_tree.specs.Table.{laidOut, addUp, tableWorth, tableBest, replyTable, nashConv}
+use Rattle.game_tree.specs.Conditions.{allBut}
+use Rattle.game_tree.specs.Reply.{replyTree, best, value, withKey, highest, pure}
+use Rattle.game_tree.specs.Sets.{size, preorder, firsts, sets, entriesOf, before, seatsOf, numbers}
+use Rattle.game_tree.specs.Table.{strategyOf, laidOut, addUp, addUpBy, finerWorth, tableWorth, tableBest, replyTable, nashConv}
 use Rattle.game_tree.specs.Small.{small, given}
-use Rattle.game_tree.specs.TableTheorem.{FirstNodes, SmallSets, SmallTables, SmallReplies}
+use Rattle.game_tree.specs.TableTheorem.{FirstNodes, SmallSets, SmallTables, SmallReplies, smallTable, smallFiner, SmallFinerRivals}
+use Rattle.game_tree.proofs.Tables.{keepsIn, keeps-tested}
 
 pub first-nodes : FirstNodes
 unfolding firsts
@@ -24,3 +27,16 @@ small-tables = (refl, (refl, refl), λ v. let z : _≡_ {A = ℕ} 0 1 = cc (v .1
 pub small-replies : SmallReplies
 unfolding tableWorth tableBest replyTable nashConv small best sum withKey value highest _·_ sets sumℕ before entriesOf
 small-replies = (refl, refl, refl, refl)
+
+-- ---- rivals of finer grain
+small-adds : addUpBy (allBut 0 300 2) (sets small) smallFiner ≡ true
+unfolding addUpBy sets small
+small-adds = refl
+
+small-keeps : keepsIn 0 (seatsOf (sets small)) smallTable smallFiner ≡ true
+unfolding keepsIn seatsOf sets small
+small-keeps = refl
+
+pub small-finer-rivals : SmallFinerRivals
+unfolding finerWorth small replyTree strategyOf laidOut pure best sum withKey value highest _·_ sets sumℕ before entriesOf
+small-finer-rivals = ((refl, small-adds, keeps-tested small 0 smallTable smallFiner small-keeps), refl, refl, refl)
