@@ -13,7 +13,7 @@ use Rattle.game_tree.specs.Conditions.{Splits, Pays}
 use Rattle.game_tree.specs.Recall.{PerfectRecall}
 use Rattle.game_tree.specs.Sets.{Decision, size, sets, setCount, setActions, entries}
 use Rattle.game_tree.specs.Shape.{SameActions}
-use Rattle.game_tree.proofs.TableTheorem.{reply-table-best}
+use Rattle.game_tree.proofs.TableTheorem.{reply-table-best, finer-products, finer-table-units, finer-reply-best, nash-conv-zero}
 use Rattle.game_tree.proofs.Sets.{Each, every→sets}
 use Rattle.kuhn_tree.specs.Tree.{kuhnTree}
 use Rattle.kuhn_tree.specs.Tree as KuhnTree
@@ -30,7 +30,7 @@ use Rattle.leduc_tree.proofs.Facts.{actions-in-order}
 use Rattle.leduc_tree.specs.Counts.{leducNodes, leducSets, leducEntries}
 use Rattle.games.specs.Games.{treeOf, C, m, mostParts, rootUnits}
 use Rattle.games.specs.Seats.{seats-out}
-use Rattle.games.specs.Facts.{nodesOf, setsOf, entriesOf, Counted, kuhn, leduc, Table-of-counts, Fit, Games-fit, Reply-best}
+use Rattle.games.specs.Facts.{nodesOf, setsOf, entriesOf, Counted, kuhn, leduc, Table-of-counts, Fit, Games-fit, Reply-best, Finer-rivals, Finer-reply, Conv-zero}
 use Rattle.games.specs.internal.Facts.{Actions-listed}
 use Rattle.games.specs.internal.Actions.{actionsOf}
 use Rattle.games.specs.declared.Game.{Game}
@@ -141,3 +141,17 @@ games-fit g known out = by (tested (eqb (g .number) 0))
 pub reply-best : Reply-best
 reply-best g D i table known out w d v =
     let f = games-fit g known out in reply-table-best (treeOf g) (C g) (m g) D i table d (f .splits) (f .recall i w) (f .actions) v
+
+pub finer-rivals : Finer-rivals
+finer-rivals g D E i table z known out w d e r =
+    let f = games-fit g known out in
+    let (exact, units) = finer-table-units (treeOf g) (C g) (m g) D E i table z d e (f .splits) (f .actions) r in
+    (exact, units, finer-products (treeOf g) (C g) (m g) D E i table z d e (f .splits) (f .recall i w) (f .actions) r)
+
+pub finer-reply : Finer-reply
+finer-reply g D E i table known out w d e v =
+    let f = games-fit g known out in finer-reply-best (treeOf g) (C g) (m g) D E i table d e (f .splits) (f .recall i w) (f .actions) v
+
+pub conv-zero : Conv-zero
+conv-zero g D table known out d v =
+    let f = games-fit g known out in nash-conv-zero (treeOf g) (C g) (m g) D (g .seats) table d (f .splits) (f .recall) (f .actions) v
