@@ -17,7 +17,7 @@ use Rattle.game_tree.specs.Shape.{SameActions}
 use Rattle.game_tree.specs.Table.{Table, strategyOf, tableOf, addUp, ValidTable, KeepsTable, tableWorth, tableBest, replyTable, nashConv, addUpBy, FinerRival, finerWorth, FinerUnbeaten}
 use Rattle.game_tree.specs.Small.{small}
 use Rattle.game_tree.specs.TableTheorem.{NodesCounted, DecisionsOfNodes, TableBack, StrategyBack, TableValid, StrategyValid, ValidMeans, TableRival, ReplyTableRival, ReplyTableWorth, NoRivalTableBetter, ReplyTableBest, ReplyTableEntries, OwnTableEntriesFree, TableUnitsAddUp, TableBounds, NashConvNotBelow, smallTable, SmallNoRivalTable}
-use Rattle.game_tree.specs.TableTheorem.{NoFinerTableBetter, FinerProducts, FinerTableUnits, RivalsOfGrainD, WorthOfGrainD, finerReply, FinerReplyBest, FinerReplyOfD, FinerReplyOfOne, NashConvZero, SmallNoFiner}
+use Rattle.game_tree.specs.TableTheorem.{NoFinerTableBetter, FinerProducts, FinerTableUnits, RivalsOfGrainD, WorthOfGrainD, finerReply, FinerReplyBest, FinerReplyOfD, FinerReplyOfOne, NashConvZero, smallFiner, SmallFinerRivals, SmallNoFiner}
 use Rattle.game_tree.proofs.Integers.{+ℤ-mono, +ℤ-cancel, ≤ℤ-antisym, ·-one, ·-mul, ·-mono}
 use Rattle.game_tree.proofs.Tests.{Tested, is, isn't, tested, eqb-is, eqb-isn't}
 use Rattle.game_tree.proofs.Against.{every-both, own-entries-free}
@@ -26,10 +26,10 @@ use Rattle.game_tree.proofs.Bounds.{value-bound, worth-bound}
 use Rattle.game_tree.proofs.Link.{finer-units-exact, finer-units-add-up, allBut-same, grain-worth}
 use Rattle.game_tree.proofs.Rival.{no-finer-rival-better, no-rival-better, copied, copied-keeps, copied-valid, copied-worth, reply-is-rival, reply-worth}
 use Rattle.game_tree.proofs.Small.{small-premises}
-use Rattle.game_tree.proofs.Computed.{small-replies}
+use Rattle.game_tree.proofs.Computed.{small-replies, small-adds, small-keeps, small-finer}
 use Rattle.game_tree.proofs.Sets.{preorder-length, decisions-of-nodes, every→sets, sets-distinct, Stands, sets-stand}
-use Rattle.game_tree.proofs.Tables.{Same, worth-same, laidOut-length, laidOut-at, laidOut-adds, adds-at, adds-all, laidOut-back, seats-at, laidOut-keeps}
-pub use Rattle.game_tree.proofs.Computed.{first-nodes, small-sets, small-tables, small-finer-rivals}
+use Rattle.game_tree.proofs.Tables.{Same, worth-same, laidOut-length, laidOut-at, laidOut-adds, adds-at, adds-all, laidOut-back, seats-at, laidOut-keeps, keeps-tested}
+pub use Rattle.game_tree.proofs.Computed.{first-nodes, small-sets, small-tables}
 
 pub nodes-counted : NodesCounted
 nodes-counted t = preorder-length t
@@ -273,6 +273,9 @@ small-no-rival-table = (
   λ z v. subst (λ x. tableWorth small 2 12 z 0 ≤ℤ x) (small-replies .1)
       (no-rival-table-better small 3 2 2 0 smallTable z (omega arith) (small-premises .0) (small-premises .1) small-same v),
 )
+
+pub small-finer-rivals : SmallFinerRivals
+small-finer-rivals = ((small-finer .0, small-adds, keeps-tested small 0 smallTable smallFiner small-keeps), small-finer .1, small-finer .2, small-finer .3)
 
 pub small-no-finer : SmallNoFiner
 unfolding sets small addUpBy seatsOf entriesOf sumℕ
