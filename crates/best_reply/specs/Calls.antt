@@ -1,4 +1,4 @@
--- What the call for a seat's best value and reply answers (document 01, "Whole units"), and demand 3 of it.
+-- What the call for a seat's best value and reply answers (document 01, "Whole units"), demand 3 of it, and request Eight (document 02).
 use mathlib.Core.List.{List, _++_}
 use Prim.Native.Nat.{ℕ, zero, suc}
 use lib.IntN.{ℤ, pos}
@@ -21,7 +21,8 @@ written zero g seat D table out = replyTable (treeOf g) D (rootUnits g D) table 
 written (suc r) g seat D table out = out
 
 -- of an accepted call: what stands at the front of the output is a valid table with every other seat's entries as given, it is worth
--- the value to the seat, and no such table is worth more
+-- the value to the seat, and no such table is worth more, nor is a rival of any grain: with E parts in the seat's sets, for every E from 1,
+-- and D in the others', its worth is at most E^m × the value
 abbrev pub Demand : ℕ → Game → (seat D : ℕ) → Table → (value : ℤ) (out : List ℕ) → Type 0
 Demand zero g seat D table value out = BestReply g D seat table value (take (entries (treeOf g)) out)
 Demand (suc r) g seat D table value out = Unit {0}

@@ -68,6 +68,7 @@ pub extern "C" fn chukkanalli_nash_conv_units(
     ensures answer { λ r. ⌜ r ≡ Conv.answer (evaluation-refusal (gameOf game seats) (length (now (work .entry))) d (now (table .entry)))
         (gameOf game seats) d (now (table .entry)) ⌝ }
     ensures whole { λ r. ⌜ Conv.Whole r (gameOf game seats) d (now (table .entry)) ⌝ }
+    ensures equilibrium { λ r. ⌜ Conv.ZeroAtEquilibrium r (gameOf game seats) d (now (table .entry)) ⌝ }
     ensures memory { λ r. ⌜ MemoryAfter (r .refusal) (gameOf game seats) (now (work .entry)) (now (work .exit)) ⌝ }
 {
     nash_conv_units::nash_conv_units(game as usize, seats as usize, work, d as usize, table)

@@ -8,13 +8,13 @@ use lib.Dec.{eqb}
 use lib.IntN.{_+ℤ_}
 use Rattle.game_tree.specs.Sums.{_·_}
 use Rattle.game_tree.specs.Tree.{Key, Tree, end, chance, decide, Trees, nil, cons, fan, Strategy, all, worth, worthAll, worthKids}
-use Rattle.game_tree.specs.Conditions.{allBut, Splits, SplitsAll}
+use Rattle.game_tree.specs.Conditions.{allBut, units, Splits, SplitsAll, Valid}
 use Rattle.game_tree.specs.Reply.{node, share, replyTree, replyAll, replyKids}
 use Rattle.game_tree.specs.Optimal.{scaled, scaledAll, scaledKids}
 use Rattle.game_tree.specs.Theorem.{FinerUnitsExact, Link, LinkInUnits}
 use Rattle.game_tree.proofs.Integers.{·-mul}
 use Rattle.game_tree.proofs.Tests.{Tested, is, isn't, tested, eqb-is}
-use Rattle.game_tree.proofs.Units.{Fits, FitsAll, fits-scale, fits-scale-all, splits-fit, fits-exact, of-fan, part-of, worth-scale}
+use Rattle.game_tree.proofs.Units.{Fits, FitsAll, fits-scale, fits-scale-all, splits-fit, fits-exact, fits-units, of-fan, part-of, worth-scale}
 use Rattle.game_tree.proofs.Against.{same-reply-tree}
 
 module _ (D i : ℕ) where
@@ -147,14 +147,24 @@ pub finer-units-exact : FinerUnitsExact
 finer-units-exact C m D E i z t d e h = fits-exact (allBut i E D) (parts-pos D i E d e z) z t (E ^ m * (C * D ^ m))
     (fits-finer D i E t C m (C * D ^ m) m h (NatL.le-refl m) (fits-free D i t (C * D ^ m) (splits-fit D t C m h)))
 
+pub finer-units-add-up : (C m D E i : ℕ) (z : Strategy) (t : Tree) → 0 < D → 0 < E → Splits C m t → Valid (allBut i E D) z t
+    → units (allBut i E D) z (E ^ m * (C * D ^ m)) t ≡ E ^ m * (C * D ^ m)
+finer-units-add-up C m D E i z t d e h v = fits-units (allBut i E D) (parts-pos D i E d e z) z t (E ^ m * (C * D ^ m))
+    (fits-finer D i E t C m (C * D ^ m) m h (NatL.le-refl m) (fits-free D i t (C * D ^ m) (splits-fit D t C m h))) v
+
 -- with D parts in seat i's sets all seats have D
-allBut-same : (i D : ℕ) → allBut i D D ≡ all D
+pub allBut-same : (i D : ℕ) → allBut i D D ≡ all D
 allBut-same i D = fun-ext (λ j. at (eqb j i))
   where
     at : (b : Bool) → cond b D D ≡ D
     at true = refl
     at false = refl
 
+-- so the scale comes out
+pub grain-worth : (C m D i : ℕ) (z : Strategy) (t : Tree) → 0 < D → Splits C m t
+    → worth (allBut i D D) z i (D ^ m * (C * D ^ m)) t ≡ D ^ m · worth (all D) z i (C * D ^ m) t
+grain-worth C m D i z t d h = ap (λ g. worth g z i (D ^ m * (C * D ^ m)) t) (allBut-same i D)
+    ∙ worth-scale (all D) (λ j. d) z i t (C * D ^ m) (D ^ m) (splits-fit D t C m h)
+
 pub link-in-units : LinkInUnits
-link-in-units C m D i s z t d h o = sym (worth-scale (all D) (λ j. d) z i t (C * D ^ m) (D ^ m) (splits-fit D t C m h))
-    ∙ ap (λ g. worth g z i (D ^ m * (C * D ^ m)) t) (sym (allBut-same i D)) ∙ link C m D D i s z t d d h o
+link-in-units C m D i s z t d h o = sym (grain-worth C m D i z t d h) ∙ link C m D D i s z t d d h o

@@ -1,5 +1,5 @@
 -- No rival is worth more than the best value; the reply is a rival; its worth is the best value. Nothing is assumed.
-use mathlib.Core.Path.{_≡_, refl, ap, _∙_, fun-ext}
+use mathlib.Core.Path.{_≡_, refl, sym, ap, _∙_, fun-ext, subst}
 use mathlib.Core.Bool.{true, false, cond}
 use Prim.Native.Nat.{ℕ, zero, suc, _*_, _^_, _<_}
 use native.Mathlib.Nat as NatL
@@ -19,7 +19,7 @@ use Rattle.game_tree.proofs.Against.{every-of, every-both, reply-depth,
 use Rattle.game_tree.proofs.Best.{best-decides, best-optimal, lowest-of-greatest}
 use Rattle.game_tree.proofs.Unbeaten.{optimal-unbeaten}
 use Rattle.game_tree.proofs.Pure.{pure-worth, pure-parts}
-use Rattle.game_tree.proofs.Link.{link, link-in-units}
+use Rattle.game_tree.proofs.Link.{link, link-in-units, allBut-same, grain-worth}
 
 -- ---- no rival is worth more
 parts-unbeaten : (C m D E i u : ℕ) (s : Strategy) (p : Key → ℕ → ℕ) (t : Tree) → Splits C m t → PerfectRecall i t
@@ -44,52 +44,64 @@ no-rival-better C m D i s z t d h g v = ·-cancel (D ^ m) (worth (all D) z i (C 
 pub own-rival : (D : ℕ → ℕ) (i : ℕ) (s : Strategy) (t : Tree) → Valid D s t → Rival D i s s t
 own-rival D i s t v = (v, every-of (λ j k n. (j ≡ i → ⊥) → (a : ℕ) → a < n → s j k a ≡ s j k a) (λ j k n e a l. refl) t)
 
--- ---- the reply
-module _ (D i u : ℕ) (s : Strategy) (t : Tree) where
+-- ---- the reply, in any grain
+module _ (D i u E : ℕ) (s : Strategy) (t : Tree) where
   abbrev seen : Reply
   seen = replyTree D s i u t
 
-  reply-own : (j : ℕ) (k : Key) → eqb j i ≡ true → reply D s i u t j k ≡ pure D (best seen) k
-  unfolding reply
-  reply-own j k e = fun-ext (λ a. ap (λ b. cond b (pure D (best seen) k a) (s j k a)) e)
+  -- E on each chosen action of the seat, 0 on its others, the table's entries elsewhere
+  abbrev pub copied : Strategy
+  copied j k a = cond (eqb j i) (pure E (best seen) k a) (s j k a)
 
-  reply-else : (j : ℕ) (k : Key) → eqb j i ≡ false → reply D s i u t j k ≡ s j k
-  unfolding reply
-  reply-else j k e = fun-ext (λ a. ap (λ b. cond b (pure D (best seen) k a) (s j k a)) e)
+  copied-own : (j : ℕ) (k : Key) → eqb j i ≡ true → copied j k ≡ pure E (best seen) k
+  copied-own j k e = fun-ext (λ a. ap (λ b. cond b (pure E (best seen) k a) (s j k a)) e)
 
-  reply-keeps : Keeps i s (reply D s i u t) t
-  reply-keeps = every-of (λ j k n. (j ≡ i → ⊥) → (a : ℕ) → a < n → reply D s i u t j k a ≡ s j k a)
-      (λ j k n e a l. ap (λ p. p a) (reply-else j k (eqb-no j i e))) t
+  copied-else : (j : ℕ) (k : Key) → eqb j i ≡ false → copied j k ≡ s j k
+  copied-else j k e = fun-ext (λ a. ap (λ b. cond b (pure E (best seen) k a) (s j k a)) e)
+
+  pub copied-keeps : Keeps i s copied t
+  copied-keeps = every-of (λ j k n. (j ≡ i → ⊥) → (a : ℕ) → a < n → copied j k a ≡ s j k a)
+      (λ j k n e a l. ap (λ p. p a) (copied-else j k (eqb-no j i e))) t
 
   module _ (d : 0 < D) (v : Valid (all D) s t) where
     abbrev Chosen : ℕ → Key → ℕ → Type 0
     Chosen j k n = j ≡ i → best seen k ≡ lowest n (setSum (best seen) seen k)
 
-    reply-parts : (j : ℕ) (k : Key) (n : ℕ) → parts n (s j k) ≡ D → Chosen j k n → parts n (reply D s i u t j k) ≡ D
+    copied-parts : (j : ℕ) (k : Key) (n : ℕ) → parts n (s j k) ≡ D → Chosen j k n → parts n (copied j k) ≡ allBut i E D j
     unfolding parts
-    reply-parts j k n e c = at (tested (eqb j i))
+    copied-parts j k n e c = at (tested (eqb j i))
       where
         some : (n : ℕ) → parts n (s j k) ≡ D → 0 < n
         some zero q = omega arith
         some (suc n) q = omega arith
 
-        at : Tested (eqb j i) → parts n (reply D s i u t j k) ≡ D
-        at (is w) = ap (parts n) (reply-own j k w) ∙ pure-parts D (best seen) k n
-            (rw (c (eqb-is j i w)) (lowest-of-greatest n (setSum (best seen) seen k) (some n e) .0))
-        at (isn't w) = ap (parts n) (reply-else j k w) ∙ e
+        at : Tested (eqb j i) → parts n (copied j k) ≡ allBut i E D j
+        at (is w) = ap (parts n) (copied-own j k w) ∙ pure-parts E (best seen) k n
+            (rw (c (eqb-is j i w)) (lowest-of-greatest n (setSum (best seen) seen k) (some n e) .0)) ∙ sym (ap (λ b. cond b E D) w)
+        at (isn't w) = ap (parts n) (copied-else j k w) ∙ e ∙ sym (ap (λ b. cond b E D) w)
 
-    reply-valid : PerfectRecall i t → Valid (all D) (reply D s i u t) t
-    reply-valid h = every-both (λ j k n. parts n (s j k) ≡ D) Chosen (λ j k n. parts n (reply D s i u t j k) ≡ D) reply-parts t v
+    pub copied-valid : PerfectRecall i t → Valid (allBut i E D) copied t
+    copied-valid h = every-both (λ j k n. parts n (s j k) ≡ D) Chosen (λ j k n. parts n (copied j k) ≡ allBut i E D j) copied-parts t v
         (own→every D i s (λ k n. best seen k ≡ lowest n (setSum (best seen) seen k)) t u (best-decides seen (recall-kept D i u s t h)))
 
-pub reply-is-rival : ReplyIsRival
-reply-is-rival D i u s t d h v = (reply-valid D i u s t d v h, reply-keeps D i u s t)
-
-pub reply-worth : ReplyWorth
-reply-worth C m D i s t d h = ·-cancel-eq (D ^ m) (worth (all D) (reply D s i (C * D ^ m) t) i (C * D ^ m) t) (bestValue r) (NatL.one-le-pow m D d)
-    (link-in-units C m D i s (reply D s i (C * D ^ m) t) t d h (reply-keeps D i (C * D ^ m) s t)
-    ∙ ap (λ p. scaled D p r m) (fun-ext (λ k. reply-own D i (C * D ^ m) s t i k (eqb-self i)))
-    ∙ pure-worth D m (best r) r (reply-depth D i s t (C * D ^ m) C m h))
+pub copied-worth : (C m D E i : ℕ) (s : Strategy) (t : Tree) → 0 < D → 0 < E → Splits C m t
+    → worth (allBut i E D) (copied D i (C * D ^ m) E s t) i (E ^ m * (C * D ^ m)) t ≡ E ^ m · bestValue (replyTree D s i (C * D ^ m) t)
+copied-worth C m D E i s t d e h = link C m D E i s (copied D i (C * D ^ m) E s t) t d e h (copied-keeps D i (C * D ^ m) E s t)
+    ∙ ap (λ p. scaled E p r m) (fun-ext (λ k. copied-own D i (C * D ^ m) E s t i k (eqb-self i)))
+    ∙ pure-worth E m (best r) r (reply-depth D i s t (C * D ^ m) C m h)
   where
     r : Reply
     r = replyTree D s i (C * D ^ m) t
+
+-- ---- the reply itself has D parts
+pub reply-is-rival : ReplyIsRival
+unfolding reply
+reply-is-rival D i u s t d h v = (
+  subst (λ g. Valid g (reply D s i u t) t) (allBut-same i D) (copied-valid D i u D s t d v h),
+  copied-keeps D i u D s t,
+)
+
+pub reply-worth : ReplyWorth
+unfolding reply
+reply-worth C m D i s t d h = ·-cancel-eq (D ^ m) (worth (all D) (reply D s i (C * D ^ m) t) i (C * D ^ m) t) (bestValue (replyTree D s i (C * D ^ m) t))
+    (NatL.one-le-pow m D d) (sym (grain-worth C m D i (reply D s i (C * D ^ m) t) t d h) ∙ copied-worth C m D D i s t d d h)

@@ -11,11 +11,11 @@ use lib.ListN.{length, getD, take, drop, replicate, length-append, length-drop, 
 use lib.Seq.{length-take-le, getD-append-add, getD-drop, getD-take, drop-at, ext-getD}
 use borrow.Author.Tests.{ltb-true, ltb-false}
 use Rattle.game_tree.specs.Sums.{sumℕ, parts}
-use Rattle.game_tree.specs.Tree.{Key, Tree, end, chance, decide, Trees, nil, cons, fan, Strategy, worth, worthAll, worthKids}
+use Rattle.game_tree.specs.Tree.{Key, Tree, end, chance, decide, Trees, nil, cons, fan, Strategy, all, worth, worthAll, worthKids}
 use Rattle.game_tree.specs.Conditions.{Every, EveryAll}
-use Rattle.game_tree.specs.Sets.{Decision, isOf, entriesOf, before, seatsOf}
-use Rattle.game_tree.specs.Table.{Table, listed, laidOut, addUp}
-use Rattle.game_tree.proofs.Tests.{Tested, is, isn't, tested, eqb-is, eqb-self}
+use Rattle.game_tree.specs.Sets.{Decision, isOf, sets, entriesOf, before, seatsOf}
+use Rattle.game_tree.specs.Table.{Table, listed, laidOut, addUp, KeepsTable, addUpBy}
+use Rattle.game_tree.proofs.Tests.{Tested, is, isn't, tested, eqb-is, eqb-self, eqb-no}
 use Rattle.game_tree.proofs.Sets.{Property, Each, each-map, clash, isOf-seat, isOf-key, isOf-self, unmet, Distinct, Stands}
 
 -- ---- a strategy counts only where the tree has a decision
@@ -120,8 +120,8 @@ module _ (s : Strategy) where
           ∙ behind (x .2) own (laidOut xs s) (entriesOf (before j k xs) + a) (listed-length (x .2) (s (x .0) (x .1))) ∙ g (stands-past j k n x xs e h)
 
   -- valid parts add up set after set
-  pub laidOut-adds : (D : ℕ) (xs : List Decision) → Each (λ j k n. parts n (s j k) ≡ D) xs → addUp D (map (λ x. x .2) xs) (laidOut xs s) ≡ true
-  unfolding laidOut addUp Each
+  pub laidOut-adds : (D : ℕ → ℕ) (xs : List Decision) → Each (λ j k n. parts n (s j k) ≡ D j) xs → addUpBy D xs (laidOut xs s) ≡ true
+  unfolding laidOut addUpBy Each
   laidOut-adds D [] h = refl
   laidOut-adds D (x ∷ xs) h = rw (front, rest) (laidOut-adds D xs (h .1))
     where
@@ -131,8 +131,8 @@ module _ (s : Strategy) where
       of-own : (a : ℕ) → a < x .2 → getD (own ++ laidOut xs s) a 0 ≡ s (x .0) (x .1) a
       of-own a l = List·getD-append own (laidOut xs s) 0 a (rw (listed-length (x .2) (s (x .0) (x .1))) l) ∙ listed-at (x .2) (s (x .0) (x .1)) a l
 
-      front : eqb (parts (x .2) (λ a. getD (own ++ laidOut xs s) a 0)) D ≡ true
-      front = rw (parts-same (x .2) (λ a. getD (own ++ laidOut xs s) a 0) (s (x .0) (x .1)) of-own ∙ h .0) (eqb-self D)
+      front : eqb (parts (x .2) (λ a. getD (own ++ laidOut xs s) a 0)) (D (x .0)) ≡ true
+      front = rw (parts-same (x .2) (λ a. getD (own ++ laidOut xs s) a 0) (s (x .0) (x .1)) of-own ∙ h .0) (eqb-self (D (x .0)))
 
       rest : drop (x .2) (own ++ laidOut xs s) ≡ laidOut xs s
       rest = drop-at own (laidOut xs s) (x .2) (listed-length (x .2) (s (x .0) (x .1)))
@@ -151,20 +151,27 @@ and-right : (a b : Bool) → cond a b false ≡ true → b ≡ true
 and-right true b e = e
 and-right false b e = absurd (clash false e refl)
 
-pub adds-at : (D j : ℕ) (k : Key) (n : ℕ) (xs : List Decision) (table : Table) → addUp D (map (λ x. x .2) xs) table ≡ true → Stands j k n xs
-    → parts n (λ a. getD table (entriesOf (before j k xs) + a) 0) ≡ D
-unfolding addUp Stands
+-- with D for every seat, both ways of adding up are one
+pub adds-all : (D : ℕ) (xs : List Decision) (table : Table) → addUpBy (all D) xs table ≡ addUp D (map (λ x. x .2) xs) table
+unfolding addUpBy addUp
+adds-all D [] table = refl
+adds-all D (x ∷ xs) table = ap (λ r. cond (eqb (parts (x .2) (λ a. getD table a 0)) D) r false) (adds-all D xs (drop (x .2) table))
+
+pub adds-at : (D : ℕ → ℕ) (j : ℕ) (k : Key) (n : ℕ) (xs : List Decision) (table : Table) → addUpBy D xs table ≡ true → Stands j k n xs
+    → parts n (λ a. getD table (entriesOf (before j k xs) + a) 0) ≡ D j
+unfolding addUpBy Stands
 adds-at D j k n [] table e h = absurd h
 adds-at D j k n (x ∷ xs) table e h = at (tested (isOf j k x))
-    (λ w. adds-at D j k n xs (drop (x .2) table) (and-right (eqb (parts (x .2) (λ a. getD table a 0)) D) (addUp D (map (λ x. x .2) xs) (drop (x .2) table)) e) w)
+    (λ w. adds-at D j k n xs (drop (x .2) table) (and-right (eqb (parts (x .2) (λ a. getD table a 0)) (D (x .0))) (addUpBy D xs (drop (x .2) table)) e) w)
   where
-    sum-here : parts (x .2) (λ a. getD table a 0) ≡ D
-    sum-here = eqb-is (parts (x .2) (λ a. getD table a 0)) D (and-left (eqb (parts (x .2) (λ a. getD table a 0)) D) (addUp D (map (λ x. x .2) xs) (drop (x .2) table)) e)
+    sum-here : parts (x .2) (λ a. getD table a 0) ≡ D (x .0)
+    sum-here = eqb-is (parts (x .2) (λ a. getD table a 0)) (D (x .0)) (and-left (eqb (parts (x .2) (λ a. getD table a 0)) (D (x .0))) (addUpBy D xs (drop (x .2) table)) e)
 
-    at : Tested (isOf j k x) → (Stands j k n xs → parts n (λ a. getD (drop (x .2) table) (entriesOf (before j k xs) + a) 0) ≡ D)
-        → parts n (λ a. getD table (entriesOf (before j k (x ∷ xs)) + a) 0) ≡ D
+    at : Tested (isOf j k x) → (Stands j k n xs → parts n (λ a. getD (drop (x .2) table) (entriesOf (before j k xs) + a) 0) ≡ D j)
+        → parts n (λ a. getD table (entriesOf (before j k (x ∷ xs)) + a) 0) ≡ D j
     at (is w) g = parts-same n (λ a. getD table (entriesOf (before j k (x ∷ xs)) + a) 0) (λ a. getD table a 0)
         (λ a l. ap (λ b. getD table b 0) (ap (λ f. f + a) (first-here j k x xs w) ∙ NatL.zero-add a)) ∙ ap (λ m. parts m (λ a. getD table a 0)) (sym (stands-here j k n x xs w h)) ∙ sum-here
+        ∙ ap D (isOf-seat j k x w)
     at (isn't w) g = parts-same n (λ a. getD table (entriesOf (before j k (x ∷ xs)) + a) 0) (λ a. getD (drop (x .2) table) (entriesOf (before j k xs) + a) 0)
         (λ a l. ap (λ b. getD table b 0) (ap (λ f. f + a) (first-past j k x xs w) ∙ NatL.add-assoc (x .2) (entriesOf (before j k xs)) a)
         ∙ sym (getD-drop (x .2) table (entriesOf (before j k xs) + a) 0)) ∙ g (stands-past j k n x xs w h)
@@ -241,3 +248,24 @@ laidOut-keeps i s z (x ∷ xs) h e l f = at (tested (ltb e (x .2))) (λ d q m g.
     at (isn't w) g = let v : x .2 ≤ e = ltb-false e (x .2) w in let q : e ≡ x .2 + (e - x .2) = omega arith in
         in-rest z (e - x .2) q ∙ g (e - x .2) q (omega arith) (λ y. f (ap (λ b. getD (replicate (x .2) (x .0) ++ seatsOf xs) b 0) q
         ∙ behind (x .2) (replicate (x .2) (x .0)) (seatsOf xs) (e - x .2) (length-replicate (x .2) (x .0)) ∙ y)) ∙ sym (in-rest s (e - x .2) q)
+
+-- ---- kept entries, by a test
+-- of entries with these seats, those that are not seat i's are one in both tables
+unfoldable pub keepsIn : ℕ → List ℕ → Table → Table → Bool
+keepsIn i [] table z = true
+keepsIn i (j ∷ js) [] z = false
+keepsIn i (j ∷ js) (p ∷ table) [] = false
+keepsIn i (j ∷ js) (p ∷ table) (q ∷ z) = let r : Bool = keepsIn i js table z in cond (cond (eqb j i) true (eqb q p)) r false
+
+keeps-at : (i : ℕ) (js : List ℕ) (table z : Table) → keepsIn i js table z ≡ true
+    → (e : ℕ) → e < length js → (getD js e 0 ≡ i → ⊥) → getD z e 0 ≡ getD table e 0
+unfolding keepsIn
+keeps-at i [] table z h e l f = absurd (NatL.not-suc-le-zero l)
+keeps-at i (j ∷ js) [] z h e l f = absurd (clash false h refl)
+keeps-at i (j ∷ js) (p ∷ table) [] h e l f = absurd (clash false h refl)
+keeps-at i (j ∷ js) (p ∷ table) (q ∷ z) h zero l f = eqb-is q p (rw (eqb-no j i f) at (and-left (cond (eqb j i) true (eqb q p)) (keepsIn i js table z) h))
+keeps-at i (j ∷ js) (p ∷ table) (q ∷ z) h (suc e) l f =
+    keeps-at i js table z (and-right (cond (eqb j i) true (eqb q p)) (keepsIn i js table z) h) e (NatL.le-of-suc-le-suc l) f
+
+pub keeps-tested : (t : Tree) (i : ℕ) (table z : Table) → keepsIn i (seatsOf (sets t)) table z ≡ true → KeepsTable t i table z
+keeps-tested t i table z h e l f = keeps-at i (seatsOf (sets t)) table z h e (rw (seats-length (sets t)) l) f

@@ -17,6 +17,7 @@ use Rattle.game_tree.specs.Table.{Table, strategyOf, tableBest}
 use Rattle.game_tree.specs.Recall.{RecallsOwn}
 use Rattle.game_tree.proofs.TableTheorem.{reply-table-best, own-table-entries-free, table-units-add-up}
 use Rattle.game_tree.proofs.Theorem.{units-exact, recall-kept, best-decides, decides-alike}
+use Rattle.game_tree.proofs.TableTheorem.{finer-products, finer-table-units, finer-reply-best, nash-conv-zero}
 use Rattle.game_tree.proofs.Sets.{Each, every→sets}
 use Rattle.kuhn_tree.specs.Tree.{kuhnTree}
 use Rattle.kuhn_tree.specs.Tree as KuhnTree
@@ -35,6 +36,7 @@ use Rattle.games.specs.Games.{treeOf, C, m, mostParts, rootUnits}
 use Rattle.games.specs.Seats.{seats-out}
 use Rattle.games.specs.Facts.{nodesOf, setsOf, entriesOf, Counted, kuhn, leduc, Table-of-counts, Fit, Games-fit, Reply-best}
 use Rattle.games.specs.Facts.{Units-exact, Units-add-up, Own-entries-free, openTo, Best-decides, Decides-alike}
+use Rattle.games.specs.Facts.{Finer-rivals, Finer-reply, Conv-zero}
 use Rattle.games.specs.internal.Facts.{Actions-listed}
 use Rattle.games.specs.internal.Actions.{actionsOf}
 use Rattle.games.specs.declared.Game.{Game}
@@ -166,3 +168,17 @@ games-best-decides g D i table known out w = best-decides (openTo g D i table) (
 pub games-decides-alike : Decides-alike
 unfolding tableBest
 games-decides-alike g D i table c known out w = decides-alike (openTo g D i table) c (open-recalls g D i table known out w)
+
+pub finer-rivals : Finer-rivals
+finer-rivals g D E i table z known out w d e r =
+    let f = games-fit g known out in
+    let (exact, units) = finer-table-units (treeOf g) (C g) (m g) D E i table z d e (f .splits) (f .actions) r in
+    (exact, units, finer-products (treeOf g) (C g) (m g) D E i table z d e (f .splits) (f .recall i w) (f .actions) r)
+
+pub finer-reply : Finer-reply
+finer-reply g D E i table known out w d e v =
+    let f = games-fit g known out in finer-reply-best (treeOf g) (C g) (m g) D E i table d e (f .splits) (f .recall i w) (f .actions) v
+
+pub conv-zero : Conv-zero
+conv-zero g D table known out d v =
+    let f = games-fit g known out in nash-conv-zero (treeOf g) (C g) (m g) D (g .seats) table d (f .splits) (f .recall) (f .actions) v

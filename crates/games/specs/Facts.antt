@@ -2,14 +2,20 @@
 -- their counts as numbers that a program can hold, and what the reply theorem asks of their trees.
 use mathlib.Core.Path.{_≡_}
 use mathlib.Core.Bool.{false, cond}
-use Prim.Native.Nat.{ℕ, _≤_, _<_}
+use mathlib.Core.Logic.{_↔_}
+use Prim.Native.Nat.{ℕ, _*_, _^_, _≤_, _<_}
+use lib.IntN.{pos}
+use lib.Signed.{_≤ℤ_}
+use Rattle.game_tree.specs.Sums.{_·_}
 use Rattle.game_tree.specs.Tree.{Strategy, all}
-use Rattle.game_tree.specs.Conditions.{units, Exact, Splits, Pays}
+use Rattle.game_tree.specs.Conditions.{allBut, units, Exact, Splits, Pays}
 use Rattle.game_tree.specs.Reply.{Reply, replyTree, Choice, value, best}
 use Rattle.game_tree.specs.Optimal.{EveryOwn, Decides}
 use Rattle.game_tree.specs.Recall.{PerfectRecall}
 use Rattle.game_tree.specs.Shape.{Sized, SameActions}
-use Rattle.game_tree.specs.Table.{Table, strategyOf, ValidTable, KeepsTable, tableBest, replyTable, BestReply}
+use Rattle.game_tree.specs.Table.{Table, strategyOf, ValidTable, KeepsTable, tableBest, replyTable, nashConv, BestReply}
+use Rattle.game_tree.specs.Table.{FinerRival, finerWorth, Equilibrium}
+use Rattle.game_tree.specs.TableTheorem.{finerReply}
 use Rattle.kuhn_tree.specs.Counts.{kuhnNodes, kuhnSets, kuhnEntries}
 use Rattle.games.specs.Games.{isKuhn, treeOf, C, m, rootUnits}
 use Rattle.games.specs.Seats.{seats-out}
@@ -60,11 +66,11 @@ pub record Fit (g : Game) : Type 0 where
 abbrev pub Games-fit : Type 0
 Games-fit = (g : Game) → g .number ≤ 1 → seats-out g ≡ false → Fit g
 
--- so the reply to a valid table is a rival table, its worth is the best value, and no rival table is worth more
+-- so the reply to a valid table is a rival table, its worth is the best value, and no rival table, nor one of any grain, is worth more
 abbrev pub Reply-best : Type 0
 Reply-best = (g : Game) (D i : ℕ) (table : Table) → g .number ≤ 1 → seats-out g ≡ false → i < g .seats → 0 < D
     → ValidTable (treeOf g) D table
-    → BestReply (treeOf g) D (rootUnits g D) i table (tableBest (treeOf g) D (rootUnits g D) table i)
+    → BestReply (treeOf g) (m g) D (rootUnits g D) i table (tableBest (treeOf g) D (rootUnits g D) table i)
     (replyTable (treeOf g) D (rootUnits g D) table i)
 
 -- every division on the way down from the root's units is exact, whatever the parts
@@ -97,3 +103,26 @@ Decides-alike = (g : Game) (D i : ℕ) (table : Table) (c : Choice) → g .numbe
     → Decides c (openTo g D i table)
     → EveryOwn (λ k n. c k ≡ best (openTo g D i table) k) (openTo g D i table)
     × (value c (openTo g D i table) ≡ tableBest (treeOf g) D (rootUnits g D) table i)
+
+-- the worth of a rival of grain E is over C × D^m × E^m: every division that gives it is exact, the units of all ends add up to just that,
+-- and in products of whole numbers it is at most the best value over C × D^m
+abbrev pub Finer-rivals : Type 0
+Finer-rivals = (g : Game) (D E i : ℕ) (table z : Table) → g .number ≤ 1 → seats-out g ≡ false → i < g .seats → 0 < D → 1 ≤ E
+    → FinerRival (treeOf g) D E i table z
+    → Exact (allBut i E D) (strategyOf (treeOf g) z) (E ^ m g * rootUnits g D) (treeOf g)
+    × (units (allBut i E D) (strategyOf (treeOf g) z) (E ^ m g * rootUnits g D) (treeOf g) ≡ E ^ m g * rootUnits g D)
+    × ((rootUnits g D · finerWorth (treeOf g) (m g) D (rootUnits g D) E z i)
+    ≤ℤ ((C g * D ^ m g * E ^ m g) · tableBest (treeOf g) D (rootUnits g D) table i))
+
+-- the reply in grain E is such a rival, and worth just the best value
+abbrev pub Finer-reply : Type 0
+Finer-reply = (g : Game) (D E i : ℕ) (table : Table) → g .number ≤ 1 → seats-out g ≡ false → i < g .seats → 0 < D → 1 ≤ E
+    → ValidTable (treeOf g) D table
+    → FinerRival (treeOf g) D E i table (finerReply (treeOf g) D (rootUnits g D) E table i)
+    × (finerWorth (treeOf g) (m g) D (rootUnits g D) E (finerReply (treeOf g) D (rootUnits g D) E table i) i
+    ≡ E ^ m g · tableBest (treeOf g) D (rootUnits g D) table i)
+
+-- NashConv is 0 exactly if no seat has a rival of any grain worth more than its entries
+abbrev pub Conv-zero : Type 0
+Conv-zero = (g : Game) (D : ℕ) (table : Table) → g .number ≤ 1 → seats-out g ≡ false → 0 < D → ValidTable (treeOf g) D table
+    → (nashConv (treeOf g) D (rootUnits g D) table (g .seats) ≡ pos 0) ↔ Equilibrium (treeOf g) (m g) D (rootUnits g D) table (g .seats)

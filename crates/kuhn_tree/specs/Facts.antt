@@ -107,10 +107,10 @@ PayoffsBalance = (ante bet n : ℕ) → 1 ≤ n → EveryEnd (λ p. sumℤ n p �
 abbrev pub rootUnits : ℕ → ℕ → ℕ
 rootUnits n D = U (C n) D (m n)
 
--- 6. The reply to a valid table is a rival table, its worth is the best value, and no rival table is worth more.
+-- 6. The reply to a valid table is a rival table, its worth is the best value, and no rival table, nor one of any grain, is worth more.
 abbrev pub ReplyBest : Type 0
 ReplyBest = (ante bet n D i : ℕ) (table : Table) → 0 < D → ValidTable (kuhnTree ante bet n) D table
-    → BestReply (kuhnTree ante bet n) D (rootUnits n D) i table (tableBest (kuhnTree ante bet n) D (rootUnits n D) table i)
+    → BestReply (kuhnTree ante bet n) (m n) D (rootUnits n D) i table (tableBest (kuhnTree ante bet n) D (rootUnits n D) table i)
     (replyTable (kuhnTree ante bet n) D (rootUnits n D) table i)
 
 -- At stakes 1 and 1 a worth and a best value fit a signed number of 64 bits,

@@ -51,13 +51,13 @@ FansDivide = (ante raise₁ raise₂ : ℕ) → Splits C m (leducTree ante raise
 abbrev pub PayoffsBounded : Type 0
 PayoffsBounded = (ante raise₁ raise₂ i : ℕ) → Pays (largestPayoff ante raise₁ raise₂) i (leducTree ante raise₁ raise₂)
 
--- 4. The reply to a valid table is a rival table, its worth is the best value, and no rival table is worth more.
+-- 4. The reply to a valid table is a rival table, its worth is the best value, and no rival table, nor one of any grain, is worth more.
 abbrev pub units : ℕ → ℕ
 units D = U C D m
 
 abbrev pub ReplyBest : Type 0
 ReplyBest = (ante raise₁ raise₂ D i : ℕ) (table : Table) → i < 2 → 0 < D → ValidTable (leducTree ante raise₁ raise₂) D table
-    → BestReply (leducTree ante raise₁ raise₂) D (units D) i table (tableBest (leducTree ante raise₁ raise₂) D (units D) table i)
+    → BestReply (leducTree ante raise₁ raise₂) m D (units D) i table (tableBest (leducTree ante raise₁ raise₂) D (units D) table i)
     (replyTable (leducTree ante raise₁ raise₂) D (units D) table i)
 
 -- 5. The tree is the deal of a card to each seat, and below each deal a hand.

@@ -1,11 +1,14 @@
 -- What a call for NashConv answers, refused or accepted. Assumes nothing.
-use mathlib.Core.Path.{_≡_, ap, ap₂, _∙_}
+use mathlib.Core.Path.{_≡_, sym, ap, ap₂, _∙_}
+use mathlib.Core.Logic.{_↔_}
 use Prim.Native.Nat.{ℕ, zero, suc}
 use native.Mathlib.Omega.{arith}
 use lib.IntN.{pos, natAbs}
-use Rattle.game_tree.specs.Table.{Table}
+use Rattle.game_tree.specs.Table.{Table, Equilibrium}
 use Rattle.games.specs.declared.Game.{Game}
-use Rattle.games.specs.Games.{rootUnits}
+use Rattle.games.specs.Games.{treeOf, m, rootUnits}
+use Rattle.games.proofs.Facts.{conv-zero}
+use Rattle.tree_refusals.specs.Accepted.{AcceptedTable}
 use Rattle.nash_conv_units.specs.declared.NashConvAnswer.{NashConvAnswer}
 use Rattle.nash_conv_units.specs.Calls.{nashConvOf, answer}
 
@@ -26,3 +29,10 @@ module _ (r q : ℕ) (g : Game) (D : ℕ) (table : Table) (e : r ≡ q) where
       at : (q : ℕ) → r ≡ q → given r conv units ≡ answer q g D table
       at zero v = ap (λ x. given x conv units) z ∙ ap₂ (λ x y. given 0 x y) (ap natAbs c) u
       at (suc q) v = absurd (omega arith)
+
+-- the number answered is 0 exactly at an equilibrium
+pub zero-answered : (g : Game) (D : ℕ) (table : Table) → AcceptedTable g D table → (conv : ℕ) → pos conv ≡ nashConvOf g D table
+    → (conv ≡ 0) ↔ Equilibrium (treeOf g) (m g) D (rootUnits g D) table (g .seats)
+zero-answered g D table a conv q =
+    let (f, b) = conv-zero g D table (a .game .known) (a .game .seats) (a .least) (a .valid) in
+    ((λ e. f (sym q ∙ ap pos e)), λ h. ap natAbs (q ∙ b h))

@@ -73,7 +73,7 @@ module _ (g : Game) (D : ℕ) (table : Table) (a : AcceptedTable g D table) wher
     module _ (w b v : ℤ) (p : w ≡ tableWorth T D U table i) (q : b ≡ v) (e : v ≡ tableBest T D U table i) where
       pub excess-asked : Unbeaten g D i table v → (w ≤ℤ b) × (natAbs w < 2 ^ 62) × (natAbs b < 2 ^ 62)
       excess-asked u = (
-        rw (p, q) (u table (a .valid, λ x l f. refl)),
+        rw (p, q) (u .0 table (a .valid, λ x l f. refl)),
         rw p (NatL.lt-of-le-of-lt (sizes .0) most-few),
         rw (q ∙ e) (NatL.lt-of-le-of-lt (sizes .1) most-few),
       )

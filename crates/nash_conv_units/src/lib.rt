@@ -13,7 +13,7 @@ ghost use Rattle.tree_refusals.specs.Accepted.{AcceptedTable};
 ghost use Rattle.arena_store.specs.Memory.{MemoryAfter};
 ghost use Rattle.arena_store.specs.internal.Stored.{Stored};
 ghost use Rattle.units_worths.specs.Worths.{worthsOf};
-ghost use Rattle.nash_conv_units.specs.Calls.{answer, Whole};
+ghost use Rattle.nash_conv_units.specs.Calls.{answer, Whole, ZeroAtEquilibrium};
 
 // A call's refusal number, 0 if it was accepted, NashConv, and the units of the root that it is measured in; every number but the first is 0 if it was refused.
 // C has it as it is.
@@ -80,6 +80,7 @@ pub fn nash_conv_units(
     ensures answer { λ r. ⌜ r ≡ answer (evaluation-refusal (gameOf number seats) (length (now (work .entry))) d (now (table .entry)))
         (gameOf number seats) d (now (table .entry)) ⌝ }
     ensures whole { λ r. ⌜ Whole r (gameOf number seats) d (now (table .entry)) ⌝ }
+    ensures equilibrium { λ r. ⌜ ZeroAtEquilibrium r (gameOf number seats) d (now (table .entry)) ⌝ }
     ensures memory { λ r. ⌜ MemoryAfter (r .refusal) (gameOf number seats) (now (work .entry)) (now (work .exit)) ⌝ }
 {
     let g = Game { number, seats };

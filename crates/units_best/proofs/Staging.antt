@@ -194,7 +194,7 @@ module _ (g : Game) (D i : ℕ) (table : Table) (a : AcceptedTable g D table) (l
   best-reply = reply-best g D i table (a .game .known) (a .game .seats) l (a .least) (a .valid)
 
   pub unbeaten : (b : ℤ) → b ≡ tableBest T D U table i → Unbeaten g D i table b
-  unbeaten b e = subst (Unbeaten g D i table) (sym e) (best-reply .unbeaten)
+  unbeaten b e = subst (Unbeaten g D i table) (sym e) (best-reply .unbeaten, best-reply .finer)
 
   -- ---- the reply
   module _ (y : List ℕ) (x : Staged g D i table y) where
