@@ -89,7 +89,9 @@ unfoldable mutual
   agreesAll (cons t f) (cons u g) = agrees t u && agreesAll f g
 
 all-agree : agrees (leducTree ante raise₁ raise₂) dealsTree ≡ true
-unfolding agrees equal told same keyOf historyOf fan codeOf codeFrom numberFrom leducTree below next each _&&_ _||_ some those has ends-with folded closes behind raises may options in-play turn ended left remaining public-due due key after-action put-in contribution folds pairs beats wins payoff byteFor endTree raisedTree calledTree roundTree only rowTo join showdownFor secondTree publicTree firstTree dealTree
+unfolding agrees equal told same keyOf historyOf fan codeOf codeFrom numberFrom leducTree below next each _&&_ _||_ some those has ends-with folded
+    closes behind raises may options in-play turn ended left remaining public-due due key after-action put-in contribution folds pairs beats wins
+    payoff byteFor endTree raisedTree calledTree roundTree only rowTo join showdownFor secondTree publicTree firstTree dealTree
 all-agree = refl
 
 -- ---- what holds the one holds the other
