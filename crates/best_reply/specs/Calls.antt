@@ -4,10 +4,9 @@ use Prim.Native.Nat.{ℕ, zero, suc}
 use lib.IntN.{ℤ, pos}
 use lib.ListN.{take, drop}
 use Rattle.game_tree.specs.Sets.{entries}
-use Rattle.game_tree.specs.Table.{Table, tableBest, replyTable}
+use Rattle.game_tree.specs.Table.{Table, tableBest, replyTable, BestReply}
 use Rattle.games.specs.declared.Game.{Game}
-use Rattle.games.specs.Games.{treeOf, rootUnits}
-use Rattle.units_best.specs.Best.{BestReply}
+use Rattle.games.specs.Games.{treeOf, m, rootUnits}
 use Rattle.best_reply.specs.declared.ReplyAnswer.{ReplyAnswer}
 
 -- the answer: the best value of the seat, 0 if the call was refused
@@ -24,5 +23,6 @@ written (suc r) g seat D table out = out
 -- the value to the seat, and no such table is worth more, nor is a rival of any grain: with E parts in the seat's sets, for every E from 1,
 -- and D in the others', its worth is at most E^m × the value
 abbrev pub Demand : ℕ → Game → (seat D : ℕ) → Table → (value : ℤ) (out : List ℕ) → Type 0
-Demand zero g seat D table value out = BestReply g D seat table value (take (entries (treeOf g)) out)
+Demand zero g seat D table value out =
+    BestReply (treeOf g) (m g) D (rootUnits g D) seat table value (take (entries (treeOf g)) out)
 Demand (suc r) g seat D table value out = Unit {0}
