@@ -1,3 +1,4 @@
 -- What the worked cases show.
 pub mod Cases
 pub mod Tried
+pub mod Pinned

@@ -23,7 +23,7 @@ use Rattle.games.specs.declared.Game.{Game}
 use Rattle.games.proofs.Totals.{total, total-same, total-more, total-most}
 
 -- what holds of each number from 2 to 10
-each-seats : (P : ℕ → Type 0) → P 2 → P 3 → P 4 → P 5 → P 6 → P 7 → P 8 → P 9 → P 10 → (n : ℕ) → 2 ≤ n → n ≤ 10 → P n
+pub each-seats : (P : ℕ → Type 0) → P 2 → P 3 → P 4 → P 5 → P 6 → P 7 → P 8 → P 9 → P 10 → (n : ℕ) → 2 ≤ n → n ≤ 10 → P n
 each-seats P a b c d e f g h i zero u v = absurd (omega arith)
 each-seats P a b c d e f g h i (suc zero) u v = absurd (omega arith)
 each-seats P a b c d e f g h i (suc (suc zero)) u v = a

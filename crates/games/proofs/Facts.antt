@@ -71,11 +71,11 @@ module _ (g : Game) where
   pub leduc-parts : (g .number ≡ 0 → ⊥) → mostParts g ≡ 64
   leduc-parts k = ap (λ t. cond t (cond (leb (g .seats) 4) 64 16) 64) (ne-eqb (g .number) 0 k)
 
-  kuhn-tree-is : g .number ≡ 0 → treeOf g ≡ kuhnTree 1 1 (g .seats)
+  pub kuhn-tree-is : g .number ≡ 0 → treeOf g ≡ kuhnTree 1 1 (g .seats)
   unfolding treeOf
   kuhn-tree-is k = ap (λ t. cond t (kuhnTree 1 1 (g .seats)) (leducTree 1 2 4)) (eq-eqb (g .number) 0 k)
 
-  leduc-tree-is : (g .number ≡ 0 → ⊥) → treeOf g ≡ leducTree 1 2 4
+  pub leduc-tree-is : (g .number ≡ 0 → ⊥) → treeOf g ≡ leducTree 1 2 4
   unfolding treeOf
   leduc-tree-is k = ap (λ t. cond t (kuhnTree 1 1 (g .seats)) (leducTree 1 2 4)) (ne-eqb (g .number) 0 k)
 

@@ -2,4 +2,5 @@
 pub mod Totals
 pub mod Counts
 pub mod Facts
+pub mod Paths
 pub mod Known

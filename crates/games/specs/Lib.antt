@@ -2,5 +2,6 @@
 pub mod Games
 pub mod Seats
 pub mod Facts
+pub mod Paths
 pub mod Known
 pub mod internal

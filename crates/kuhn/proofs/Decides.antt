@@ -4,7 +4,6 @@ use mathlib.Core.List.{[], _∷_, _++_}
 use Prim.Native.Nat.{ℕ, zero, suc}
 use Rattle.refusals.specs.Refusals.{_refuses_}
 use Rattle.refusals.specs.Refusals as Refusals
-use Rattle.refusals.specs.Facts.{numbered}
 use Rattle.refusals.proofs.Facts.{decides-by}
 use Rattle.kuhn_positions.specs.Positions.{seats-out, position-checks, saved-checks}
 use Rattle.kuhn.specs.Calls.{moved, wrote, payoff-answer, deal-checks, deal-refusal, step-checks, step-refusal, legal-checks, legal-refusal, key-checks, key-refusal}
@@ -27,14 +26,14 @@ payoff-number zero g s = refl
 payoff-number (suc r) g s = refl
 
 pub calls-decide : (g : KuhnPoker) (s : KuhnState) → Calls-decide g s
-unfolding numbered deal-refusal step-refusal legal-refusal key-refusal payoff-refusal saved-refusal
+unfolding deal-refusal step-refusal legal-refusal key-refusal payoff-refusal saved-refusal
 calls-decide g s =
     record {
-      start-decides = decides-by ((seats-out (g .players) refuses Refusals.seats) ∷ []) refl refl;
-      deal-decides = λ k. decides-by (position-checks (g .players) s ++ deal-checks (g .players) s k) refl (moved-number (deal-refusal g s k) s _);
-      step-decides = λ a. decides-by (position-checks (g .players) s ++ step-checks (g .players) s) refl (moved-number (step-refusal g s) s _);
-      legal-decides = λ p room. decides-by (position-checks (g .players) s ++ legal-checks g s p room) refl (wrote-number (legal-refusal g s p room) s _);
-      key-decides = λ p room. decides-by (position-checks (g .players) s ++ key-checks s p room) refl (wrote-number (key-refusal g s p room) s _);
-      payoff-decides = decides-by (position-checks (g .players) s ++ payoff-checks (g .players) s) refl (payoff-number (payoff-refusal g s) g s);
-      saved-decides = λ m. decides-by (saved-checks (g .players) s ++ mark-checks (g .players) s m) refl refl;
+      start-decides = decides-by ((seats-out (g .players) refuses Refusals.seats) ∷ []) tt refl;
+      deal-decides = λ k. decides-by (position-checks (g .players) s ++ deal-checks (g .players) s k) tt (moved-number (deal-refusal g s k) s _);
+      step-decides = λ a. decides-by (position-checks (g .players) s ++ step-checks (g .players) s) tt (moved-number (step-refusal g s) s _);
+      legal-decides = λ p room. decides-by (position-checks (g .players) s ++ legal-checks g s p room) tt (wrote-number (legal-refusal g s p room) s _);
+      key-decides = λ p room. decides-by (position-checks (g .players) s ++ key-checks s p room) tt (wrote-number (key-refusal g s p room) s _);
+      payoff-decides = decides-by (position-checks (g .players) s ++ payoff-checks (g .players) s) tt (payoff-number (payoff-refusal g s) g s);
+      saved-decides = λ m. decides-by (saved-checks (g .players) s ++ mark-checks (g .players) s m) tt refl;
     }

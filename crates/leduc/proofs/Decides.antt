@@ -4,7 +4,7 @@ use mathlib.Core.Bool.{Bool, true, false}
 use mathlib.Core.List.{List, [], _∷_, _++_}
 use Prim.Native.Nat.{ℕ, zero, suc}
 use Rattle.refusals.specs.Refusals.{Check}
-use Rattle.refusals.specs.Facts.{numbered}
+use Rattle.refusals.specs.Facts.{Numbered}
 use Rattle.refusals.proofs.Facts.{numbered-append, decides-by}
 use Rattle.leduc_betting.specs.Cards.{hidden}
 use Rattle.leduc_betting.specs.Checks.{action-checks, barred-by, round-checks, public-checks}
@@ -28,29 +28,28 @@ payoff-number zero s = refl
 payoff-number (suc r) s = refl
 
 -- the checks of a round's actions, and those of a saved position
-actions-numbered : (barred blind : Bool) (before h : List ℕ) → numbered (action-checks barred blind before h) ≡ true
-unfolding numbered action-checks
-actions-numbered barred blind before [] = refl
+actions-numbered : (barred blind : Bool) (before h : List ℕ) → Numbered (action-checks barred blind before h)
+unfolding action-checks
+actions-numbered barred blind before [] = tt
 actions-numbered barred blind before (a ∷ h) = actions-numbered barred blind (before ++ (a ∷ [])) h
 
-round-numbered : (barred blind : Bool) (n : ℕ) (h : List ℕ) (cs : List Check) → numbered cs ≡ true → numbered (round-checks barred blind n h ++ cs) ≡ true
-unfolding numbered
+round-numbered : (barred blind : Bool) (n : ℕ) (h : List ℕ) (cs : List Check) → Numbered cs → Numbered (round-checks barred blind n h ++ cs)
 round-numbered barred blind n h cs w = numbered-append (action-checks barred blind [] h) cs (actions-numbered barred blind [] h) w
 
-saved-numbered : (s : LeducState) → numbered (saved-checks s) ≡ true
-unfolding numbered saved-checks
+saved-numbered : (s : LeducState) → Numbered (saved-checks s)
+unfolding saved-checks
 saved-numbered s =
     round-numbered false false (s .acted1) (roundOne s) _
-    (round-numbered (barred-by (roundOne s)) (hidden (s .public)) (s .acted2) (roundTwo s) (public-checks (hidden (s .public)) (roundOne s) (roundTwo s)) refl)
+    (round-numbered (barred-by (roundOne s)) (hidden (s .public)) (s .acted2) (roundTwo s) (public-checks (hidden (s .public)) (roundOne s) (roundTwo s)) tt)
 
 pub calls-decide : (s : LeducState) → Calls-decide s
-unfolding numbered deal-refusal step-refusal legal-refusal key-refusal payoff-refusal saved-refusal
+unfolding deal-refusal step-refusal legal-refusal key-refusal payoff-refusal saved-refusal
 calls-decide s =
     record {
-      deal-decides = λ k. decides-by (position-checks s ++ deal-checks s k) refl (moved-number (deal-refusal s k) s _);
-      step-decides = λ a. decides-by (position-checks s ++ step-checks s) refl (moved-number (step-refusal s) s _);
-      legal-decides = λ t room. decides-by (position-checks s ++ legal-checks s t room) refl (wrote-number (legal-refusal s t room) s _);
-      key-decides = λ t room. decides-by (position-checks s ++ key-checks s t room) refl (wrote-number (key-refusal s t room) s _);
-      payoff-decides = decides-by (position-checks s ++ payoff-checks s) refl (payoff-number (payoff-refusal s) s);
-      saved-decides = λ m. decides-by (saved-checks s ++ mark-checks s m) (numbered-append (saved-checks s) (mark-checks s m) (saved-numbered s) refl) refl;
+      deal-decides = λ k. decides-by (position-checks s ++ deal-checks s k) tt (moved-number (deal-refusal s k) s _);
+      step-decides = λ a. decides-by (position-checks s ++ step-checks s) tt (moved-number (step-refusal s) s _);
+      legal-decides = λ t room. decides-by (position-checks s ++ legal-checks s t room) tt (wrote-number (legal-refusal s t room) s _);
+      key-decides = λ t room. decides-by (position-checks s ++ key-checks s t room) tt (wrote-number (key-refusal s t room) s _);
+      payoff-decides = decides-by (position-checks s ++ payoff-checks s) tt (payoff-number (payoff-refusal s) s);
+      saved-decides = λ m. decides-by (saved-checks s ++ mark-checks s m) (numbered-append (saved-checks s) (mark-checks s m) (saved-numbered s) tt) refl;
     }

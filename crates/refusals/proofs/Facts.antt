@@ -1,16 +1,15 @@
 -- The fact of specs/Facts.antt, proved, and what gives its premise. Assumes nothing.
 use mathlib.Core.Path.{_≡_, refl, sym, ap, _∙_}
-use mathlib.Core.Bool.{Bool, true, false}
+use mathlib.Core.Bool.{true, false}
 use mathlib.Core.List.{List, [], _∷_, _++_}
 use Prim.Native.Nat.{ℕ, zero, suc, _<_}
 use native.Mathlib.Omega.{arith}
 use Rattle.refusals.specs.Refusals.{Check, _refuses_, first}
-use Rattle.refusals.specs.Facts.{numbered, None-holds, First-holds, Decides, First-decides}
+use Rattle.refusals.specs.Facts.{Numbered, None-holds, First-holds, Decides, First-decides}
 
 -- ---- numbers above 0
 
-pub numbered-append : (cs ds : List Check) → numbered cs ≡ true → numbered ds ≡ true → numbered (cs ++ ds) ≡ true
-unfolding numbered
+pub numbered-append : (cs ds : List Check) → Numbered cs → Numbered ds → Numbered (cs ++ ds)
 numbered-append [] ds v w = w
 numbered-append ((b refuses zero) ∷ cs) ds v w = v
 numbered-append ((b refuses suc k) ∷ cs) ds v w = numbered-append cs ds v w
@@ -22,12 +21,11 @@ unfolding None-holds
 none-accepts [] v = refl
 none-accepts ((b refuses k) ∷ cs) (e, v) = rw e (none-accepts cs v)
 
-accepted-none : (cs : List Check) → numbered cs ≡ true → first cs ≡ 0 → None-holds cs
-unfolding numbered None-holds
+accepted-none : (cs : List Check) → Numbered cs → first cs ≡ 0 → None-holds cs
+unfolding None-holds
 accepted-none [] w e = tt
-accepted-none ((true refuses zero) ∷ cs) w e = let z : _≡_ {A = ℕ} 0 1 = cc in absurd (omega arith)
+accepted-none ((b refuses zero) ∷ cs) w e = absurd w
 accepted-none ((true refuses suc k) ∷ cs) w e = absurd (omega arith)
-accepted-none ((false refuses zero) ∷ cs) w e = let z : _≡_ {A = ℕ} 0 1 = cc in absurd (omega arith)
 accepted-none ((false refuses suc k) ∷ cs) w e = (refl, accepted-none cs w e)
 
 first-number : (front behind : List Check) (k : ℕ) → None-holds front → first (front ++ ((true refuses k) ∷ behind)) ≡ k
@@ -51,5 +49,5 @@ first-decides cs w =
     }
 
 -- a call that answers first's number
-pub decides-by : {r : ℕ} (cs : List Check) → numbered cs ≡ true → r ≡ first cs → Decides cs r
+pub decides-by : {r : ℕ} (cs : List Check) → Numbered cs → r ≡ first cs → Decides cs r
 decides-by cs w e = rw e (first-decides cs w)

@@ -7,6 +7,7 @@ use native.Mathlib.Omega.{arith}
 use lib.Dec.{eqb}
 use borrow.Author.Tests.{ne-eqb}
 use Rattle.refusals.specs.Refusals.{Check, _refuses_, first}
+use Rattle.refusals.specs.Facts.{Numbered}
 use Rattle.refusals.specs.internal.Settled.{Settled}
 
 -- a test that holds gives its number
@@ -27,12 +28,6 @@ fails-rest true k cs e = absurd (omega arith)
 fails-rest false k cs e = e
 
 -- ---- lists one behind the other
--- no number of a list is 0
-abbrev pub Numbered : List Check → Type 0
-Numbered [] = Unit {0}
-Numbered ((b refuses zero) ∷ cs) = ⊥
-Numbered ((b refuses suc k) ∷ cs) = Numbered cs
-
 -- checks that refuse decide
 first-refused : (xs ys : List Check) → (first xs ≡ 0 → ⊥) → first xs ≡ first (xs ++ ys)
 first-refused [] ys f = absurd (f refl)

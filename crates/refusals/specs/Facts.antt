@@ -1,16 +1,16 @@
 -- When a call is accepted, which number refuses it (document 01, "What comes back when a call is refused"); proved in proofs/Facts.antt.
 use mathlib.Core.Path.{_≡_}
 use mathlib.Core.Logic.{_↔_}
-use mathlib.Core.Bool.{Bool, true, false}
+use mathlib.Core.Bool.{true, false}
 use mathlib.Core.List.{List, [], _∷_, _++_}
 use Prim.Native.Nat.{ℕ, zero, suc, _<_}
 use Rattle.refusals.specs.Refusals.{accepted, Check, _refuses_, first}
 
 -- every number of the checks is above 0
-unfoldable pub numbered : List Check → Bool
-numbered [] = true
-numbered ((b refuses zero) ∷ cs) = false
-numbered ((b refuses suc k) ∷ cs) = numbered cs
+abbrev pub Numbered : List Check → Type 0
+Numbered [] = Unit {0}
+Numbered ((b refuses zero) ∷ cs) = ⊥
+Numbered ((b refuses suc k) ∷ cs) = Numbered cs
 
 -- no test holds
 unfoldable pub None-holds : List Check → Type 0
@@ -28,4 +28,4 @@ pub record Decides (cs : List Check) (r : ℕ) : Type 0 where
 
 -- where every number is above 0, first gives that answer
 abbrev pub First-decides : Type 0
-First-decides = (cs : List Check) → numbered cs ≡ true → Decides cs (first cs)
+First-decides = (cs : List Check) → Numbered cs → Decides cs (first cs)

@@ -5,7 +5,6 @@ use crate::words::say_actions;
 use crate::words::say_number;
 use crate::words::wide;
 use kuhn::KuhnPoker;
-use kuhn::KuhnPoker;
 use replay::print_whole;
 
 const SEATS: usize = 2;

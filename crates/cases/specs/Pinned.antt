@@ -1,0 +1,96 @@
+-- Values that the worked cases leave open, computed from the definitions: payoffs of each round's raise, ranks, a refusal for each
+-- number, moves, records of the listing, bits. Proved in proofs/Pinned.antt.
+use mathlib.Core.Path.{_≡_}
+use mathlib.Core.List.{List, [], _∷_, _++_}
+use Prim.Native.Nat.{ℕ, _*_}
+use lib.Ieee.{Float, binary64, ofBits, toBits}
+use lib.ListN.{take, drop, replicate}
+use Rattle.kuhn_rules.specs.Rules.{PASS, BET}
+use Rattle.kuhn.specs.Calls as Kuhn
+use Rattle.kuhn.specs.declared.KuhnPoker.{KuhnPoker}
+use Rattle.leduc_betting.specs.Betting.{FOLD, CALL, RAISE}
+use Rattle.leduc_betting.specs.declared.Public.the-variants.{Hidden, Card}
+use Rattle.leduc.specs.Calls as Leduc
+use Rattle.games.specs.Games.{gameOf}
+use Rattle.listing.specs.Calls.{listingOf}
+use Rattle.f64_games.specs.Values.{nashConvOf, exploitabilityOf}
+use Rattle.tree_refusals.specs.Checks.{evaluation-refusal, reply-refusal}
+use Rattle.cases.specs.Cases.{Case, case, refusal, plus, minus, bytes, kuhn2, kuhn-at, leduc-at, leduc-payoffs, paid-in}
+use Rattle.cases.specs.Cases.{kuhn2-tables, room, passes, table-refusal, refused}
+
+-- ---- Leduc's money and ranks
+
+abbrev pub payments : List Case
+payments =
+    case "RAISE CALL in round 1 alone"
+    (paid-in (RAISE ∷ CALL ∷ []) (CALL ∷ CALL ∷ []) ++ leduc-payoffs (leduc-at (0 ∷ 5 ∷ []) (Card 2) (RAISE ∷ CALL ∷ []) (CALL ∷ CALL ∷ [])))
+    (plus 3 ∷ plus 3 ∷ minus 3 ∷ plus 3 ∷ [])
+    ∷ case "RAISE CALL in round 2 alone"
+    (paid-in (CALL ∷ CALL ∷ []) (RAISE ∷ CALL ∷ []) ++ leduc-payoffs (leduc-at (0 ∷ 5 ∷ []) (Card 2) (CALL ∷ CALL ∷ []) (RAISE ∷ CALL ∷ [])))
+    (plus 5 ∷ plus 5 ∷ minus 5 ∷ plus 5 ∷ [])
+    ∷ case "RAISE FOLD in round 2" (leduc-payoffs (leduc-at (0 ∷ 5 ∷ []) (Card 2) (CALL ∷ CALL ∷ []) (RAISE ∷ FOLD ∷ []))) (plus 1 ∷ minus 1 ∷ [])
+    ∷ case "2 and 4, no pair" (leduc-payoffs (leduc-at (2 ∷ 4 ∷ []) (Card 0) (CALL ∷ CALL ∷ []) (CALL ∷ CALL ∷ []))) (minus 1 ∷ plus 1 ∷ [])
+    ∷ case "2 and 4, 3 public" (leduc-payoffs (leduc-at (2 ∷ 4 ∷ []) (Card 3) (CALL ∷ CALL ∷ []) (CALL ∷ CALL ∷ []))) (plus 1 ∷ minus 1 ∷ [])
+    ∷ []
+
+-- ---- a refusal for each number but 3, which is Seven-seats
+
+abbrev pub refusals : List Case
+refusals =
+    case "1" (refusal (evaluation-refusal (gameOf 2 2) room 1 passes)) (refusal 1)
+    ∷ case "2" (refusal (Kuhn.start-refusal (record { players = 11 }))) (refusal 2)
+    ∷ case "4" (refusal (evaluation-refusal kuhn2-tables 695 1 passes)) (refusal 4)
+    ∷ case "5" (refusal (refused 2 1 passes)) (refusal 5)
+    ∷ case "6" (refusal (table-refusal 65 passes)) (refusal 6)
+    ∷ case "7" (refusal (table-refusal 1 (take 23 passes))) (refusal 7)
+    ∷ case "8" (refusal (table-refusal 2 passes)) (refusal 8)
+    ∷ case "9" (refusal (reply-refusal kuhn2-tables room 0 1 passes 23)) (refusal 9)
+    ∷ case "10" (refusal (Kuhn.saved-refusal kuhn2 (kuhn-at (0 ∷ []) []) 0)) (refusal 10)
+    ∷ case "11" (refusal (Kuhn.saved-refusal kuhn2 (kuhn-at (0 ∷ 3 ∷ []) []) 0)) (refusal 11)
+    ∷ case "12" (refusal (Leduc.saved-refusal (leduc-at (4 ∷ 4 ∷ []) Hidden [] []) 0)) (refusal 12)
+    ∷ case "13" (refusal (Leduc.saved-refusal (leduc-at (0 ∷ 5 ∷ []) Hidden (3 ∷ []) []) 0)) (refusal 13)
+    ∷ case "14" (refusal (Leduc.saved-refusal (leduc-at (0 ∷ 5 ∷ []) (Card 1) (CALL ∷ []) (CALL ∷ [])) 0)) (refusal 14)
+    ∷ case "15" (refusal (Leduc.saved-refusal (leduc-at (0 ∷ 5 ∷ []) Hidden (FOLD ∷ []) []) 1)) (refusal 15)
+    ∷ case "16" (refusal (Leduc.saved-refusal (leduc-at (0 ∷ 5 ∷ []) Hidden (CALL ∷ CALL ∷ []) []) 0)) (refusal 16)
+    ∷ case "17" (refusal (Leduc.saved-refusal (leduc-at (0 ∷ 5 ∷ []) (Card 1) (CALL ∷ []) []) 0)) (refusal 17)
+    ∷ case "18" (refusal (Kuhn.saved-refusal kuhn2 (kuhn-at (0 ∷ 1 ∷ []) (PASS ∷ PASS ∷ [])) 0)) (refusal 18)
+    ∷ case "19" (refusal (Kuhn.payoff-refusal kuhn2 (kuhn-at (0 ∷ 1 ∷ []) (PASS ∷ PASS ∷ BET ∷ [])))) (refusal 19)
+    ∷ case "20" (refusal (Leduc.payoff-refusal (leduc-at (0 ∷ 5 ∷ []) Hidden (CALL ∷ []) []))) (refusal 20)
+    ∷ []
+
+-- 3: Kuhn with seven seats, whatever else
+abbrev pub Seven-seats : Type 0
+Seven-seats = (memory D : ℕ) (table : List ℕ) → evaluation-refusal (gameOf 0 7) memory D table ≡ 3
+
+-- ---- moves
+
+-- Kuhn: of the cards 0 and 1 outcome 1 is card 1; an action of 7 counts as BET
+abbrev pub Kuhn-moves : Type 0
+Kuhn-moves = (Kuhn.dealt kuhn2 (kuhn-at (2 ∷ []) []) 1 ≡ record { refusal = 0; state = kuhn-at (2 ∷ 1 ∷ []) [] })
+    × (Kuhn.stepped kuhn2 (kuhn-at (2 ∷ 1 ∷ []) (PASS ∷ [])) 7 ≡ record { refusal = 0; state = kuhn-at (2 ∷ 1 ∷ []) (PASS ∷ BET ∷ []) })
+
+-- Leduc: of the cards 1 to 4 outcome 2 is card 3; RAISE opens round 2; FOLD, which nobody behind makes, becomes CALL
+abbrev pub Leduc-moves : Type 0
+Leduc-moves = (Leduc.dealt (leduc-at (0 ∷ 5 ∷ []) Hidden (CALL ∷ CALL ∷ []) []) 2
+    ≡ record { refusal = 0; state = leduc-at (0 ∷ 5 ∷ []) (Card 3) (CALL ∷ CALL ∷ []) [] })
+    × (Leduc.stepped (leduc-at (0 ∷ 5 ∷ []) (Card 3) (CALL ∷ CALL ∷ []) []) RAISE
+    ≡ record { refusal = 0; state = leduc-at (0 ∷ 5 ∷ []) (Card 3) (CALL ∷ CALL ∷ []) (RAISE ∷ []) })
+    × (Leduc.stepped (leduc-at (0 ∷ 5 ∷ []) Hidden [] []) FOLD ≡ record { refusal = 0; state = leduc-at (0 ∷ 5 ∷ []) Hidden (CALL ∷ []) [] })
+
+-- ---- Leduc's third and last records: seat, key length, key in 13 bytes, public card, cards in 6 bytes, legal count, 0
+
+abbrev pub Leduc-records : Type 0
+Leduc-records = (take 24 (drop 48 (listingOf (gameOf 1 2)))
+    ≡ 0 ∷ 7 ∷ 0 ∷ 0 ∷ 2 ∷ 2 ∷ 1 ∷ 1 ∷ 0 ∷ 0 ∷ 0 ∷ 0 ∷ 0 ∷ 0 ∷ 0 ∷ 2 ∷ 0 ∷ 1 ∷ 0 ∷ 0 ∷ 0 ∷ 0 ∷ 2 ∷ 0 ∷ [])
+    × (drop (24 * 935) (listingOf (gameOf 1 2))
+    ≡ 0 ∷ 10 ∷ 0 ∷ 5 ∷ 0 ∷ 3 ∷ 2 ∷ 2 ∷ 1 ∷ 2 ∷ 2 ∷ 2 ∷ 0 ∷ 0 ∷ 0 ∷ 0 ∷ 5 ∷ 1 ∷ 0 ∷ 0 ∷ 0 ∷ 0 ∷ 2 ∷ 0 ∷ [])
+
+-- ---- bits: Kuhn 2, every entry 0.5
+
+abbrev pub halves : List Float
+halves = replicate 24 (ofBits binary64 4602678819172646912)
+
+-- NashConv is 0.9166666666666666, exploitability 0.4583333333333333
+abbrev pub Uniform-bits : Type 0
+Uniform-bits = (toBits binary64 (nashConvOf kuhn2-tables halves) ≡ 4606431818862122325)
+    × (toBits binary64 (exploitabilityOf kuhn2-tables halves) ≡ 4601928219234751829)
