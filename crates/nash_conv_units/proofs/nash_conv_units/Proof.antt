@@ -15,7 +15,7 @@ returns c =
     let start = c .before .before .before .before in
     let at-evaluation-refusal = c .before in
     let then1 = c in
-    (not-valued _ _ (gameOf (start .args .number) (start .args .seats)) (start .args .d) (start .args .table .now) (at-evaluation-refusal .evaluation-refusal .ensures .number) (then1 .if1 .taken), ((λ z. absurd (then1 .if1 .taken z)), (λ z. absurd (then1 .if1 .taken z)), memory-kept _ (gameOf (start .args .number) (start .args .seats)) (start .args .work .now) (then1 .if1 .taken)))
+    (not-valued _ _ (gameOf (start .args .number) (start .args .seats)) (start .args .d) (start .args .table .now) (at-evaluation-refusal .evaluation-refusal .ensures .number) (then1 .if1 .taken), ((λ z. absurd (then1 .if1 .taken z)), ((λ z. absurd (then1 .if1 .taken z)), memory-kept _ (gameOf (start .args .number) (start .args .seats)) (start .args .work .now) (then1 .if1 .taken))))
 
 nodes-requires : tie.Need-nodes-requires
 nodes-requires c κs = c .before .evaluation-refusal .ensures .passed (c .if1 .left) .0 .game .seats
@@ -71,7 +71,7 @@ returns-2 c =
     let z = else1 .if1 .left in
     let a = at-evaluation-refusal .evaluation-refusal .ensures .passed z in (
       valued _ _ g (start .args .d) (start .args .table .now) (at-evaluation-refusal .evaluation-refusal .ensures .number) _ _ z (at-evaluate .evaluate .ensures) (at-root-units .root-units .ensures .0),
-      ((λ z. at-evaluate .evaluate .ensures), (λ z. zero-answered g (start .args .d) (start .args .table .now) (a .0) _ (at-evaluate .evaluate .ensures)), rest-kept g (start .args .work .now) _ (at-nodes .nodes .ensures) (a .1) _ z (a .0 .game .seats) (at-evaluate .evaluate .last .1 .0) (at-evaluate .evaluate .kept .1 .0)),
+      ((λ z. at-evaluate .evaluate .ensures), ((λ z. zero-answered g (start .args .d) (start .args .table .now) (a .0) _ (at-evaluate .evaluate .ensures)), rest-kept g (start .args .work .now) _ (at-nodes .nodes .ensures) (a .1) _ z (a .0 .game .seats) (at-evaluate .evaluate .last .1 .0) (at-evaluate .evaluate .kept .1 .0))),
     )
 
 pub nash-conv-units-spec : {M : Type 1} → statement M
