@@ -7,7 +7,7 @@ use lib.Dec.{ltb}
 use lib.Ieee as Ieee
 use lib.ListN.{take, drop}
 use borrow.Author.Tests.{lt-ltb}
-use Rattle.prelude.specs.Finite.{and, or, some, every, sum, has, places, those}
+use Rattle.prelude.specs.Finite.{_&&_, _||_, some, every, sum, has, places, those}
 use Rattle.kuhn_rules.specs.Rules as KuhnRules
 use Rattle.kuhn_rules.specs.Reached as KuhnReached
 use Rattle.kuhn_rules.specs.Stakes as KuhnStakes
@@ -40,14 +40,14 @@ use Rattle.cases.specs.Cases.{Agree}
 use Rattle.cases.specs.Pinned.{payments, refusals, Seven-seats, Kuhn-moves, Leduc-moves, Leduc-records, Uniform-bits}
 
 pub payments-agree : Agree payments
-unfolding and or some every has those LeducBetting.ends-with LeducBetting.folded LeducBetting.closes LeducBetting.open-round LeducBetting.behind
+unfolding _&&_ _||_ some every has those LeducBetting.ends-with LeducBetting.folded LeducBetting.closes LeducBetting.open-round LeducBetting.behind
     LeducBetting.raises LeducBetting.may LeducBetting.options LeducBetting.in-play LeducBetting.turn LeducBetting.ended LeducBetting.played LeducRules.public-due
     LeducRules.due LeducRules.live LeducRules.after-action LeducRules.put-in LeducRules.contribution LeducRules.folds LeducRules.pairs LeducRules.beats
     LeducRules.wins LeducRules.payoff LeducCards.strange LeducCards.twice LeducReached.possible LeducPositions.reachable LeducCalls.payoff-refusal
 payments-agree = refl
 
 pub refusals-agree : Agree refusals
-unfolding and or some every has places those KuhnRules.bet-made KuhnRules.after-bet KuhnRules.ended KuhnRules.overrun KuhnRules.left KuhnRules.remaining
+unfolding _&&_ _||_ some every has places those KuhnRules.bet-made KuhnRules.after-bet KuhnRules.ended KuhnRules.overrun KuhnRules.left KuhnRules.remaining
     KuhnRules.legal KuhnReached.strange KuhnReached.twice KuhnReached.unknown KuhnReached.fair KuhnReached.played KuhnReached.possible
     KuhnPositions.reachable KuhnCalls.payoff-refusal KuhnCalls.saved-refusal KuhnTree.next KuhnTree.each KuhnTree.below KuhnTree.kuhnTree Sums.sumℕ
     Sets.size Sets.sets Sets.entriesOf Table.addUp Games.treeOf LeducBetting.ends-with LeducBetting.folded LeducBetting.closes LeducBetting.open-round
@@ -58,12 +58,12 @@ unfolding and or some every has places those KuhnRules.bet-made KuhnRules.after-
 refusals-agree = refl
 
 pub kuhn-moves : Kuhn-moves
-unfolding and or some every has those KuhnRules.bet-made KuhnRules.after-bet KuhnRules.ended KuhnRules.overrun KuhnRules.left KuhnRules.remaining KuhnReached.strange
+unfolding _&&_ _||_ some every has those KuhnRules.bet-made KuhnRules.after-bet KuhnRules.ended KuhnRules.overrun KuhnRules.left KuhnRules.remaining KuhnReached.strange
     KuhnReached.twice KuhnReached.unknown KuhnReached.fair KuhnReached.played KuhnReached.possible KuhnPositions.reachable KuhnCalls.deal-refusal KuhnCalls.step-refusal
 kuhn-moves = (refl, refl)
 
 pub leduc-moves : Leduc-moves
-unfolding and or some every has those LeducBetting.ends-with LeducBetting.folded LeducBetting.closes LeducBetting.open-round LeducBetting.behind
+unfolding _&&_ _||_ some every has those LeducBetting.ends-with LeducBetting.folded LeducBetting.closes LeducBetting.open-round LeducBetting.behind
     LeducBetting.raises LeducBetting.may LeducBetting.options LeducBetting.in-play LeducBetting.turn LeducBetting.ended LeducBetting.played LeducRules.public-due
     LeducRules.due LeducRules.live LeducCards.left LeducCards.remaining LeducCards.strange LeducCards.twice LeducReached.possible LeducPositions.reachable
     LeducCalls.deal-refusal LeducCalls.step-refusal LeducBetting.counted
@@ -71,7 +71,7 @@ leduc-moves = (refl, refl, refl)
 
 -- ---- number 3
 pub seven-seats : Seven-seats
-unfolding or treeOf
+unfolding _||_ treeOf
 seven-seats memory D table = rw (lt-ltb 4000000 _ (too-large 1 1 .1))
 
 -- ---- records, by the walk that writes the listing
@@ -79,12 +79,12 @@ by-walk : listingOf (gameOf 1 2) ≡ recordsOf (turns fuel (next start) start)
 by-walk = by-number .leduc ∙ walked
 
 third : take 24 (drop 48 (recordsOf (turns fuel (next start) start))) ≡ 0 ∷ 7 ∷ 0 ∷ 0 ∷ 2 ∷ 2 ∷ 1 ∷ 1 ∷ 0 ∷ 0 ∷ 0 ∷ 0 ∷ 0 ∷ 0 ∷ 0 ∷ 2 ∷ 0 ∷ 1 ∷ 0 ∷ 0 ∷ 0 ∷ 0 ∷ 2 ∷ 0 ∷ []
-unfolding recordsOf turns next joined isFirst bytesOf padded and or some those has LeducBetting.ends-with LeducBetting.folded LeducBetting.closes LeducBetting.behind LeducBetting.raises LeducBetting.may
+unfolding recordsOf turns next joined isFirst bytesOf padded _&&_ _||_ some those has LeducBetting.ends-with LeducBetting.folded LeducBetting.closes LeducBetting.behind LeducBetting.raises LeducBetting.may
     LeducBetting.options LeducBetting.in-play LeducBetting.turn LeducBetting.ended LeducCards.left LeducCards.remaining LeducRules.public-due LeducRules.due LeducRules.key
 third = refl
 
 last : drop (24 * 935) (recordsOf (turns fuel (next start) start)) ≡ 0 ∷ 10 ∷ 0 ∷ 5 ∷ 0 ∷ 3 ∷ 2 ∷ 2 ∷ 1 ∷ 2 ∷ 2 ∷ 2 ∷ 0 ∷ 0 ∷ 0 ∷ 0 ∷ 5 ∷ 1 ∷ 0 ∷ 0 ∷ 0 ∷ 0 ∷ 2 ∷ 0 ∷ []
-unfolding recordsOf turns next joined isFirst bytesOf padded and or some those has LeducBetting.ends-with LeducBetting.folded LeducBetting.closes LeducBetting.behind LeducBetting.raises LeducBetting.may
+unfolding recordsOf turns next joined isFirst bytesOf padded _&&_ _||_ some those has LeducBetting.ends-with LeducBetting.folded LeducBetting.closes LeducBetting.behind LeducBetting.raises LeducBetting.may
     LeducBetting.options LeducBetting.in-play LeducBetting.turn LeducBetting.ended LeducCards.left LeducCards.remaining LeducRules.public-due LeducRules.due LeducRules.key
 last = refl
 
@@ -93,7 +93,7 @@ leduc-records = (ap (λ l. take 24 (drop 48 l)) by-walk ∙ third, ap (drop (24 
 
 -- ---- bits
 pub uniform-bits : Uniform-bits
-unfolding and or some every has those sum KuhnRules.bet-made KuhnRules.after-bet KuhnRules.ended KuhnRules.left KuhnRules.remaining KuhnRules.legal KuhnRules.bets
+unfolding _&&_ _||_ some every has those sum KuhnRules.bet-made KuhnRules.after-bet KuhnRules.ended KuhnRules.left KuhnRules.remaining KuhnRules.legal KuhnRules.bets
     KuhnRules.stands KuhnRules.contribution KuhnRules.wins KuhnRules.paid-by-others KuhnRules.payoff KuhnTree.next KuhnTree.each KuhnTree.below
     KuhnTree.kuhnTree Games.treeOf Sums.sumℕ Sets.sets Sets.entriesOf Sets.before Values.edge Values.value Values.lead Values.actions Values.found
     Values.summed Values.setSum Values.decided Values.best Values.bestValue Values.worth Values.profileOf GameValues.bestOf GameValues.worthOf GameValues.gaps

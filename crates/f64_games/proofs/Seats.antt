@@ -60,7 +60,10 @@ module _ (g : Game) (P : List Float) where
   pub gaps-all : (k : ℕ) (sum : Float) → k ≤ g .seats → g .seats ≤ k → sum ≡ gaps g P k → sum ≡ nashConvOf g P
   gaps-all k sum a b e = let q : k ≡ g .seats = omega arith in e ∙ ap (gaps g P) q
 
--- ---- the games have at most six seats
+-- ---- the games have two to six seats
+pub two-seats : (g : Game) → Known g → 2 ≤ g .seats
+two-seats g a = games-shaped g a .least
+
 pub few-seats : (g : Game) → Known g → g .seats ≤ 6
 few-seats g a = games-shaped g a .most
 

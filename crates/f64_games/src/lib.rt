@@ -32,10 +32,10 @@ pub fn best_values(g: Game, words: &mut [u64], profile: &[f64]) -> [f64; 6]
     requires { ⌜ Stored g (now words) × AcceptedProfile g (now profile) × (12 * nodesOf g ≤ length (now words)) ⌝ }
     ensures { λ r. ⌜ r ≡ bestsOf g (now (profile .entry)) ⌝ }
 {
-    let seats = g.seats;
+    let count = g.seats;
     let mut out = [0.0; 6];
     let mut seat = 0;
-    while seat < seats {
+    while seat < count {
         let best = best_value(g, words, seat, profile);
         out[seat] = best;
         seat += 1;

@@ -10,7 +10,7 @@ use native.Mathlib.Omega.{arith}
 use lib.Dec.{eqb}
 use lib.ListN.{length, replicate}
 use borrow.Author.Tests.{eqb-true, eqb-false}
-use Rattle.prelude.specs.Finite.{and, or, some, every, those, has}
+use Rattle.prelude.specs.Finite.{_&&_, _||_, some, every, those, has}
 use Rattle.prelude.proofs.Tests.{Tested, holds, fails, tested}
 use Rattle.game_tree.specs.Tree.{Tree, end, chance, decide, Trees, nil, cons, fan}
 use Rattle.game_tree.specs.Conditions.{Splits, SplitsAll}
@@ -101,7 +101,7 @@ abbrev longest : ℕ → List Bool
 longest n = replicate (n - 1) false ++ (true ∷ replicate (n - 1) false)
 
 longest-played : (n : ℕ) → 2 ≤ n → n ≤ 10 → (plays n [] (longest n) ≡ true) × (length (longest n) ≡ Kuhn.m n)
-unfolding plays and or some every has those bet-made after-bet ended
+unfolding plays _&&_ _||_ some every has those bet-made after-bet ended
 longest-played = each-seats (λ n. (plays n [] (longest n) ≡ true) × (length (longest n) ≡ Kuhn.m n))
     (refl, refl) (refl, refl) (refl, refl) (refl, refl) (refl, refl) (refl, refl) (refl, refl) (refl, refl) (refl, refl)
 
@@ -177,7 +177,7 @@ module _ (n : ℕ) where
 -- ---- Leduc
 
 leduc-measures : (height (leducTree 1 2 4) ≡ 8) × (widest (leducTree 1 2 4) ≡ 120) × (largestFan (leducTree 1 2 4) ≡ 6)
-unfolding height widest largestFan leducTree Leduc.below Leduc.next Leduc.each and or some those has Betting.ends-with Betting.folded Betting.closes
+unfolding height widest largestFan leducTree Leduc.below Leduc.next Leduc.each _&&_ _||_ some those has Betting.ends-with Betting.folded Betting.closes
     Betting.behind Betting.raises Betting.may Betting.options Betting.in-play Betting.turn Betting.ended Cards.left Cards.remaining Rules.public-due
     Rules.due
 leduc-measures = (refl, refl, refl)

@@ -86,13 +86,13 @@ fn acts_early(dealt: usize, acted: usize, n: usize) -> bool
 }
 
 // What every rules call on a position checks first.
-pub fn position_refusal(n: usize, state: KuhnState) -> u64
-    ensures { λ r. ⌜ r ≡ first (position-checks n state) ⌝ }
+pub fn position_refusal(players: usize, state: KuhnState) -> u64
+    ensures { λ r. ⌜ r ≡ first (position-checks players state) ⌝ }
 {
-    if seats_outside(n) {
+    if seats_outside(players) {
         return refusals::SEATS;
     }
-    if !is_reachable(n, state) {
+    if !is_reachable(players, state) {
         return refusals::UNREACHABLE;
     }
     refusals::ACCEPTED

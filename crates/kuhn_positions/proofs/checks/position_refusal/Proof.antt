@@ -14,8 +14,8 @@ returns : tie.Need-returns
 returns c = rw (sym c.before.seats-outside.ensures ∙ c.if1.taken)
 
 is-reachable-requires : tie.Need-is-reachable-requires
-is-reachable-requires c κs = let least = seats-least c.before.before.args.n (sym c.before.seats-outside.ensures ∙ c.if1.left) in
-    let most = seats-most c.before.before.args.n (sym c.before.seats-outside.ensures ∙ c.if1.left) in (omega arith, omega arith)
+is-reachable-requires c κs = let least = seats-least c.before.before.args.players (sym c.before.seats-outside.ensures ∙ c.if1.left) in
+    let most = seats-most c.before.before.args.players (sym c.before.seats-outside.ensures ∙ c.if1.left) in (omega arith, omega arith)
 
 returns-2 : tie.Need-returns-2
 returns-2 c = rw
