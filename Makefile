@@ -21,7 +21,7 @@ PRODUCT := build/bin/chukkanalli
 SAMPLE := samples/always-pass.txt
 
 .SILENT:
-.PHONY: run sample check test audit reach host-tests product product-test cases fuzz lists archive compare bench
+.PHONY: run sample check test audit reach host-tests product product-test cases large fuzz lists archive compare bench
 
 # Evaluates a table by which both seats always pass, and replies to it in words.
 run: $(PRODUCT)
@@ -90,7 +90,15 @@ product-test:
 	if test -n '$(MISSING)'; then \
 	    echo "skipped: the product's tests (there is no $(MISSING))"; \
 	else \
-	    $(MAKE) --no-print-directory cases && cd rust && cargo test -q $(CARGO_FLAGS); \
+	    $(MAKE) --no-print-directory cases && (cd rust && cargo test -q $(CARGO_FLAGS)) && $(MAKE) --no-print-directory large; \
+	fi
+
+# Some profiles and tables of Kuhn 5 and 6 through the archive, held to the Rust and to the exact reference: what the lists leave out.
+large: $(ARCHIVE)
+	if ! test -f '$(RUST)/crates/reinfors-games/src/kuhn.rs'; then \
+	    echo 'skipped: Kuhn 5 and 6 beside the Rust (its source is not at RUST=$(RUST))'; \
+	else \
+	    cd compare && RUST='$(RUST)' cargo test -q $(CARGO_FLAGS) -p host --test large; \
 	fi
 
 # Random tables and command lines, held to a model.
