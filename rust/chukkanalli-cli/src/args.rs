@@ -14,18 +14,20 @@ pub enum Verb {
     Evaluate,
     Ladder,
     Reply,
+    Explain,
     Template,
     F64,
 }
 
 impl Verb {
-    pub const ALL: [Verb; 5] = [Verb::Evaluate, Verb::Ladder, Verb::Reply, Verb::Template, Verb::F64];
+    pub const ALL: [Verb; 6] = [Verb::Evaluate, Verb::Ladder, Verb::Reply, Verb::Explain, Verb::Template, Verb::F64];
 
     pub fn name(self) -> &'static str {
         match self {
             Verb::Evaluate => "evaluate",
             Verb::Ladder => "ladder",
             Verb::Reply => "reply",
+            Verb::Explain => "explain",
             Verb::Template => "template",
             Verb::F64 => "f64",
         }
@@ -34,7 +36,7 @@ impl Verb {
     /// What it takes, in order; after the last of them, more tables only where `takes_many`.
     pub fn places(self) -> &'static [&'static str] {
         match self {
-            Verb::Evaluate | Verb::Ladder => &["GAME", "SEATS", "D", "TABLE"],
+            Verb::Evaluate | Verb::Ladder | Verb::Explain => &["GAME", "SEATS", "D", "TABLE"],
             Verb::Reply => &["GAME", "SEATS", "D", "TABLE", "SEAT"],
             Verb::Template => &["GAME", "SEATS", "D"],
             Verb::F64 => &["GAME", "SEATS", "PROFILE"],
@@ -43,7 +45,7 @@ impl Verb {
 
     /// Whether it takes any number of tables.
     pub fn takes_many(self) -> bool {
-        matches!(self, Verb::Evaluate | Verb::Ladder)
+        matches!(self, Verb::Evaluate | Verb::Ladder | Verb::Explain)
     }
 
     pub fn takes_a_file(self) -> bool {
@@ -52,7 +54,7 @@ impl Verb {
 
     /// Whether the files' headings may stand for GAME SEATS D.
     pub fn takes_headings(self) -> bool {
-        matches!(self, Verb::Evaluate | Verb::Ladder | Verb::F64)
+        self.takes_many() || self == Verb::F64
     }
 
     fn by_name(name: &OsStr) -> Option<Verb> {
@@ -101,6 +103,11 @@ pub enum Request {
         setting: Setting,
         table: PathBuf,
         seat: Number,
+        options: Options,
+    },
+    Explain {
+        setting: Option<Setting>,
+        tables: Vec<PathBuf>,
         options: Options,
     },
     Template {
@@ -181,13 +188,14 @@ fn request(verb: Verb, places: &[OsString], options: Options) -> Result<Request,
     let setting = || Ok(Setting { asked: asked()?, d: number(2)? });
     let files = |from: usize| places[from..].iter().map(PathBuf::from).collect();
     let (setting_or_none, tables) = match verb {
-        Verb::Evaluate | Verb::Ladder if left_out => (None, files(0)),
-        Verb::Evaluate | Verb::Ladder => (Some(setting()?), files(3)),
+        verb if verb.takes_many() && left_out => (None, files(0)),
+        verb if verb.takes_many() => (Some(setting()?), files(3)),
         _ => (None, Vec::new()),
     };
     Ok(match verb {
         Verb::Evaluate => Request::Evaluate { setting: setting_or_none, tables, options },
         Verb::Ladder => Request::Ladder { setting: setting_or_none, tables, options },
+        Verb::Explain => Request::Explain { setting: setting_or_none, tables, options },
         Verb::Reply => {
             Request::Reply { setting: setting()?, table: PathBuf::from(&places[3]), seat: number(4)?, options }
         }
@@ -197,7 +205,7 @@ fn request(verb: Verb, places: &[OsString], options: Options) -> Result<Request,
     })
 }
 
-fn number_of(verb: Verb, name: &str, arg: &OsStr) -> Result<Number, Misuse> {
+pub fn number_of(verb: Verb, name: &str, arg: &OsStr) -> Result<Number, Misuse> {
     let word = arg.to_string_lossy().into_owned();
     match value_of(&word) {
         Some(value) => Ok(Number { word, value }),
@@ -262,6 +270,9 @@ mod tests {
         assert_eq!(parsed("ladder kuhn 2 1 --jobs 3 a -- -5 -"), Ok(ladder));
         let f64 = Request::F64 { asked: Some(asked("2")), profile: PathBuf::from("p"), options: none() };
         assert_eq!(parsed("f64 kuhn 2 p"), Ok(f64));
+        let options = Options { seat: Some(number("1", 1)), top: Some(3), all: true, ..none() };
+        let explain = Request::Explain { setting: None, tables: paths(&["t"]), options };
+        assert_eq!(parsed("explain t --seat 1 --top=3 --all"), Ok(explain));
     }
 
     #[test]
@@ -320,8 +331,8 @@ mod tests {
 
     #[test]
     fn bad_use_has_a_sentence() {
-        assert_eq!(sentence(""), "a command is missing; there are evaluate, ladder, reply, template, f64");
-        assert_eq!(sentence("play"), "'play' is no command; there are evaluate, ladder, reply, template, f64");
+        assert_eq!(sentence(""), "a command is missing; there are evaluate, ladder, reply, explain, template, f64");
+        assert_eq!(sentence("play"), "'play' is no command; there are evaluate, ladder, reply, explain, template, f64");
         assert_eq!(sentence("evaluate"), "GAME is missing");
         assert_eq!(sentence("evaluate kuhn 2 1"), "TABLE is missing");
         assert_eq!(sentence("reply kuhn 2 1 t"), "SEAT is missing");
@@ -340,5 +351,8 @@ mod tests {
         assert_eq!(sentence("evaluate kuhn 2 1 -t"), unknown("-t"));
         assert_eq!(sentence("template kuhn 2 1 --jobs 2"), "there is no option '--jobs'");
         assert_eq!(sentence("f64 kuhn 2 p --jobs 2"), unknown("--jobs"));
+        assert_eq!(sentence("evaluate t --seat 1"), unknown("--seat"));
+        assert_eq!(sentence("explain t --seat"), "--seat takes a seat, and it is missing");
+        assert_eq!(sentence("explain t --top x"), "--top is 'x', and a whole number without a sign is needed");
     }
 }

@@ -18,7 +18,7 @@ pub struct Described {
 }
 
 /// The options.
-pub const OPTIONS: [Described; 5] = [
+pub const OPTIONS: [Described; 8] = [
     Described {
         name: "--format",
         value: Some("a form"),
@@ -41,6 +41,27 @@ columns, docs/output.schema.json the JSON: one object a table, on one line",
         taken_by: |verb| verb == Verb::F64,
         shown: "--any",
         what: "takes any numbers, whatever they add up to; what is printed then says so",
+    },
+    Described {
+        name: "--seat",
+        value: Some("a seat"),
+        taken_by: |verb| verb == Verb::Explain,
+        shown: "--seat S",
+        what: "explains the gain of this seat alone, in place of all seats'",
+    },
+    Described {
+        name: "--top",
+        value: Some("a number"),
+        taken_by: |verb| verb == Verb::Explain,
+        shown: "--top N",
+        what: "shows the N sets that add most to a seat's gain, by default 10",
+    },
+    Described {
+        name: "--all",
+        value: None,
+        taken_by: |verb| verb == Verb::Explain,
+        shown: "--all",
+        what: "shows every set of the seat, those that add nothing too",
     },
     Described {
         name: "--files-from",
@@ -91,6 +112,7 @@ fn about(verb: Verb) -> &'static str {
         Verb::Evaluate => EVALUATE,
         Verb::Ladder => LADDER,
         Verb::Reply => REPLY,
+        Verb::Explain => EXPLAIN,
         Verb::Template => TEMPLATE,
         Verb::F64 => F64,
     }
@@ -109,8 +131,8 @@ const ARGUMENTS: [(&str, &str); 6] = [
 a file as `chukkanalli template` prints it, text or CSV: for each set the part of each
 action as a whole number, which add up to D, and the set's label. With labels the lines may
 come in any order. Numbers without labels are read by position, in the template's order.
-- is standard input. For evaluate and ladder a folder stands for the files right in it, not
-for its subfolders and hidden files (whose names begin with a dot)",
+- is standard input. For evaluate, ladder and explain a folder stands for the files right
+in it, not for its subfolders and hidden files (whose names begin with a dot)",
     ),
     ("SEAT", "a seat, from 0"),
     (
@@ -135,13 +157,14 @@ Evaluates strategy tables for Kuhn and Leduc poker, exactly or in f64, by proved
   chukkanalli evaluate GAME SEATS D TABLE...   what tables are worth, best values, NashConv
   chukkanalli ladder GAME SEATS D TABLE...     tables in order of NashConv
   chukkanalli reply GAME SEATS D TABLE SEAT    the perfect reply of a seat to a table, in words
+  chukkanalli explain GAME SEATS D TABLE...    which sets of a table lose to the perfect reply
   chukkanalli template GAME SEATS D            an empty table, with each set in words
   chukkanalli f64 GAME SEATS PROFILE           the same values of a profile, in floating point
   chukkanalli COMMAND --help                   more about a command
   chukkanalli --version                        the version, and the commit that it was built from
 
 Where every file has a heading, the first line that template prints, GAME SEATS D may be left out
-of evaluate, ladder and f64: chukkanalli ladder TABLE...
+of evaluate, ladder, explain and f64: chukkanalli ladder TABLE...
 ";
 
 const EVALUATE: &str = "\
@@ -175,6 +198,18 @@ table of the seat gets more. Of equally good actions it takes the first. Sets th
 while the others play the table come last. The reply beats this table; it is no correction of it.
 
   chukkanalli reply kuhn 2 1 samples/always-pass.txt 0
+";
+
+const EXPLAIN: &str = "\
+chukkanalli explain GAME SEATS D TABLE... [OPTIONS]
+
+Prints for each seat what it gains by its perfect reply, and which of its sets carry the gain: the
+table's own parts, the reply's action and what the switch from the one to the other adds; the
+largest first, and in a sentence each. A set is switched after all sets of the seat that can follow
+it, so that no switch loses anything and together they add up to the gain. GAME SEATS D may be left
+out where every file has a heading.
+
+  chukkanalli explain kuhn 2 3 samples/one-in-three.txt --seat 0
 ";
 
 const TEMPLATE: &str = "\

@@ -15,7 +15,9 @@ mod output;
 mod ranks;
 mod reach;
 mod same;
+mod sentences;
 mod sources;
+mod switches;
 mod version;
 
 pub use commands::run;

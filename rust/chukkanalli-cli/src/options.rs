@@ -6,7 +6,7 @@ use std::path::PathBuf;
 
 use chukkanalli::tables::quoted;
 
-use crate::args::{value_of, Misuse, Verb};
+use crate::args::{number_of, value_of, Misuse, Number, Verb};
 use crate::help;
 
 /// The forms of what is printed.
@@ -30,6 +30,9 @@ pub struct Options {
     pub any: bool,
     pub format: Format,
     pub files_from: Option<PathBuf>,
+    pub seat: Option<Number>,
+    pub top: Option<u64>,
+    pub all: bool,
 }
 
 /// Parts options from places; nothing if help is asked for.
@@ -84,6 +87,9 @@ fn take(verb: Verb, options: &mut Options, name: &str, value: OsString) -> Resul
         "--files-from" => options.files_from = Some(PathBuf::from(value)),
         "--labelled" => options.labelled = true,
         "--any" => options.any = true,
+        "--seat" => options.seat = Some(number_of(verb, name, &value)?),
+        "--top" => options.top = Some(number_of(verb, name, &value)?.value),
+        "--all" => options.all = true,
         _ => {}
     }
     Ok(())

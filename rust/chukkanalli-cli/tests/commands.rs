@@ -86,6 +86,66 @@ card 2, after PASS BET: PASS
 }
 
 #[test]
+fn explain_tells_which_sets_carry_the_gain() {
+    let text = "\
+samples/one-in-three.txt: Kuhn with 2 seats, D 3, 162 units, read by labels
+
+                   units  chips per hand   in decimals
+seat 1 gain          102           17/27   0.629629630
+seat 1 worth         -12           -2/27  -0.074074074
+seat 1 best value     90             5/9   0.555555556
+
+what each set of seat 1 adds when it is switched to the reply, after the sets that can follow it:
+units  chips per hand  table  reply  set
+   36             2/9  2 1    BET    card 2, after BET
+   24            4/27  2 1    BET    card 0, after PASS
+4 sets more add 42 units; --all shows every set
+
+With card 2 after BET it bets 1 hand in 3; betting always gains 2/9 of a chip.
+With card 0 after PASS it bets 1 hand in 3; betting always gains 4/27 of a chip.
+";
+    for line in ["explain kuhn 2 3 samples/one-in-three.txt", "explain --jobs 1 KUHN 2 3 samples/one-in-three.txt"] {
+        let line = format!("{line} --seat 1 --top 2");
+        assert_eq!(run_line(&line), prints(text), "{line}");
+    }
+}
+
+#[test]
+fn explain_marks_ties_and_what_no_hand_reaches() {
+    let told = run_line("explain kuhn 2 1 samples/always-pass.txt --seat 0 --all");
+    let sets: Vec<&str> = told.out.lines().skip_while(|line| !line.starts_with("units")).take(8).collect();
+    let rows = [
+        "units  chips per hand  table  reply  set",
+        "    4             2/3  1 0    BET    card 0, first action of the hand",
+        "    2             1/3  1 0    BET    card 1, first action of the hand",
+        "    0               0  1 0    PASS   card 2, first action of the hand (the table does so)",
+        "    0               0  1 0    PASS   card 0, after PASS BET (no hand reaches it)",
+        "    0               0  1 0    PASS   card 1, after PASS BET (no hand reaches it)",
+        "    0               0  1 0    PASS   card 2, after PASS BET (no hand reaches it)",
+        "",
+    ];
+    assert_eq!(sets, rows);
+    let told = run_line("explain kuhn 2 3 samples/equilibrium.txt --all");
+    assert!(told.out.contains("\nthe table cannot be beaten from seat 0\n"), "{}", told.out);
+    assert!(told.out.contains(" (a tie: another action is as good)\n"), "{}", told.out);
+    let bets = table("bets.txt", "0 3\n".repeat(12));
+    let told = run(["explain", "kuhn", "2", "3", &bets, "--all"]);
+    assert!(told.out.contains("card 0, after PASS BET (its own play never gets there)\n"), "{}", told.out);
+    let short = run_line("explain kuhn 2 3 samples/equilibrium.txt");
+    assert_eq!((short.status, short.out.contains("units  chips per hand  table")), (0, false));
+}
+
+#[test]
+fn explain_refuses_seats_and_tables() {
+    let misuse = run_line("explain kuhn 2 3 samples/one-in-three.txt --seat 2");
+    assert_eq!(misuse.status, 2);
+    assert!(misuse.err.starts_with("chukkanalli: explain: --seat is '2': refused with 5: "), "{}", misuse.err);
+    let run = run_line("explain kuhn 2 3 nowhere.txt samples/one-in-three.txt samples/always-pass.txt --seat 0");
+    assert_eq!((run.status, run.err.lines().count()), (1, 2));
+    assert!(run.out.starts_with("samples/one-in-three.txt: Kuhn"), "{}", run.out);
+}
+
+#[test]
 fn reply_goes_by_the_cards_whatever_the_order_of_the_sets() {
     let reply = run_line("reply kuhn 2 1 samples/always-pass.txt 1");
     let lines: Vec<&str> = reply.out.lines().skip_while(|line| !line.starts_with("card")).collect();
@@ -325,7 +385,7 @@ fn help_is_there_for_each_and_for_all() {
         assert_eq!((help.status, help.err.as_str()), (0, ""));
         assert!(help.out.contains("chukkanalli COMMAND --help"));
     }
-    for command in ["evaluate", "ladder", "reply", "template"] {
+    for command in ["evaluate", "ladder", "reply", "explain", "template"] {
         let help = run([command, "kuhn", "--help"]);
         assert_eq!((help.status, help.err.as_str()), (0, ""));
         assert!(help.out.starts_with(&format!("chukkanalli {command} GAME SEATS D")));

@@ -52,7 +52,7 @@ const PARTS: [&str; 16] = [
     "18446744073709551617",
 ];
 const SEAT: [&str; 8] = ["0", "0", "1", "1", "2", "6", "256", "18446744073709551616"];
-const ODD: [&[u8]; 30] = [
+const ODD: [&[u8]; 34] = [
     b"",
     b"-",
     b"--",
@@ -68,6 +68,10 @@ const ODD: [&[u8]; 30] = [
     b"--format=xml",
     b"--labelled",
     b"--any",
+    b"--seat=1",
+    b"--seat",
+    b"--top=0",
+    b"--all",
     b"--files-from",
     b"--files-from=-",
     b"--version",
@@ -167,8 +171,9 @@ struct Labelled {
 impl Line {
     fn draw(random: &mut Random, games: &[Listed], folder: &Path) -> Self {
         let mut line = Line {
-            verb: random
-                .pick(&["evaluate", "evaluate", "ladder", "ladder", "reply", "reply", "template", "f64", "f64"]),
+            verb: random.pick(&[
+                "evaluate", "evaluate", "ladder", "ladder", "reply", "reply", "explain", "template", "f64", "f64",
+            ]),
             game: if random.one_in(20) { "chess" } else { random.pick(&["kuhn", "leduc", "Kuhn", "LEDUC"]) },
             seats: mostly_fit(random, &SEATS),
             d: mostly_fit(random, &PARTS),
@@ -180,7 +185,7 @@ impl Line {
         if random.one_in(2000) {
             (line.game, line.seats, line.d) = ("kuhn", "6", "16");
         }
-        let many = if matches!(line.verb, "evaluate" | "ladder") { 1 + random.below(5) } else { 1 };
+        let many = if line.takes_many() { 1 + random.below(5) } else { 1 };
         fs::remove_dir_all(folder).and_then(|()| fs::create_dir(folder)).expect("the folder can be made anew");
         for k in 0..many {
             let given = line.table(random, games);
@@ -188,6 +193,10 @@ impl Line {
             line.tables.push(given);
         }
         line
+    }
+
+    fn takes_many(&self) -> bool {
+        matches!(self.verb, "evaluate" | "ladder" | "explain")
     }
 
     /// A table or profile of the line's game, most of the time, valid or spoiled.
@@ -303,10 +312,13 @@ impl Line {
         let good = outcomes.len() - bad;
         let headings = ran.out.lines().filter(|line| line.contains(" units") && line.contains(", D ")).count();
         assert_eq!(headings, if self.verb == "ladder" { good.min(1) } else { good }, "{args:?}: {ran:?}");
-        if matches!(self.verb, "evaluate" | "ladder") {
+        if self.takes_many() {
             let jobs = [OsString::from("--jobs=3")];
             assert_eq!(&run(&[args, &jobs].concat()), ran, "threads change the outcome of {args:?}");
             self.hold_lists(args, ran, &outcomes);
+        }
+        if self.verb == "explain" {
+            hold_explained(args);
         }
         self.hold_format(args, ran);
     }
@@ -336,7 +348,8 @@ impl Line {
         if format == "csv" {
             let columns = |line: &str| line.split(',').count();
             assert!(lines[0].starts_with("version,commit,command,file,"), "{args:?}: {}", lines[0]);
-            assert!(self.verb == "reply" || lines.len() == 1 + self.tables.len(), "{args:?}: {told:?}");
+            let a_row_a_set = matches!(self.verb, "reply" | "explain");
+            assert!(a_row_a_set || lines.len() == 1 + self.tables.len(), "{args:?}: {told:?}");
             assert!(lines[1..].iter().all(|line| columns(line) >= columns(lines[0])), "{args:?}: {told:?}");
             return;
         }
@@ -356,6 +369,24 @@ impl Line {
             assert_eq!(members, printed, "{args:?}: {told:?}");
         }
     }
+}
+
+/// Holds what is explained to itself: what all sets of a seat add is its gain.
+fn hold_explained(args: &[OsString]) {
+    let told = run(&[args, &[OsString::from("--all")]].concat());
+    let (mut gains, mut adds) = (Vec::new(), Vec::new());
+    for line in told.out.lines() {
+        let words: Vec<&str> = line.split_whitespace().collect();
+        match words[..] {
+            ["seat", _, "gain", units, ..] => gains.push(units.parse::<u64>().expect("units are a number")),
+            ["units", "chips", "per", "hand", "table", ..] => adds.push(0),
+            [units, ..] if line.contains("card ") && !line.starts_with("With ") => {
+                *adds.last_mut().expect("a set stands below a heading") += units.parse::<u64>().expect("a number")
+            }
+            _ => {}
+        }
+    }
+    assert_eq!(gains, adds, "{args:?}: {told:?}");
 }
 
 /// Holds what is printed of a profile to itself: NashConv adds best response value − worth by seat, and exploitability divides it by the seats.
