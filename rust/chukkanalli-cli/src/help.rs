@@ -18,7 +18,7 @@ pub struct Described {
 }
 
 /// The options.
-pub const OPTIONS: [Described; 8] = [
+pub const OPTIONS: [Described; 9] = [
     Described {
         name: "--format",
         value: Some("a form"),
@@ -41,6 +41,13 @@ columns, docs/output.schema.json the JSON: one object a table, on one line",
         taken_by: |verb| verb == Verb::F64,
         shown: "--any",
         what: "takes any numbers, whatever they add up to; what is printed then says so",
+    },
+    Described {
+        name: "--table",
+        value: None,
+        taken_by: |verb| verb == Verb::Reply,
+        shown: "--table",
+        what: "prints the table alone, with a heading and labels, as text or csv",
     },
     Described {
         name: "--seat",
@@ -196,6 +203,7 @@ Prints what a seat gains by its perfect reply to a table, and the reply, a line 
 sets: its card, the public card (leduc), what was played, and the action that the reply takes. No
 table of the seat gets more. Of equally good actions it takes the first. Sets that no hand reaches
 while the others play the table come last. The reply beats this table; it is no correction of it.
+With --table the table is printed in which the seat plays the reply and the others as they do.
 
   chukkanalli reply kuhn 2 1 samples/always-pass.txt 0
 ";

@@ -4,7 +4,7 @@ use std::ffi::{OsStr, OsString};
 use std::os::unix::ffi::{OsStrExt, OsStringExt};
 use std::path::PathBuf;
 
-use chukkanalli::tables::quoted;
+use chukkanalli::tables::{quoted, Form};
 
 use crate::args::{number_of, value_of, Misuse, Number, Verb};
 use crate::help;
@@ -33,6 +33,18 @@ pub struct Options {
     pub seat: Option<Number>,
     pub top: Option<u64>,
     pub all: bool,
+    pub table: bool,
+}
+
+impl Options {
+    /// The form of a table that is printed; JSON has none.
+    pub fn form(&self, verb: Verb) -> Result<Form, Misuse> {
+        match self.format {
+            Format::Text => Ok(Form::Text),
+            Format::Csv => Ok(Form::Csv),
+            Format::Json => Err(Misuse::of(verb, "--table prints text or csv, and --format is 'json'")),
+        }
+    }
 }
 
 /// Parts options from places; nothing if help is asked for.
@@ -90,6 +102,7 @@ fn take(verb: Verb, options: &mut Options, name: &str, value: OsString) -> Resul
         "--seat" => options.seat = Some(number_of(verb, name, &value)?),
         "--top" => options.top = Some(number_of(verb, name, &value)?.value),
         "--all" => options.all = true,
+        "--table" => options.table = true,
         _ => {}
     }
     Ok(())

@@ -86,6 +86,27 @@ card 2, after PASS BET: PASS
 }
 
 #[test]
+fn the_table_of_a_reply_is_taken_by_every_command() {
+    for (format, name) in [("text", "replied.txt"), ("csv", "replied.csv")] {
+        let reply = run_line(&format!("reply kuhn 2 3 samples/one-in-three.txt 1 --table --format {format}"));
+        assert_eq!((reply.status, reply.err.as_str()), (0, ""));
+        let file = table(name, &reply.out);
+        let evaluated = run(["evaluate", "--labelled", &file]);
+        assert!(evaluated.out.contains("\nseat 1 worth          90             5/9 "), "{}", evaluated.out);
+        assert!(evaluated.out.contains("\nseat 1 best value     90             5/9 "), "{}", evaluated.out);
+        for command in ["ladder", "explain"] {
+            assert_eq!(run([command, &file]).status, 0, "{command}");
+        }
+        assert_eq!(run(["reply", "kuhn", "2", "3", &file, "1", "--table", "--format", format]).out, reply.out);
+    }
+    let json = run_line("reply kuhn 2 3 samples/one-in-three.txt 1 --table --format json");
+    let said = "chukkanalli: reply: --table prints text or csv, and --format is 'json'\n";
+    assert_eq!((json.status, json.err.starts_with(said)), (2, true), "{}", json.err);
+    let refused = run_line("reply kuhn 2 3 samples/always-pass.txt 1 --table");
+    assert_eq!((refused.status, refused.out.as_str()), (1, ""));
+}
+
+#[test]
 fn explain_tells_which_sets_carry_the_gain() {
     let text = "\
 samples/one-in-three.txt: Kuhn with 2 seats, D 3, 162 units, read by labels

@@ -52,7 +52,7 @@ const PARTS: [&str; 16] = [
     "18446744073709551617",
 ];
 const SEAT: [&str; 8] = ["0", "0", "1", "1", "2", "6", "256", "18446744073709551616"];
-const ODD: [&[u8]; 34] = [
+const ODD: [&[u8]; 35] = [
     b"",
     b"-",
     b"--",
@@ -72,6 +72,7 @@ const ODD: [&[u8]; 34] = [
     b"--seat",
     b"--top=0",
     b"--all",
+    b"--table",
     b"--files-from",
     b"--files-from=-",
     b"--version",
@@ -320,7 +321,18 @@ impl Line {
         if self.verb == "explain" {
             hold_explained(args);
         }
+        if self.verb == "reply" && ran.status == 0 {
+            self.hold_table(args);
+        }
         self.hold_format(args, ran);
+    }
+
+    /// A table that is printed is taken by `evaluate`, by its heading and labels.
+    fn hold_table(&self, args: &[OsString]) {
+        let form = if self.format == Some("csv") { "--format=csv" } else { "--format=text" };
+        let told = run(&[args, &["--table", form].map(OsString::from)].concat());
+        let taken = run_with(&["evaluate", "--labelled", "-"].map(OsString::from), told.out.as_bytes());
+        assert_eq!((told.status, taken.status), (0, 0), "the table of {args:?}: {told:?}, {taken:?}");
     }
 
     /// The same files by a folder, by a list, by a list on standard input, and without GAME SEATS D where all have a heading.
