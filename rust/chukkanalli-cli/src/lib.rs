@@ -9,6 +9,7 @@ mod fraction;
 mod help;
 pub mod interrupt;
 mod jobs;
+mod moves;
 mod names;
 mod options;
 mod output;

@@ -34,6 +34,7 @@ pub struct Options {
     pub top: Option<u64>,
     pub all: bool,
     pub table: bool,
+    pub steps: Option<u64>,
 }
 
 impl Options {
@@ -103,6 +104,7 @@ fn take(verb: Verb, options: &mut Options, name: &str, value: OsString) -> Resul
         "--top" => options.top = Some(number_of(verb, name, &value)?.value),
         "--all" => options.all = true,
         "--table" => options.table = true,
+        "--steps" => options.steps = Some(number_of(verb, name, &value)?.value),
         _ => {}
     }
     Ok(())

@@ -55,6 +55,19 @@ pub fn switch(game: Game, set: &InfoSet, action: u8, part: u64, d: u64, adds: Fr
     format!("{where_it_is} it {often}; {doing} always gains {chips}.")
 }
 
+/// How often a set takes an action, and what one part more on it does to NashConv.
+pub fn one_part(game: Game, set: &InfoSet, actions: [u8; 2], part: u64, d: u64, change: Fraction) -> String {
+    let [from, to] = actions.map(|action| action_words(game, &[action]));
+    let [does, _] = verb(game, actions[1]);
+    let (where_it_is, often) = (situation(game, set), often(&does, part, d));
+    let effect = match change.parts() {
+        (0, _) => "leaves NashConv as it is".to_string(),
+        _ if change.is_negative() => format!("lowers NashConv by {}", chips(change.size())),
+        _ => format!("raises NashConv by {}", chips(change)),
+    };
+    format!("{where_it_is}, seat {} {often}; one part from {from} to {to} {effect}.", set.seat)
+}
+
 #[cfg(test)]
 mod tests {
     use super::*;
@@ -92,5 +105,10 @@ mod tests {
             "With card 0 (rank 0), public card 3 (rank 1), after CALL CALL, as first action of round 2"
         );
         assert_eq!(often("calls", 6, 6), "always calls");
+        let said = |change| one_part(kuhn, &set(2, None, &[&[1]]), [0, 1], 1, 3, change);
+        let front = "With card 2 after BET, seat 0 bets 1 hand in 3; one part from PASS to BET";
+        assert_eq!(said(Fraction::of_units(-48, 162)), format!("{front} lowers NashConv by 8/27 of a chip."));
+        assert_eq!(said(Fraction::of_units(162, 162)), format!("{front} raises NashConv by 1 chip."));
+        assert_eq!(said(Fraction::of_units(0, 162)), format!("{front} leaves NashConv as it is."));
     }
 }

@@ -52,7 +52,7 @@ const PARTS: [&str; 16] = [
     "18446744073709551617",
 ];
 const SEAT: [&str; 8] = ["0", "0", "1", "1", "2", "6", "256", "18446744073709551616"];
-const ODD: [&[u8]; 35] = [
+const ODD: [&[u8]; 36] = [
     b"",
     b"-",
     b"--",
@@ -73,6 +73,7 @@ const ODD: [&[u8]; 35] = [
     b"--top=0",
     b"--all",
     b"--table",
+    b"--steps=2",
     b"--files-from",
     b"--files-from=-",
     b"--version",
@@ -173,7 +174,8 @@ impl Line {
     fn draw(random: &mut Random, games: &[Listed], folder: &Path) -> Self {
         let mut line = Line {
             verb: random.pick(&[
-                "evaluate", "evaluate", "ladder", "ladder", "reply", "reply", "explain", "template", "f64", "f64",
+                "evaluate", "evaluate", "ladder", "ladder", "reply", "reply", "explain", "improve", "template", "f64",
+                "f64",
             ]),
             game: if random.one_in(20) { "chess" } else { random.pick(&["kuhn", "leduc", "Kuhn", "LEDUC"]) },
             seats: mostly_fit(random, &SEATS),
@@ -185,6 +187,10 @@ impl Line {
         };
         if random.one_in(2000) {
             (line.game, line.seats, line.d) = ("kuhn", "6", "16");
+        }
+        // Each step and each move is a walk through the tree.
+        if matches!(line.verb, "explain" | "improve") && matches!(line.seats, "5" | "6") {
+            line.seats = "3";
         }
         let many = if line.takes_many() { 1 + random.below(5) } else { 1 };
         fs::remove_dir_all(folder).and_then(|()| fs::create_dir(folder)).expect("the folder can be made anew");
@@ -321,7 +327,7 @@ impl Line {
         if self.verb == "explain" {
             hold_explained(args);
         }
-        if self.verb == "reply" && ran.status == 0 {
+        if matches!(self.verb, "reply" | "improve") && ran.status == 0 {
             self.hold_table(args);
         }
         self.hold_format(args, ran);
@@ -360,7 +366,7 @@ impl Line {
         if format == "csv" {
             let columns = |line: &str| line.split(',').count();
             assert!(lines[0].starts_with("version,commit,command,file,"), "{args:?}: {}", lines[0]);
-            let a_row_a_set = matches!(self.verb, "reply" | "explain");
+            let a_row_a_set = matches!(self.verb, "reply" | "explain" | "improve");
             assert!(a_row_a_set || lines.len() == 1 + self.tables.len(), "{args:?}: {told:?}");
             assert!(lines[1..].iter().all(|line| columns(line) >= columns(lines[0])), "{args:?}: {told:?}");
             return;

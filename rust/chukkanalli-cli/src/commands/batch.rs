@@ -40,7 +40,10 @@ impl Batch {
         // Bad use is told before any file is read.
         let ready = setting.map(|setting| game::evaluator_of_parts(verb, &setting, None).map(|first| (first, setting)));
         let ready = ready.transpose()?;
-        let gathered = sources::gather(tables, options.files_from.as_deref(), console);
+        let gathered = match tables {
+            [table] if !verb.takes_many() => Ok(vec![Source::one::<u8>(table, console)]),
+            _ => sources::gather(tables, options.files_from.as_deref(), console),
+        };
         let mut sources = gathered.map_err(|sentence| Stop::Refused(vec![sentence]))?;
         let (mut first, setting) = match ready {
             Some(ready) => ready,
@@ -53,8 +56,7 @@ impl Batch {
             game::hold_seat(verb, &mut first, setting.d.value, seat)?;
         }
         let labels = Labels::new(&first);
-        // Where the work on one table is shared out, threads are not bound by the tables.
-        let at_most = if verb == Verb::Explain { usize::MAX } else { sources.len() };
+        let at_most = if verb.shares_out() { usize::MAX } else { sources.len() };
         let evaluators = game::one_a_thread(first, options.jobs, at_most);
         Ok(Batch { sources, labels, d: setting.d.value, evaluators, labelled: options.labelled, headed: !given })
     }

@@ -42,6 +42,8 @@ pub struct Figures<'a> {
     pub reply: Option<Vec<Members>>,
     /// What each set adds to the gain of its seat.
     pub explained: Option<Vec<Members>>,
+    /// What moving a part does, or the moves that were made.
+    pub moves: Option<Vec<Members>>,
 }
 
 /// A seat's worth, best value and gain, in units.
@@ -82,10 +84,17 @@ impl Frame {
     fn record(&self, file: &str, figures: Figures, faults: Option<&Faults>) -> String {
         let members = self.members(file, figures, faults);
         match self.format {
-            Format::Csv => {
-                csv::rows(&self.columns(), &members, if self.verb == Verb::Explain { "explained" } else { "reply" })
-            }
+            Format::Csv => csv::rows(&self.columns(), &members, self.spread()),
             _ => json::line(&members),
+        }
+    }
+
+    /// The list that has a row for each of its objects in CSV.
+    fn spread(&self) -> &'static str {
+        match self.verb {
+            Verb::Explain => "explained",
+            Verb::Improve => "moves",
+            _ => "reply",
         }
     }
 
@@ -120,6 +129,7 @@ impl Frame {
             ("exploitability_fraction", fraction(shared)),
             ("reply", figures.reply.map_or(Value::None, Value::List)),
             ("explained", figures.explained.map_or(Value::None, Value::List)),
+            ("moves", figures.moves.map_or(Value::None, Value::List)),
         ];
         members.extend(fault_members(faults));
         members
@@ -146,6 +156,18 @@ impl Frame {
         let reply: &[&str] = match self.verb {
             Verb::Reply => &["set", "action", "reached"],
             Verb::Explain => &["seat", "set", "parts", "action", "adds", "adds_fraction", "mark", "words"],
+            Verb::Improve => &[
+                "step",
+                "set",
+                "from",
+                "to",
+                "parts",
+                "moved_nash_conv",
+                "moved_nash_conv_fraction",
+                "change",
+                "change_fraction",
+                "words",
+            ],
             _ => &[],
         };
         let back = ["refusal", "sentence", "faults", "more_faults"];
