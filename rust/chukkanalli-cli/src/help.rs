@@ -18,7 +18,7 @@ pub struct Described {
 }
 
 /// The options.
-pub const OPTIONS: [Described; 10] = [
+pub const OPTIONS: [Described; 12] = [
     Described {
         name: "--format",
         value: Some("a form"),
@@ -46,6 +46,24 @@ otherwise",
         what: "\
 takes any numbers, whatever they add up to; what is printed
 then says so",
+    },
+    Described {
+        name: "--html",
+        value: Some("a file"),
+        taken_by: |verb| verb == Verb::Ladder,
+        shown: "--html FILE",
+        what: "\
+writes the standing as a page to FILE too: bars, each seat's
+gain, the leader's faults in words and what was refused",
+    },
+    Described {
+        name: "--reasons",
+        value: Some("a folder"),
+        taken_by: |verb| verb == Verb::Ladder,
+        shown: "--reasons FOLDER",
+        what: "\
+writes a text for each refused table to FOLDER, to be sent
+back",
     },
     Described {
         name: "--table",

@@ -35,6 +35,8 @@ pub struct Options {
     pub all: bool,
     pub table: bool,
     pub steps: Option<u64>,
+    pub html: Option<PathBuf>,
+    pub reasons: Option<PathBuf>,
 }
 
 impl Options {
@@ -98,6 +100,8 @@ fn take(verb: Verb, options: &mut Options, name: &str, value: OsString) -> Resul
         "--jobs" => options.jobs = Some(jobs_of(verb, &value.to_string_lossy())?),
         "--format" => options.format = format_of(verb, &value.to_string_lossy())?,
         "--files-from" => options.files_from = Some(PathBuf::from(value)),
+        "--html" => options.html = Some(PathBuf::from(value)),
+        "--reasons" => options.reasons = Some(PathBuf::from(value)),
         "--labelled" => options.labelled = true,
         "--any" => options.any = true,
         "--seat" => options.seat = Some(number_of(verb, name, &value)?),

@@ -52,7 +52,7 @@ const PARTS: [&str; 16] = [
     "18446744073709551617",
 ];
 const SEAT: [&str; 8] = ["0", "0", "1", "1", "2", "6", "256", "18446744073709551616"];
-const ODD: [&[u8]; 36] = [
+const ODD: [&[u8]; 37] = [
     b"",
     b"-",
     b"--",
@@ -74,6 +74,7 @@ const ODD: [&[u8]; 36] = [
     b"--all",
     b"--table",
     b"--steps=2",
+    b"--html=/dev/null",
     b"--files-from",
     b"--files-from=-",
     b"--version",
@@ -327,6 +328,9 @@ impl Line {
         if self.verb == "explain" {
             hold_explained(args);
         }
+        if self.verb == "ladder" {
+            hold_page(args, ran, bad);
+        }
         if matches!(self.verb, "reply" | "improve") && ran.status == 0 {
             self.hold_table(args);
         }
@@ -387,6 +391,21 @@ impl Line {
             assert_eq!(members, printed, "{args:?}: {told:?}");
         }
     }
+}
+
+/// A page and texts to be sent back change nothing else; a text is written for each table that was refused, and the page lists all.
+fn hold_page(args: &[OsString], ran: &Ran, bad: usize) {
+    let folder = std::env::temp_dir().join(format!("chukkanalli-fuzz-page-{}", std::process::id()));
+    let (page, reasons) = (folder.join("page.html"), folder.join("reasons"));
+    fs::create_dir_all(&folder).expect("the folder can be made");
+    let more = ["--html".into(), page.clone().into_os_string(), "--reasons".into(), reasons.clone().into_os_string()];
+    assert_eq!(&run(&[args, &more].concat()), ran, "a page changes the outcome of {args:?}");
+    let html = fs::read_to_string(&page).expect("the page was written");
+    let written = fs::read_dir(&reasons).expect("the folder was made").count();
+    assert_eq!(written, bad, "the reasons of {args:?}");
+    assert_eq!(html.matches("<th scope=\"row\">").count() + bad, args.len() - 4, "the page of {args:?}");
+    assert!(html.ends_with("</html>\n"), "the page of {args:?}");
+    fs::remove_dir_all(&folder).expect("the folder can be removed");
 }
 
 /// Holds what is explained to itself: what all sets of a seat add is its gain.

@@ -175,6 +175,27 @@ fn sentence(labels: &Labels, d: u64, answer: &Answer, switch: &Switch) -> String
     sentences::switch(labels.game(), set, switch.action, part, d, adds)
 }
 
+/// What each seat gains against a table, and the sentences of the sets that add most to it.
+pub fn in_words(
+    evaluators: &mut [Evaluator],
+    labels: &Labels,
+    d: u64,
+    parts: &[u8],
+    console: &mut Console,
+) -> Result<Vec<(String, Vec<String>)>, Refusal> {
+    let answer = explain(console, evaluators, labels, d, parts, 0..labels.game().seats())?;
+    let told = answer.seats.iter().map(|own| {
+        let gain = Fraction::of_sum(own.best.abs_diff(own.worth), answer.conv.units);
+        let heading = match own.best == own.worth {
+            true => format!("the table cannot be beaten from seat {}", own.seat),
+            false => format!("seat {} gains {} per hand", own.seat, sentences::chips(gain)),
+        };
+        let gaining = own.switches.iter().take(SHOWN).filter(|switch| switch.adds > 0);
+        (heading, gaining.map(|switch| sentence(labels, d, &answer, switch)).collect())
+    });
+    Ok(told.collect())
+}
+
 fn machine_figures<'a>(
     labels: &Labels,
     d: u64,
