@@ -27,7 +27,7 @@ SHARED := build/lib/libchukkanalli.so.0
 SAMPLE := samples/always-pass.txt
 
 .SILENT:
-.PHONY: run sample check test audit reach host-tests product product-test cases large fuzz lists archive shared install install-check dist compare bench
+.PHONY: run sample check test audit reach host-tests product product-test cases large fuzz lists archive shared python-test install install-check dist compare bench
 
 # Evaluates a table by which both seats always pass, and replies to it in words.
 run: $(PRODUCT)
@@ -96,7 +96,7 @@ product-test:
 	if test -n '$(MISSING)'; then \
 	    echo "skipped: the product's tests (there is no $(MISSING))"; \
 	else \
-	    $(MAKE) --no-print-directory cases && (cd rust && cargo test -q $(CARGO_FLAGS)) && $(MAKE) --no-print-directory large install-check; \
+	    $(MAKE) --no-print-directory cases && (cd rust && cargo test -q $(CARGO_FLAGS)) && $(MAKE) --no-print-directory large install-check python-test; \
 	fi
 
 # Some profiles and tables of Kuhn 5 and 6 through the archive, held to the Rust and to the exact reference: what the lists leave out.
@@ -131,11 +131,20 @@ $(SHARED): $(ARCHIVE)
 	mkdir -p build/lib
 	$(CC) -shared -Wl,--whole-archive $(ARCHIVE) -Wl,--no-whole-archive -Wl,-soname,libchukkanalli.so.0 -o $@
 
-# The program, both libraries, the header, a pkg-config file, the manual page and completions, below $(DESTDIR)$(PREFIX).
+# The Python module, through the shared library; the program, where it is built, is held to it.
+python-test: $(SHARED)
+	if ! command -v python3 >/dev/null; then \
+	    echo 'skipped: the Python module (there is no python3)'; \
+	else \
+	    python3 -B -m unittest discover -q python/tests; \
+	fi
+
+# The program, both libraries, the header, a pkg-config file, the Python module, the manual page and completions, below $(DESTDIR)$(PREFIX).
 install: $(PRODUCT) $(SHARED)
 	scripts/share.sh $(PRODUCT) build/share
 	install -d '$(DESTDIR)$(PREFIX)/bin' '$(DESTDIR)$(PREFIX)/lib/pkgconfig' '$(DESTDIR)$(PREFIX)/include' '$(DESTDIR)$(PREFIX)/share/man/man1' \
-	    '$(DESTDIR)$(PREFIX)/share/bash-completion/completions' '$(DESTDIR)$(PREFIX)/share/zsh/site-functions' '$(DESTDIR)$(PREFIX)/share/fish/vendor_completions.d'
+	    '$(DESTDIR)$(PREFIX)/share/bash-completion/completions' '$(DESTDIR)$(PREFIX)/share/zsh/site-functions' '$(DESTDIR)$(PREFIX)/share/fish/vendor_completions.d' \
+	    '$(DESTDIR)$(PREFIX)/share/chukkanalli/chukkanalli'
 	install -m 755 $(PRODUCT) '$(DESTDIR)$(PREFIX)/bin/chukkanalli'
 	install -m 644 $(ARCHIVE) '$(DESTDIR)$(PREFIX)/lib/libchukkanalli.a'
 	install -m 755 $(SHARED) '$(DESTDIR)$(PREFIX)/lib/libchukkanalli.so.0'
@@ -143,6 +152,7 @@ install: $(PRODUCT) $(SHARED)
 	install -m 644 include/chukkanalli.h '$(DESTDIR)$(PREFIX)/include/chukkanalli.h'
 	printf 'prefix=%s\nlibdir=$${prefix}/lib\nincludedir=$${prefix}/include\n\nName: chukkanalli\nDescription: Kuhn and Leduc poker by proved calls\nVersion: %s\nLibs: -L$${libdir} -lchukkanalli\nCflags: -I$${includedir}\n' \
 	    '$(PREFIX)' '$(VERSION)' >'$(DESTDIR)$(PREFIX)/lib/pkgconfig/chukkanalli.pc'
+	install -m 644 python/chukkanalli/*.py '$(DESTDIR)$(PREFIX)/share/chukkanalli/chukkanalli/'
 	install -m 644 build/share/chukkanalli.1 '$(DESTDIR)$(PREFIX)/share/man/man1/chukkanalli.1'
 	install -m 644 build/share/chukkanalli.bash '$(DESTDIR)$(PREFIX)/share/bash-completion/completions/chukkanalli'
 	install -m 644 build/share/_chukkanalli '$(DESTDIR)$(PREFIX)/share/zsh/site-functions/_chukkanalli'

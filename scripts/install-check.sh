@@ -1,6 +1,6 @@
 #!/bin/sh
 # install-check.sh FOLDER: what `make install` put below FOLDER works from there: the program, a C program by pkg-config with the shared library and
-# with the archive, the manual page and the completions.
+# with the archive, the Python module, the manual page and the completions.
 
 set -eu
 root=$1
@@ -24,6 +24,13 @@ if command -v pkg-config >/dev/null; then
     ./static >/dev/null || fail 'a C program with the archive'
 else
     echo 'skipped: a C program by pkg-config (there is no pkg-config)'
+fi
+
+if command -v python3 >/dev/null; then
+    told=$(PYTHONPATH="$root/share/chukkanalli" python3 -B -c 'import chukkanalli; g = chukkanalli.Game("kuhn"); print(g.nash_conv(g.table([1, 0] * 12, 1)))')
+    test "$told" = 2 || fail "the Python module, which gives '$told'"
+else
+    echo 'skipped: the installed Python module (there is no python3)'
 fi
 
 for command in evaluate ladder reply explain improve template f64; do
