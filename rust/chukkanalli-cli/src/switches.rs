@@ -230,8 +230,7 @@ mod tests {
             for _ in 0..count {
                 let d = random.pick(&[1, 2, 3, 10, 64]);
                 let parts = table(&labels, d, &mut random);
-                let seats = if game == Game::Leduc { random.below(2) as u64..2 } else { 0..game.seats() };
-                let told = explained(&mut evaluators, &labels, d, &parts, seats, |_| {}).unwrap();
+                let told = explained(&mut evaluators, &labels, d, &parts, 0..game.seats(), |_| {}).unwrap();
                 for own in &told {
                     let added: u64 = own.switches.iter().map(|switch| switch.adds).sum();
                     assert_eq!(added as i64, own.best - own.worth);
