@@ -16,12 +16,18 @@ SEED ?=
 ROUNDS ?= 101
 SECONDS ?= 600
 
+# Where `install` puts things; DESTDIR stands before it, for a package that is being made.
+PREFIX ?= /usr/local
+DESTDIR ?=
+
+VERSION := $(shell sed -n 's/^version = "\(.*\)"/\1/p' rust/chukkanalli-cli/Cargo.toml)
 ARCHIVE := target/staticlib/libchukkanalli.a
 PRODUCT := build/bin/chukkanalli
+SHARED := build/lib/libchukkanalli.so.0
 SAMPLE := samples/always-pass.txt
 
 .SILENT:
-.PHONY: run sample check test audit reach host-tests product product-test cases fuzz lists archive compare bench
+.PHONY: run sample check test audit reach host-tests product product-test cases large fuzz lists archive shared python-test install install-check dist compare bench
 
 # Evaluates a table by which both seats always pass, and replies to it in words.
 run: $(PRODUCT)
@@ -90,7 +96,15 @@ product-test:
 	if test -n '$(MISSING)'; then \
 	    echo "skipped: the product's tests (there is no $(MISSING))"; \
 	else \
-	    $(MAKE) --no-print-directory cases && cd rust && cargo test -q $(CARGO_FLAGS); \
+	    $(MAKE) --no-print-directory cases && (cd rust && cargo test -q $(CARGO_FLAGS)) && $(MAKE) --no-print-directory large install-check python-test; \
+	fi
+
+# Some profiles and tables of Kuhn 5 and 6 through the archive, held to the Rust and to the exact reference: what the lists leave out.
+large: $(ARCHIVE)
+	if ! test -f '$(RUST)/crates/reinfors-games/src/kuhn.rs'; then \
+	    echo 'skipped: Kuhn 5 and 6 beside the Rust (its source is not at RUST=$(RUST))'; \
+	else \
+	    cd compare && RUST='$(RUST)' cargo test -q $(CARGO_FLAGS) -p host --test large; \
 	fi
 
 # Random tables and command lines, held to a model.
@@ -103,11 +117,63 @@ lists:
 
 # The calls for C: proves them, what they depend on side by side first, and writes $(ARCHIVE).
 archive:
+	command -v rt >/dev/null || { echo 'the calls are proved first, by rt, the Rattle toolchain, which is not here: README.md says more under "Two commands"' >&2; exit 1; }
 	scripts/prove.sh chukkanalli build/archive.log
 
 # The archive, where it is missing or older than a file of crates/.
 $(ARCHIVE): $(shell find crates crates.txt -type f)
 	$(MAKE) --no-print-directory archive
+
+# The calls as a shared library.
+shared: $(SHARED)
+
+$(SHARED): $(ARCHIVE)
+	mkdir -p build/lib
+	$(CC) -shared -Wl,--whole-archive $(ARCHIVE) -Wl,--no-whole-archive -Wl,-soname,libchukkanalli.so.0 -o $@
+
+# The Python module, through the shared library; the program, where it is built, is held to it.
+python-test: $(SHARED)
+	if ! command -v python3 >/dev/null; then \
+	    echo 'skipped: the Python module (there is no python3)'; \
+	else \
+	    python3 -B -m unittest discover -q python/tests; \
+	fi
+
+# The program, both libraries, the header, a pkg-config file, the Python module, the manual page and completions, below $(DESTDIR)$(PREFIX).
+install: $(PRODUCT) $(SHARED)
+	scripts/share.sh $(PRODUCT) build/share
+	install -d '$(DESTDIR)$(PREFIX)/bin' '$(DESTDIR)$(PREFIX)/lib/pkgconfig' '$(DESTDIR)$(PREFIX)/include' '$(DESTDIR)$(PREFIX)/share/man/man1' \
+	    '$(DESTDIR)$(PREFIX)/share/bash-completion/completions' '$(DESTDIR)$(PREFIX)/share/zsh/site-functions' '$(DESTDIR)$(PREFIX)/share/fish/vendor_completions.d' \
+	    '$(DESTDIR)$(PREFIX)/share/chukkanalli/chukkanalli'
+	install -m 755 $(PRODUCT) '$(DESTDIR)$(PREFIX)/bin/chukkanalli'
+	install -m 644 $(ARCHIVE) '$(DESTDIR)$(PREFIX)/lib/libchukkanalli.a'
+	install -m 755 $(SHARED) '$(DESTDIR)$(PREFIX)/lib/libchukkanalli.so.0'
+	ln -sf libchukkanalli.so.0 '$(DESTDIR)$(PREFIX)/lib/libchukkanalli.so'
+	install -m 644 include/chukkanalli.h '$(DESTDIR)$(PREFIX)/include/chukkanalli.h'
+	printf 'prefix=%s\nlibdir=$${prefix}/lib\nincludedir=$${prefix}/include\n\nName: chukkanalli\nDescription: Kuhn and Leduc poker by proved calls\nVersion: %s\nLibs: -L$${libdir} -lchukkanalli\nCflags: -I$${includedir}\n' \
+	    '$(PREFIX)' '$(VERSION)' >'$(DESTDIR)$(PREFIX)/lib/pkgconfig/chukkanalli.pc'
+	install -m 644 python/chukkanalli/*.py '$(DESTDIR)$(PREFIX)/share/chukkanalli/chukkanalli/'
+	install -m 644 build/share/chukkanalli.1 '$(DESTDIR)$(PREFIX)/share/man/man1/chukkanalli.1'
+	install -m 644 build/share/chukkanalli.bash '$(DESTDIR)$(PREFIX)/share/bash-completion/completions/chukkanalli'
+	install -m 644 build/share/_chukkanalli '$(DESTDIR)$(PREFIX)/share/zsh/site-functions/_chukkanalli'
+	install -m 644 build/share/chukkanalli.fish '$(DESTDIR)$(PREFIX)/share/fish/vendor_completions.d/chukkanalli.fish'
+
+# Installs into an empty folder, and tries what is there.
+install-check:
+	rm -rf build/installed
+	$(MAKE) --no-print-directory install DESTDIR='$(CURDIR)/build/installed' PREFIX=/usr
+	scripts/install-check.sh '$(CURDIR)/build/installed/usr'
+
+# The source of the last commit with the built program and archive beside it, which are newer than it: whoever unpacks it needs neither rt nor cargo.
+dist: $(PRODUCT) $(ARCHIVE)
+	rm -rf 'build/dist/chukkanalli-$(VERSION)'
+	mkdir -p build/dist
+	git archive --prefix='chukkanalli-$(VERSION)/' HEAD | tar -x -C build/dist
+	mkdir -p 'build/dist/chukkanalli-$(VERSION)/build/bin' 'build/dist/chukkanalli-$(VERSION)/target/staticlib'
+	cp $(ARCHIVE) 'build/dist/chukkanalli-$(VERSION)/target/staticlib/'
+	cp $(PRODUCT) 'build/dist/chukkanalli-$(VERSION)/build/bin/'
+	tar -C build/dist -czf 'build/chukkanalli-$(VERSION).tar.gz' 'chukkanalli-$(VERSION)'
+	echo 'build/chukkanalli-$(VERSION).tar.gz'
 
 # Document 01's cases and each call, through the header from C.
 cases: $(ARCHIVE)

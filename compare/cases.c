@@ -1,10 +1,132 @@
-/* Document 01's cases a to l, the keys of Kuhn 2, and each call on good and on refused input, through the header and the archive, from C. Ends with
- * status 1 at the first that differs. */
+/* Document 01's cases a to l, the keys of Kuhn 2, each call on good and on refused input and each refusal number, through the header and the archive,
+ * from C. Ends with status 1 at the first that differs; a wrong number or layout of the header does not compile. */
 #include "chukkanalli.h"
 
 #include <stdio.h>
 #include <stdlib.h>
 #include <string.h>
+
+/* The header's numbers, as document 01 has them; rust/audit asks for each. */
+#define CONSTANT(name, number) _Static_assert(CHUKKANALLI_##name == (number), "CHUKKANALLI_" #name " is " #number)
+
+CONSTANT(ACCEPTED, 0);
+CONSTANT(GAME, 1);
+CONSTANT(SEATS, 2);
+CONSTANT(TREE, 3);
+CONSTANT(MEMORY, 4);
+CONSTANT(SEAT, 5);
+CONSTANT(PARTS, 6);
+CONSTANT(TABLE, 7);
+CONSTANT(SUM, 8);
+CONSTANT(OUTPUT, 9);
+CONSTANT(CARD_COUNT, 10);
+CONSTANT(CARD, 11);
+CONSTANT(CARD_TWICE, 12);
+CONSTANT(HISTORY, 13);
+CONSTANT(CLOSED, 14);
+CONSTANT(ILLEGAL, 15);
+CONSTANT(NO_PUBLIC, 16);
+CONSTANT(EARLY_PUBLIC, 17);
+CONSTANT(END_MARK, 18);
+CONSTANT(UNREACHABLE, 19);
+CONSTANT(UNFIT, 20);
+CONSTANT(PASS, 0);
+CONSTANT(BET, 1);
+CONSTANT(FOLD, 0);
+CONSTANT(CALL, 1);
+CONSTANT(RAISE, 2);
+CONSTANT(NO_CARD, 255);
+CONSTANT(KUHN_POKER, 0);
+CONSTANT(LEDUC_POKER, 1);
+CONSTANT(RECORD, 24);
+CONSTANT(TREE_SEATS, 6);
+CONSTANT(WORDS, 12);
+CONSTANT(KUHN_2_NODES, 58);
+CONSTANT(KUHN_2_SETS, 12);
+CONSTANT(KUHN_2_ENTRIES, 24);
+CONSTANT(KUHN_2_WORK, 696);
+CONSTANT(KUHN_3_NODES, 617);
+CONSTANT(KUHN_3_SETS, 48);
+CONSTANT(KUHN_3_ENTRIES, 96);
+CONSTANT(KUHN_3_WORK, 7404);
+CONSTANT(KUHN_4_NODES, 7886);
+CONSTANT(KUHN_4_SETS, 160);
+CONSTANT(KUHN_4_ENTRIES, 320);
+CONSTANT(KUHN_4_WORK, 94632);
+CONSTANT(KUHN_5_NODES, 116437);
+CONSTANT(KUHN_5_SETS, 480);
+CONSTANT(KUHN_5_ENTRIES, 960);
+CONSTANT(KUHN_5_WORK, 1397244);
+CONSTANT(KUHN_6_NODES, 1944020);
+CONSTANT(KUHN_6_SETS, 1344);
+CONSTANT(KUHN_6_ENTRIES, 2688);
+CONSTANT(KUHN_6_WORK, 23328240);
+CONSTANT(LEDUC_NODES, 9457);
+CONSTANT(LEDUC_SETS, 936);
+CONSTANT(LEDUC_ENTRIES, 2184);
+CONSTANT(LEDUC_WORK, 113484);
+
+/* The size of each struct, and where each field begins and how long it is, in bytes. */
+#define SIZE(type, bytes) _Static_assert(sizeof(chukkanalli_##type) == (bytes), "chukkanalli_" #type " has " #bytes " bytes")
+#define FIELD(type, field, place, bytes) \
+    _Static_assert(offsetof(chukkanalli_##type, field) == (place) && sizeof(((chukkanalli_##type *)0)->field) == (bytes), \
+        #field " of chukkanalli_" #type " has " #bytes " bytes from " #place " on")
+
+SIZE(kuhn_position, 56);
+FIELD(kuhn_position, cards, 0, 10);
+FIELD(kuhn_position, dealt, 16, 8);
+FIELD(kuhn_position, history, 24, 19);
+FIELD(kuhn_position, acted, 48, 8);
+SIZE(kuhn_moved, 64);
+FIELD(kuhn_moved, refusal, 0, 8);
+FIELD(kuhn_moved, position, 8, 56);
+SIZE(kuhn_written, 72);
+FIELD(kuhn_written, refusal, 0, 8);
+FIELD(kuhn_written, position, 8, 56);
+FIELD(kuhn_written, count, 64, 8);
+SIZE(kuhn_payoffs, 152);
+FIELD(kuhn_payoffs, refusal, 0, 8);
+FIELD(kuhn_payoffs, position, 8, 56);
+FIELD(kuhn_payoffs, count, 64, 8);
+FIELD(kuhn_payoffs, payoffs, 72, 80);
+SIZE(leduc_position, 48);
+FIELD(leduc_position, cards, 0, 2);
+FIELD(leduc_position, dealt, 8, 8);
+FIELD(leduc_position, public_card, 16, 1);
+FIELD(leduc_position, history, 17, 8);
+FIELD(leduc_position, acted1, 32, 8);
+FIELD(leduc_position, acted2, 40, 8);
+SIZE(leduc_moved, 56);
+FIELD(leduc_moved, refusal, 0, 8);
+FIELD(leduc_moved, position, 8, 48);
+SIZE(leduc_written, 64);
+FIELD(leduc_written, refusal, 0, 8);
+FIELD(leduc_written, position, 8, 48);
+FIELD(leduc_written, count, 56, 8);
+SIZE(leduc_payoffs, 144);
+FIELD(leduc_payoffs, refusal, 0, 8);
+FIELD(leduc_payoffs, position, 8, 48);
+FIELD(leduc_payoffs, count, 56, 8);
+FIELD(leduc_payoffs, payoffs, 64, 80);
+SIZE(listing, 24);
+FIELD(listing, refusal, 0, 8);
+FIELD(listing, nodes, 8, 8);
+FIELD(listing, sets, 16, 8);
+SIZE(worths_answer, 64);
+FIELD(worths_answer, refusal, 0, 8);
+FIELD(worths_answer, count, 8, 8);
+FIELD(worths_answer, worths, 16, 48);
+SIZE(reply_answer, 16);
+FIELD(reply_answer, refusal, 0, 8);
+FIELD(reply_answer, value, 8, 8);
+SIZE(nash_conv_answer, 24);
+FIELD(nash_conv_answer, refusal, 0, 8);
+FIELD(nash_conv_answer, nash_conv, 8, 8);
+FIELD(nash_conv_answer, units, 16, 8);
+SIZE(values, 64);
+FIELD(values, refusal, 0, 8);
+FIELD(values, count, 8, 8);
+FIELD(values, values, 16, 48);
 
 #define expect(name, holds) expect_at(__LINE__, name, holds)
 
@@ -350,6 +472,57 @@ static void f64_refusals(void) {
         f64_is_refused(chukkanalli_best_response_value(CHUKKANALLI_KUHN_POKER, 2, work, 12 * 58, 2, profile, 23), CHUKKANALLI_SEAT));
 }
 
+/* ---- each refusal number, by a call that gives it */
+
+/* The number of a saved position of Leduc: cards 0 and 5, no public card, CALL as the first actions of round 1, and a live hand, each changed where asked for. */
+typedef struct {
+    uint64_t dealt;
+    uint8_t second_card, public_card, first_action;
+    uint64_t acted, mark;
+} saved;
+
+static uint64_t leduc_saved(saved with) {
+    chukkanalli_leduc_position position = {{0, with.second_card}, with.dealt, with.public_card, {with.first_action, 1}, with.acted, 0};
+    return chukkanalli_leduc_validate_decoded_state(position, with.mark).refusal;
+}
+
+static void each_number(void) {
+    static uint64_t work[696];
+    uint8_t table[24], out[24];
+    for (int entry = 0; entry < 24; entry++) {
+        table[entry] = entry % 2 == 0;
+    }
+    chukkanalli_kuhn_position past_the_end = {{0, 1}, 2, {0, 0, 1}, 3};
+    const uint64_t met[21] = {
+        leduc_saved((saved){2, 5, 255, 1, 1, 0}),
+        chukkanalli_worths(2, 2, work, 696, 1, table, 24).refusal,
+        chukkanalli_worths(0, 11, work, 696, 1, table, 24).refusal,
+        chukkanalli_worths(0, 7, work, 696, 1, table, 24).refusal,
+        chukkanalli_worths(0, 2, work, 695, 1, table, 24).refusal,
+        chukkanalli_best_reply(0, 2, work, 696, 2, 1, table, 24, out, 24).refusal,
+        chukkanalli_worths(0, 2, work, 696, 65, table, 24).refusal,
+        chukkanalli_worths(0, 2, work, 696, 1, table, 23).refusal,
+        chukkanalli_worths(0, 2, work, 696, 2, table, 24).refusal,
+        chukkanalli_best_reply(0, 2, work, 696, 0, 1, table, 24, out, 23).refusal,
+        leduc_saved((saved){1, 5, 255, 1, 1, 0}),
+        leduc_saved((saved){2, 6, 255, 1, 1, 0}),
+        leduc_saved((saved){2, 0, 255, 1, 1, 0}),
+        leduc_saved((saved){2, 5, 255, 3, 1, 0}),
+        chukkanalli_kuhn_validate_decoded_state(2, past_the_end, 0).refusal,
+        leduc_saved((saved){2, 5, 255, 0, 1, 0}), /* FOLD without a raise */
+        leduc_saved((saved){2, 5, 255, 1, 2, 0}), /* CALL CALL */
+        leduc_saved((saved){2, 5, 1, 1, 1, 0}),
+        leduc_saved((saved){2, 5, 255, 1, 1, 1}),
+        chukkanalli_kuhn_step(2, past_the_end, 0).refusal,
+        chukkanalli_leduc_payouts(leduc(0, 4)).refusal,
+    };
+    for (uint64_t number = 0; number <= 20; number++) {
+        char name[12];
+        snprintf(name, sizeof name, "refusal %d", (int)number);
+        expect(name, met[number] == number);
+    }
+}
+
 int main(void) {
     kuhn_cases();
     leduc_cases();
@@ -362,6 +535,7 @@ int main(void) {
     leduc_calls();
     units_refusals();
     f64_refusals();
-    puts("cases a to l, Kuhn 2's keys and each call from C: as document 01 has them");
+    each_number();
+    puts("cases a to l, Kuhn 2's keys, each call and each refusal number from C: as document 01 has them");
     return 0;
 }

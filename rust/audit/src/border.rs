@@ -4,7 +4,7 @@
 use std::collections::{BTreeMap, BTreeSet};
 
 use crate::antt::{module, Declaration, Leaf, Node};
-use crate::documents::{self, called, refused_with, tables, Tables};
+use crate::documents::{self, asserted, called, refused_with, tables, Tables};
 use crate::files::Files;
 use crate::header::{header, Header};
 use crate::interface::{differences, different_constants, Interface, Shape};
@@ -53,7 +53,21 @@ fn compared(files: &Files) -> Result<Vec<String>, String> {
     let made = called(files.text(documents::CASES)?)?;
     let missing = ours.calls.keys().filter(|name| !made.contains(*name));
     complaints.extend(missing.map(|name| format!("{}: {name} is not called", documents::CASES)));
+    complaints.extend(not_asserted(files.text(documents::CASES)?, &header)?);
     Ok(complaints)
+}
+
+/// The constants, structs and fields of the header of which cases.c asserts no number.
+fn not_asserted(cases: &str, header: &Header) -> Result<Vec<String>, String> {
+    let made = asserted(cases)?;
+    let mut asked: Vec<String> = header.interface.constants.keys().map(|name| format!("CONSTANT({name}")).collect();
+    for (name, fields) in &header.interface.structs {
+        let name = name.trim_start_matches(documents::PREFIX);
+        asked.push(format!("SIZE({name}"));
+        asked.extend(fields.iter().map(|(field, _)| format!("FIELD({name}, {field}")));
+    }
+    let missing = asked.into_iter().filter(|assertion| !made.contains(assertion));
+    Ok(missing.map(|assertion| format!("{}: {assertion}, ..) is missing", documents::CASES)).collect())
 }
 
 /// A definition of one number: its comment up to a semicolon is the sentence.

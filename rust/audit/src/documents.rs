@@ -1,4 +1,4 @@
-//! docs/API.md's tables of calls and refusals, and the calls that compare/cases.c makes.
+//! docs/API.md's tables of calls and refusals, and what compare/cases.c calls and asserts.
 
 use std::collections::{BTreeMap, BTreeSet};
 
@@ -6,7 +6,7 @@ use crate::tokens::{tokens, Kind};
 
 pub const API: &str = "docs/API.md";
 pub const CASES: &str = "compare/cases.c";
-const PREFIX: &str = "chukkanalli_";
+pub const PREFIX: &str = "chukkanalli_";
 
 /// A call as docs/API.md has it: the arguments and the refusals as they are written, and the table that it stands in.
 pub struct Described {
@@ -82,6 +82,30 @@ pub fn called(text: &str) -> Result<BTreeSet<String>, String> {
     Ok(calls.map(|pair| pair[0].text.to_string()).collect())
 }
 
+/// What is asserted of the header, with a number written out: `CONSTANT(NAME, 1)`, `SIZE(struct, 8)` and `FIELD(struct, field, 0, 8)`, each
+/// up to its numbers.
+pub fn asserted(text: &str) -> Result<BTreeSet<String>, String> {
+    let found: Vec<_> = tokens(CASES, text)?.into_iter().filter(|token| token.kind != Kind::Comment).collect();
+    let mut asserted = BTreeSet::new();
+    for (place, token) in found.iter().enumerate() {
+        let (names, numbers) = match token.text {
+            "CONSTANT" | "SIZE" => (1, 1),
+            "FIELD" => (2, 2),
+            _ => continue,
+        };
+        let behind: Vec<_> = found[place + 1..].iter().take(2 * (names + numbers) + 1).collect();
+        let arguments = || behind.iter().skip(1).step_by(2);
+        let marks = behind.iter().step_by(2).map(|token| token.text).collect::<String>();
+        let kinds = arguments().map(|token| token.kind);
+        let expected = std::iter::repeat_n(Kind::Word, names).chain(std::iter::repeat_n(Kind::Number, numbers));
+        if kinds.eq(expected) && marks == format!("({})", ",".repeat(names + numbers - 1)) {
+            let names: Vec<&str> = arguments().take(names).map(|token| token.text).collect();
+            asserted.insert(format!("{}({}", token.text, names.join(", ")));
+        }
+    }
+    Ok(asserted)
+}
+
 #[cfg(test)]
 mod tests {
     use super::*;
@@ -97,5 +121,14 @@ mod tests {
         assert_eq!(refused_with("A deal. Refuses with 2, 10 to 14; and so on.").as_deref(), Some("2, 10 to 14"));
         assert_eq!((refused_with("Never refuses.").as_deref(), refused_with("A deal.")), (Some("none"), None));
         assert_eq!(called("/* f( */ \"g(\" h(i) ;").expect("it can be read").len(), 1);
+    }
+
+    #[test]
+    fn only_numbers_that_are_written_out_are_asserted() {
+        let text =
+            "#define CONSTANT(name, number) x\nCONSTANT(A, 1); CONSTANT(B, A); /* CONSTANT(C, 1); */ SIZE(s, 8);\n\
+                    FIELD(s, a, 0, 8); FIELD(s, b, 8); SIZE(t, sizeof(t));";
+        let found = asserted(text).expect("it can be read");
+        assert_eq!(found.into_iter().collect::<Vec<_>>(), ["CONSTANT(A", "FIELD(s, a", "SIZE(s"]);
     }
 }

@@ -32,7 +32,8 @@ struct Reader<'a> {
 pub fn header(text: &str) -> Result<Header, String> {
     let interface = Interface { name: PATH.to_string(), ..Interface::default() };
     let header = Header { interface, said: BTreeMap::new(), above: BTreeMap::new(), lengths: Vec::new() };
-    let mut reader = Reader { tokens: tokens(PATH, text)?, next: 0, header, comment: String::new(), for_cpp: false, for_gcc: false };
+    let mut reader =
+        Reader { tokens: tokens(PATH, text)?, next: 0, header, comment: String::new(), for_cpp: false, for_gcc: false };
     while reader.next < reader.tokens.len() {
         reader.declaration()?;
     }

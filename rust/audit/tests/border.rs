@@ -234,6 +234,7 @@ fn a_number_more_must_stand_in_every_place() {
     for place in [HEADER, REFUSAL, API] {
         assert!(said.iter().any(|complaint| complaint.starts_with(place)), "{place} is not in {said:#?}");
     }
+    let files = files.replaced(CASES, "CONSTANT(UNFIT, 20);\n", "CONSTANT(UNFIT, 20);\nCONSTANT(LATE, 21);\n");
     let last = "CHUKKANALLI_UNFIT = 20         /* the call does not fit the position */";
     let files = files.replaced(
         HEADER,
@@ -251,6 +252,20 @@ fn a_number_more_must_stand_in_every_place() {
         "| 20 | the call does not fit the position |\n| 21 | the call is late |\n",
     );
     assert_eq!(complaints(&files), Vec::<String>::new());
+}
+
+#[test]
+fn what_cases_asserts_of_the_header_is_whole() {
+    found(CASES, "CONSTANT(RAISE, 2);\n", "", "cases.c: CONSTANT(RAISE, ..) is missing");
+    found(CASES, "CONSTANT(RAISE, 2);", "CONSTANT(RAISE, CHUKKANALLI_RAISE);", "CONSTANT(RAISE, ..) is missing");
+    found(CASES, "SIZE(listing, 24);\n", "", "cases.c: SIZE(listing, ..) is missing");
+    found(CASES, "FIELD(listing, sets, 16, 8);\n", "", "cases.c: FIELD(listing, sets, ..) is missing");
+    found(
+        HEADER,
+        "    uint64_t sets;\n",
+        "    uint64_t sets;\n    uint64_t entries;\n",
+        "cases.c: FIELD(listing, entries, ..) is missing",
+    );
 }
 
 #[test]

@@ -14,18 +14,23 @@ pub enum Verb {
     Evaluate,
     Ladder,
     Reply,
+    Explain,
+    Improve,
     Template,
     F64,
 }
 
 impl Verb {
-    pub const ALL: [Verb; 5] = [Verb::Evaluate, Verb::Ladder, Verb::Reply, Verb::Template, Verb::F64];
+    pub const ALL: [Verb; 7] =
+        [Verb::Evaluate, Verb::Ladder, Verb::Reply, Verb::Explain, Verb::Improve, Verb::Template, Verb::F64];
 
     pub fn name(self) -> &'static str {
         match self {
             Verb::Evaluate => "evaluate",
             Verb::Ladder => "ladder",
             Verb::Reply => "reply",
+            Verb::Explain => "explain",
+            Verb::Improve => "improve",
             Verb::Template => "template",
             Verb::F64 => "f64",
         }
@@ -34,7 +39,7 @@ impl Verb {
     /// What it takes, in order; after the last of them, more tables only where `takes_many`.
     pub fn places(self) -> &'static [&'static str] {
         match self {
-            Verb::Evaluate | Verb::Ladder => &["GAME", "SEATS", "D", "TABLE"],
+            Verb::Evaluate | Verb::Ladder | Verb::Explain | Verb::Improve => &["GAME", "SEATS", "D", "TABLE"],
             Verb::Reply => &["GAME", "SEATS", "D", "TABLE", "SEAT"],
             Verb::Template => &["GAME", "SEATS", "D"],
             Verb::F64 => &["GAME", "SEATS", "PROFILE"],
@@ -43,7 +48,7 @@ impl Verb {
 
     /// Whether it takes any number of tables.
     pub fn takes_many(self) -> bool {
-        matches!(self, Verb::Evaluate | Verb::Ladder)
+        matches!(self, Verb::Evaluate | Verb::Ladder | Verb::Explain)
     }
 
     pub fn takes_a_file(self) -> bool {
@@ -52,7 +57,12 @@ impl Verb {
 
     /// Whether the files' headings may stand for GAME SEATS D.
     pub fn takes_headings(self) -> bool {
-        matches!(self, Verb::Evaluate | Verb::Ladder | Verb::F64)
+        self.takes_many() || matches!(self, Verb::Improve | Verb::F64)
+    }
+
+    /// Whether the work on one table is shared out among threads.
+    pub fn shares_out(self) -> bool {
+        matches!(self, Verb::Explain | Verb::Improve)
     }
 
     fn by_name(name: &OsStr) -> Option<Verb> {
@@ -103,6 +113,16 @@ pub enum Request {
         seat: Number,
         options: Options,
     },
+    Explain {
+        setting: Option<Setting>,
+        tables: Vec<PathBuf>,
+        options: Options,
+    },
+    Improve {
+        setting: Option<Setting>,
+        table: PathBuf,
+        options: Options,
+    },
     Template {
         setting: Setting,
         options: Options,
@@ -138,14 +158,32 @@ pub fn parse(args: &[OsString]) -> Result<Request, Misuse> {
     if first == "--version" {
         return Ok(Request::Version);
     }
-    let Some(verb) = Verb::by_name(first) else {
-        let sentence = format!("{} is no command; there are {}", quoted(&first.to_string_lossy()), verb_names());
-        return Err(Misuse { verb: None, sentence });
-    };
+    if first == "help" {
+        return help_of(rest);
+    }
+    let verb = Verb::by_name(first).ok_or_else(|| no_command(first))?;
     match options::sort(verb, rest)? {
         None => Ok(Request::Help(Some(verb))),
         Some((places, options)) => request(verb, &places, options),
     }
+}
+
+/// `help`, or `help COMMAND`.
+fn help_of(words: &[OsString]) -> Result<Request, Misuse> {
+    match words {
+        [] => Ok(Request::Help(None)),
+        [word] if help::is_asked_by(word) => Ok(Request::Help(None)),
+        [word] => Verb::by_name(word).map(|verb| Request::Help(Some(verb))).ok_or_else(|| no_command(word)),
+        [_, surplus, ..] => {
+            let sentence = format!("help takes one command, and {} is one more", quoted(&surplus.to_string_lossy()));
+            Err(Misuse { verb: None, sentence })
+        }
+    }
+}
+
+fn no_command(word: &OsStr) -> Misuse {
+    let sentence = format!("{} is no command; there are {}", quoted(&word.to_string_lossy()), verb_names());
+    Misuse { verb: None, sentence }
 }
 
 fn verb_names() -> String {
@@ -181,23 +219,26 @@ fn request(verb: Verb, places: &[OsString], options: Options) -> Result<Request,
     let setting = || Ok(Setting { asked: asked()?, d: number(2)? });
     let files = |from: usize| places[from..].iter().map(PathBuf::from).collect();
     let (setting_or_none, tables) = match verb {
-        Verb::Evaluate | Verb::Ladder if left_out => (None, files(0)),
-        Verb::Evaluate | Verb::Ladder => (Some(setting()?), files(3)),
+        verb if verb.takes_many() && left_out => (None, files(0)),
+        verb if verb.takes_many() => (Some(setting()?), files(3)),
         _ => (None, Vec::new()),
     };
     Ok(match verb {
         Verb::Evaluate => Request::Evaluate { setting: setting_or_none, tables, options },
         Verb::Ladder => Request::Ladder { setting: setting_or_none, tables, options },
+        Verb::Explain => Request::Explain { setting: setting_or_none, tables, options },
         Verb::Reply => {
             Request::Reply { setting: setting()?, table: PathBuf::from(&places[3]), seat: number(4)?, options }
         }
+        Verb::Improve if left_out => Request::Improve { setting: None, table: PathBuf::from(&places[0]), options },
+        Verb::Improve => Request::Improve { setting: Some(setting()?), table: PathBuf::from(&places[3]), options },
         Verb::Template => Request::Template { setting: setting()?, options },
         Verb::F64 if left_out => Request::F64 { asked: None, profile: PathBuf::from(&places[0]), options },
         Verb::F64 => Request::F64 { asked: Some(asked()?), profile: PathBuf::from(&places[2]), options },
     })
 }
 
-fn number_of(verb: Verb, name: &str, arg: &OsStr) -> Result<Number, Misuse> {
+pub fn number_of(verb: Verb, name: &str, arg: &OsStr) -> Result<Number, Misuse> {
     let word = arg.to_string_lossy().into_owned();
     match value_of(&word) {
         Some(value) => Ok(Number { word, value }),
@@ -262,6 +303,13 @@ mod tests {
         assert_eq!(parsed("ladder kuhn 2 1 --jobs 3 a -- -5 -"), Ok(ladder));
         let f64 = Request::F64 { asked: Some(asked("2")), profile: PathBuf::from("p"), options: none() };
         assert_eq!(parsed("f64 kuhn 2 p"), Ok(f64));
+        let options = Options { seat: Some(number("1", 1)), top: Some(3), all: true, ..none() };
+        let explain = Request::Explain { setting: None, tables: paths(&["t"]), options };
+        assert_eq!(parsed("explain t --seat 1 --top=3 --all"), Ok(explain));
+        let options = Options { steps: Some(5), table: true, ..none() };
+        let improve = |setting| Request::Improve { setting, table: PathBuf::from("t"), options: options.clone() };
+        assert_eq!(parsed("improve t --steps 5 --table"), Ok(improve(None)));
+        assert_eq!(parsed("improve kuhn 2 1 t --steps 5 --table"), Ok(improve(Some(setting("2", "1")))));
     }
 
     #[test]
@@ -305,6 +353,11 @@ mod tests {
         assert_eq!(parsed("-h"), Ok(Request::Help(None)));
         assert_eq!(parsed("ladder --help"), Ok(Request::Help(Some(Verb::Ladder))));
         assert_eq!(parsed("evaluate kuhn 2 1 t -h"), Ok(Request::Help(Some(Verb::Evaluate))));
+        assert_eq!(parsed("help"), Ok(Request::Help(None)));
+        assert_eq!(parsed("help --help"), Ok(Request::Help(None)));
+        assert_eq!(parsed("help explain"), Ok(Request::Help(Some(Verb::Explain))));
+        assert!(sentence("help play").starts_with("'play' is no command; there are evaluate, "));
+        assert_eq!(sentence("help reply kuhn"), "help takes one command, and 'kuhn' is one more");
     }
 
     #[test]
@@ -320,8 +373,14 @@ mod tests {
 
     #[test]
     fn bad_use_has_a_sentence() {
-        assert_eq!(sentence(""), "a command is missing; there are evaluate, ladder, reply, template, f64");
-        assert_eq!(sentence("play"), "'play' is no command; there are evaluate, ladder, reply, template, f64");
+        assert_eq!(
+            sentence(""),
+            "a command is missing; there are evaluate, ladder, reply, explain, improve, template, f64"
+        );
+        assert_eq!(
+            sentence("play"),
+            "'play' is no command; there are evaluate, ladder, reply, explain, improve, template, f64"
+        );
         assert_eq!(sentence("evaluate"), "GAME is missing");
         assert_eq!(sentence("evaluate kuhn 2 1"), "TABLE is missing");
         assert_eq!(sentence("reply kuhn 2 1 t"), "SEAT is missing");
@@ -329,6 +388,7 @@ mod tests {
         assert_eq!(sentence("template kuhn 2 1 t"), "'t' is one argument too many");
         assert_eq!(sentence("f64 kuhn 2 p p"), "'p' is one argument too many");
         assert_eq!(sentence("f64 p q"), "'q' is one argument too many");
+        assert_eq!(sentence("improve t u"), "'u' is one argument too many");
         assert_eq!(sentence("evaluate kuhn +2 1 t"), "SEATS is '+2', and a whole number without a sign is needed");
         assert_eq!(sentence("evaluate kuhn 2 -1 t"), "D is '-1', and a whole number without a sign is needed");
         assert_eq!(sentence("reply kuhn two 1 t 0"), "SEATS is 'two', and a whole number without a sign is needed");
@@ -340,5 +400,8 @@ mod tests {
         assert_eq!(sentence("evaluate kuhn 2 1 -t"), unknown("-t"));
         assert_eq!(sentence("template kuhn 2 1 --jobs 2"), "there is no option '--jobs'");
         assert_eq!(sentence("f64 kuhn 2 p --jobs 2"), unknown("--jobs"));
+        assert_eq!(sentence("evaluate t --seat 1"), unknown("--seat"));
+        assert_eq!(sentence("explain t --seat"), "--seat takes a seat, and it is missing");
+        assert_eq!(sentence("explain t --top x"), "--top is 'x', and a whole number without a sign is needed");
     }
 }

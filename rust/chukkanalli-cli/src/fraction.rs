@@ -35,6 +35,20 @@ impl Fraction {
         Fraction { negative, over: over / common, under: under / common }
     }
 
+    pub fn is_negative(&self) -> bool {
+        self.negative
+    }
+
+    /// The same without its sign.
+    pub fn size(self) -> Self {
+        Fraction { negative: false, ..self }
+    }
+
+    /// What stands over and under the line, without the sign.
+    pub fn parts(&self) -> (u64, u64) {
+        (self.over, self.under)
+    }
+
     /// In decimals, rounded to nine places, a half away from 0.
     pub fn decimals(&self) -> String {
         let scale = 10u128.pow(Self::PLACES);

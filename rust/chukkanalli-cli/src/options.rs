@@ -4,9 +4,9 @@ use std::ffi::{OsStr, OsString};
 use std::os::unix::ffi::{OsStrExt, OsStringExt};
 use std::path::PathBuf;
 
-use chukkanalli::tables::quoted;
+use chukkanalli::tables::{quoted, Form};
 
-use crate::args::{value_of, Misuse, Verb};
+use crate::args::{number_of, value_of, Misuse, Number, Verb};
 use crate::help;
 
 /// The forms of what is printed.
@@ -30,6 +30,24 @@ pub struct Options {
     pub any: bool,
     pub format: Format,
     pub files_from: Option<PathBuf>,
+    pub seat: Option<Number>,
+    pub top: Option<u64>,
+    pub all: bool,
+    pub table: bool,
+    pub steps: Option<u64>,
+    pub html: Option<PathBuf>,
+    pub reasons: Option<PathBuf>,
+}
+
+impl Options {
+    /// The form of a table that is printed; JSON has none.
+    pub fn form(&self, verb: Verb) -> Result<Form, Misuse> {
+        match self.format {
+            Format::Text => Ok(Form::Text),
+            Format::Csv => Ok(Form::Csv),
+            Format::Json => Err(Misuse::of(verb, "--table prints text or csv, and --format is 'json'")),
+        }
+    }
 }
 
 /// Parts options from places; nothing if help is asked for.
@@ -82,8 +100,15 @@ fn take(verb: Verb, options: &mut Options, name: &str, value: OsString) -> Resul
         "--jobs" => options.jobs = Some(jobs_of(verb, &value.to_string_lossy())?),
         "--format" => options.format = format_of(verb, &value.to_string_lossy())?,
         "--files-from" => options.files_from = Some(PathBuf::from(value)),
+        "--html" => options.html = Some(PathBuf::from(value)),
+        "--reasons" => options.reasons = Some(PathBuf::from(value)),
         "--labelled" => options.labelled = true,
         "--any" => options.any = true,
+        "--seat" => options.seat = Some(number_of(verb, name, &value)?),
+        "--top" => options.top = Some(number_of(verb, name, &value)?.value),
+        "--all" => options.all = true,
+        "--table" => options.table = true,
+        "--steps" => options.steps = Some(number_of(verb, name, &value)?.value),
         _ => {}
     }
     Ok(())

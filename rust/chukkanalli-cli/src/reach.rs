@@ -28,6 +28,11 @@ impl<'a> Reach<'a> {
         self.can_be_dealt(set, 0, &mut taken)
     }
 
+    /// Whether the seat's own play in the table lets it get to a set.
+    pub fn goes_to(&self, set: &InfoSet) -> bool {
+        self.plays(set, set.seat, set.card)
+    }
+
     /// Whether seats from one on can have cards with which they play what was played before the set.
     fn can_be_dealt(&self, set: &InfoSet, seat: u64, taken: &mut Vec<u8>) -> bool {
         if seat == self.game.seats() {

@@ -136,7 +136,7 @@ fn what_is_no_number_is_bad_use() {
 
 #[test]
 fn command_lines_that_say_too_little_or_too_much_are_bad_use() {
-    let names = "evaluate, ladder, reply, template, f64";
+    let names = "evaluate, ladder, reply, explain, improve, template, f64";
     let all = |sentence: String| Run {
         status: 2,
         out: String::new(),

@@ -86,6 +86,158 @@ card 2, after PASS BET: PASS
 }
 
 #[test]
+fn the_table_of_a_reply_is_taken_by_every_command() {
+    for (format, name) in [("text", "replied.txt"), ("csv", "replied.csv")] {
+        let reply = run_line(&format!("reply kuhn 2 3 samples/one-in-three.txt 1 --table --format {format}"));
+        assert_eq!((reply.status, reply.err.as_str()), (0, ""));
+        let file = table(name, &reply.out);
+        let evaluated = run(["evaluate", "--labelled", &file]);
+        assert!(evaluated.out.contains("\nseat 1 worth          90             5/9 "), "{}", evaluated.out);
+        assert!(evaluated.out.contains("\nseat 1 best value     90             5/9 "), "{}", evaluated.out);
+        for command in ["ladder", "explain"] {
+            assert_eq!(run([command, &file]).status, 0, "{command}");
+        }
+        assert_eq!(run(["reply", "kuhn", "2", "3", &file, "1", "--table", "--format", format]).out, reply.out);
+    }
+    let json = run_line("reply kuhn 2 3 samples/one-in-three.txt 1 --table --format json");
+    let said = "chukkanalli: reply: --table prints text or csv, and --format is 'json'\n";
+    assert_eq!((json.status, json.err.starts_with(said)), (2, true), "{}", json.err);
+    let refused = run_line("reply kuhn 2 3 samples/always-pass.txt 1 --table");
+    assert_eq!((refused.status, refused.out.as_str()), (1, ""));
+}
+
+#[test]
+fn improve_tells_which_part_to_move() {
+    let text = "\
+samples/one-in-three.txt: Kuhn with 2 seats, D 3, 162 units, read by labels
+
+          units  chips per hand  in decimals
+NashConv    198            11/9  1.222222222
+
+what moving one part does to NashConv, the moves that lower it most first:
+NashConv  change  chips per hand  the line in the file
+     144     -54            -1/3  1 2  # PASS BET: seat 1, card 2, after BET
+     162     -36            -2/9  1 2  # PASS BET: seat 0, card 2, after PASS BET
+7 moves more lower it; --all shows every move
+
+With card 2 after BET, seat 1 bets 1 hand in 3; one part from PASS to BET lowers NashConv by 1/3 of a chip.
+With card 2 after PASS BET, seat 0 bets 1 hand in 3; one part from PASS to BET lowers NashConv by 2/9 of a chip.
+";
+    for jobs in ["1", "3"] {
+        assert_eq!(run_line(&format!("improve kuhn 2 3 samples/one-in-three.txt --top 2 --jobs {jobs}")), prints(text));
+    }
+    let all = run_line("improve kuhn 2 3 samples/one-in-three.txt --all");
+    assert_eq!(all.out.lines().filter(|line| line.contains("  # PASS BET: seat ")).count(), 24);
+    let done = run_line("improve kuhn 2 3 samples/equilibrium.txt");
+    assert!(done.out.ends_with("\nNashConv is 0: this table cannot be beaten from any seat\n"), "{}", done.out);
+    let folder = run_line("improve kuhn 2 3 samples");
+    assert_eq!((folder.status, folder.err.contains("this is a folder, not a table")), (1, true));
+}
+
+/// The moves of `--steps` put into the file one after another give the NashConv that is told, and the table that is printed.
+#[test]
+fn the_steps_of_improve_are_a_table() {
+    let improved = run_line("improve kuhn 2 3 samples/one-in-three.txt --steps 30");
+    let steps: Vec<&str> = improved.out.lines().filter_map(|line| line.strip_prefix("# step ")).collect();
+    assert_eq!(steps.len(), 8);
+    assert!(improved.out.contains("\n# no further move of one part lowers NashConv, which is above 0\n"));
+    let mut text = std::fs::read_to_string(common::root().join("samples/one-in-three.txt")).unwrap();
+    for step in steps {
+        let (conv, line) = step.split_once(" chips per hand: ").unwrap();
+        let label = line.split_once("# ").unwrap().1;
+        let old = text.lines().find(|line| line.ends_with(label)).unwrap().to_string();
+        text = text.replace(&old, line);
+        let evaluated = run(["evaluate", "kuhn", "2", "3", &table("stepped.txt", &text)]);
+        let conv = conv.split_once("NashConv ").unwrap().1.split_once(',').unwrap().0;
+        let told = evaluated.out.lines().find(|line| line.starts_with("NashConv")).unwrap();
+        assert_eq!(told.split_whitespace().nth(1), Some(conv));
+    }
+    let whole = run(["evaluate", "--labelled", &table("improved.txt", &improved.out)]);
+    assert!(whole.out.ends_with("\nNashConv              15            5/54  0.092592593\n"), "{}", whole.out);
+    for format in ["text", "csv"] {
+        let alone =
+            run_line(&format!("improve kuhn 2 3 samples/one-in-three.txt --steps 30 --table --format {format}"));
+        let alone = run(["evaluate", "--labelled", &table("alone.txt", &alone.out)]);
+        assert_eq!(alone.out.lines().last(), whole.out.lines().last());
+    }
+    let one = run_line("improve kuhn 2 3 samples/one-in-three.txt --table").out;
+    assert!(one.contains("\n1 2  # PASS BET: seat 1, card 2, after BET\n"), "{one}");
+}
+
+/// Perturbed equilibria come back by greedy steps.
+#[test]
+fn greedy_steps_mend_a_perturbed_equilibrium() {
+    let equilibrium = std::fs::read_to_string(common::root().join("samples/equilibrium.txt")).unwrap();
+    let perturbed = equilibrium.replacen("\n3 0 ", "\n2 1 ", 1).replacen("\n0 3 ", "\n1 2 ", 1);
+    let improved = run(["improve", "kuhn", "2", "3", &table("perturbed.txt", perturbed), "--steps", "10"]);
+    assert!(
+        improved.out.contains("\n# NashConv is 0: this table cannot be beaten from any seat\n"),
+        "{}",
+        improved.out
+    );
+}
+
+#[test]
+fn explain_tells_which_sets_carry_the_gain() {
+    let text = "\
+samples/one-in-three.txt: Kuhn with 2 seats, D 3, 162 units, read by labels
+
+                   units  chips per hand   in decimals
+seat 1 gain          102           17/27   0.629629630
+seat 1 worth         -12           -2/27  -0.074074074
+seat 1 best value     90             5/9   0.555555556
+
+what each set of seat 1 adds when it is switched to the reply, after the sets that can follow it:
+units  chips per hand  table  reply  set
+   36             2/9  2 1    BET    card 2, after BET
+   24            4/27  2 1    BET    card 0, after PASS
+4 sets more add 42 units; --all shows every set
+
+With card 2 after BET it bets 1 hand in 3; betting always gains 2/9 of a chip.
+With card 0 after PASS it bets 1 hand in 3; betting always gains 4/27 of a chip.
+";
+    for line in ["explain kuhn 2 3 samples/one-in-three.txt", "explain --jobs 1 KUHN 2 3 samples/one-in-three.txt"] {
+        let line = format!("{line} --seat 1 --top 2");
+        assert_eq!(run_line(&line), prints(text), "{line}");
+    }
+}
+
+#[test]
+fn explain_marks_ties_and_what_no_hand_reaches() {
+    let told = run_line("explain kuhn 2 1 samples/always-pass.txt --seat 0 --all");
+    let sets: Vec<&str> = told.out.lines().skip_while(|line| !line.starts_with("units")).take(8).collect();
+    let rows = [
+        "units  chips per hand  table  reply  set",
+        "    4             2/3  1 0    BET    card 0, first action of the hand",
+        "    2             1/3  1 0    BET    card 1, first action of the hand",
+        "    0               0  1 0    PASS   card 2, first action of the hand (the table does so)",
+        "    0               0  1 0    PASS   card 0, after PASS BET (no hand reaches it)",
+        "    0               0  1 0    PASS   card 1, after PASS BET (no hand reaches it)",
+        "    0               0  1 0    PASS   card 2, after PASS BET (no hand reaches it)",
+        "",
+    ];
+    assert_eq!(sets, rows);
+    let told = run_line("explain kuhn 2 3 samples/equilibrium.txt --all");
+    assert!(told.out.contains("\nthe table cannot be beaten from seat 0\n"), "{}", told.out);
+    assert!(told.out.contains(" (a tie: another action is as good)\n"), "{}", told.out);
+    let bets = table("bets.txt", "0 3\n".repeat(12));
+    let told = run(["explain", "kuhn", "2", "3", &bets, "--all"]);
+    assert!(told.out.contains("card 0, after PASS BET (its own play never gets there)\n"), "{}", told.out);
+    let short = run_line("explain kuhn 2 3 samples/equilibrium.txt");
+    assert_eq!((short.status, short.out.contains("units  chips per hand  table")), (0, false));
+}
+
+#[test]
+fn explain_refuses_seats_and_tables() {
+    let misuse = run_line("explain kuhn 2 3 samples/one-in-three.txt --seat 2");
+    assert_eq!(misuse.status, 2);
+    assert!(misuse.err.starts_with("chukkanalli: explain: --seat is '2': refused with 5: "), "{}", misuse.err);
+    let run = run_line("explain kuhn 2 3 nowhere.txt samples/one-in-three.txt samples/always-pass.txt --seat 0");
+    assert_eq!((run.status, run.err.lines().count()), (1, 2));
+    assert!(run.out.starts_with("samples/one-in-three.txt: Kuhn"), "{}", run.out);
+}
+
+#[test]
 fn reply_goes_by_the_cards_whatever_the_order_of_the_sets() {
     let reply = run_line("reply kuhn 2 1 samples/always-pass.txt 1");
     let lines: Vec<&str> = reply.out.lines().skip_while(|line| !line.starts_with("card")).collect();
@@ -320,12 +472,12 @@ fn kuhn_with_6_seats_shows_no_progress_in_a_pipe() {
 
 #[test]
 fn help_is_there_for_each_and_for_all() {
-    for line in ["--help", "-h"] {
+    for line in ["--help", "-h", "help"] {
         let help = run_line(line);
         assert_eq!((help.status, help.err.as_str()), (0, ""));
-        assert!(help.out.contains("chukkanalli COMMAND --help"));
+        assert!(help.out.contains("chukkanalli help COMMAND"));
     }
-    for command in ["evaluate", "ladder", "reply", "template"] {
+    for command in ["evaluate", "ladder", "reply", "explain", "improve", "template"] {
         let help = run([command, "kuhn", "--help"]);
         assert_eq!((help.status, help.err.as_str()), (0, ""));
         assert!(help.out.starts_with(&format!("chukkanalli {command} GAME SEATS D")));

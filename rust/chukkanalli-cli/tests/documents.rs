@@ -1,5 +1,5 @@
 //! The documents show what the programs print and answer: each command line, each C block and each Rust block of README.md and docs/API.md,
-//! run anew, and the command lines of docs/TABLES.md.
+//! run anew, and the command lines of docs/TABLES.md and docs/TUTORIAL.md.
 
 mod common;
 
@@ -57,6 +57,20 @@ fn the_api_shows_what_is_printed() {
 #[test]
 fn the_format_of_tables_shows_what_is_told() {
     check("docs/TABLES.md", 1);
+}
+
+#[test]
+fn the_tutorial_shows_what_is_printed() {
+    check("docs/TUTORIAL.md", 3);
+    let text = document("docs/TUTORIAL.md");
+    let inline: Vec<&str> =
+        text.split('`').skip(1).step_by(2).filter(|code| code.starts_with("chukkanalli ")).collect();
+    assert!(inline.len() >= 6, "{inline:?}");
+    for command in inline {
+        let run = run_line(command.trim_start_matches("chukkanalli "));
+        assert!(run.status < 2 && !run.out.is_empty(), "{command}: {}", run.err);
+    }
+    assert!(text.contains(document("samples/class/anna.txt").trim_end()));
 }
 
 /// The blocks of a document in a language.

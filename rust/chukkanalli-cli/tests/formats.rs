@@ -161,6 +161,59 @@ fn refused_tables_have_a_record_with_every_fault() {
 }
 
 #[test]
+fn explain_adds_up_to_the_gain_of_each_seat() {
+    for (game, seats, d, count) in [("kuhn", 2, 3, 4), ("kuhn", 4, 16, 2), ("leduc", 2, 64, 2)] {
+        let files = tables(game, seats, d, count);
+        let explained =
+            run([&["explain".to_string(), "--format=json".to_string(), "--all".to_string()][..], &files].concat());
+        assert_eq!((explained.status, explained.err.as_str()), (0, ""));
+        for record in &records(&explained) {
+            let (_, units) = hold(record, i128::from(seats));
+            let sets = record.get("explained").list();
+            for seat in record.get("seat_values").list() {
+                let own = sets.iter().filter(|set| set.get("seat") == seat.get("seat"));
+                let added: Vec<i128> = own.map(|set| set.get("adds").whole()).collect();
+                assert!(added.iter().all(|&adds| adds >= 0));
+                assert_eq!(added.iter().sum::<i128>(), seat.get("gain").whole());
+            }
+            for set in sets {
+                let (over, under) = fraction(set.get("adds_fraction").text());
+                assert_eq!(over * units, set.get("adds").whole() * under);
+            }
+        }
+        let csv = run([&["explain".to_string(), "--format=csv".to_string(), "--all".to_string()][..], &files].concat());
+        let sets: usize = records(&explained).iter().map(|record| record.get("explained").list().len()).sum();
+        assert_eq!(csv.out.lines().count(), 1 + sets);
+    }
+    let refused = run_line("explain kuhn 2 3 samples/always-pass.txt --format json");
+    assert_eq!((refused.status, records(&refused)[0].get("refusal").whole()), (1, 8));
+}
+
+#[test]
+fn improve_tells_every_move_to_software() {
+    let file = &tables("kuhn", 3, 12, 1)[0];
+    let all = run(["improve", file, "--format=json", "--all"]);
+    assert_eq!((all.status, all.err.as_str()), (0, ""));
+    let record = &records(&all)[0];
+    let before = record.get("nash_conv").whole();
+    let moves = record.get("moves").list();
+    for own in moves {
+        assert_eq!(own.get("moved_nash_conv").whole() - before, own.get("change").whole());
+        let (over, under) = fraction(own.get("change_fraction").text());
+        assert_eq!(over * record.get("units").whole(), own.get("change").whole() * under);
+    }
+    assert!(moves.iter().map(|own| own.get("change").whole()).is_sorted());
+    let csv = run(["improve", file, "--format=csv", "--all"]).out;
+    assert_eq!(csv.lines().count(), 1 + moves.len());
+    let steps = run(["improve", file, "--format=json", "--steps=3"]);
+    let steps = records(&steps)[0].get("moves").list().to_vec();
+    assert_eq!((steps.len(), steps[2].get("step").whole()), (3, 3));
+    assert_eq!(steps[0].get("set"), moves[0].get("set"));
+    let refused = run_line("improve kuhn 2 3 samples/always-pass.txt --format json");
+    assert_eq!((refused.status, records(&refused)[0].get("refusal").whole()), (1, 8));
+}
+
+#[test]
 fn reply_and_f64_have_records_too() {
     let reply = run_line("reply kuhn 2 1 samples/always-pass.txt 1 --format json");
     let record = &records(&reply)[0];

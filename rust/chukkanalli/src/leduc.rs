@@ -34,12 +34,13 @@ pub struct LeducPosition {
 }
 
 impl LeducPosition {
-    /// The position of these cards and actions, possible or not. What has no place is counted only, and calls refuse such a length.
+    /// The position of these cards and actions, possible or not. What has no place is counted only, and calls refuse such a length. A
+    /// public card 255 stands as 254, which is not in the deck either: 255 itself is none.
     pub fn new(cards: &[u8], public_card: Option<u8>, round1: &[u8], round2: &[u8]) -> Self {
         let mut position = LeducPosition {
             cards: [0; 2],
             dealt: cards.len() as u64,
-            public_card: public_card.unwrap_or(LeducPoker::NO_CARD),
+            public_card: public_card.map_or(LeducPoker::NO_CARD, |card| card.min(LeducPoker::NO_CARD - 1)),
             history: [0; 8],
             acted1: round1.len() as u64,
             acted2: round2.len() as u64,
@@ -117,5 +118,13 @@ mod tests {
         let long = LeducPosition::new(&[3; 3], None, &[1; 5], &[2; 9]);
         assert_eq!((long.dealt, long.public_card, long.acted1, long.acted2), (3, 255, 5, 9));
         assert_eq!(long.rounds(), [&[1; 4][..], &[2; 4][..]]);
+    }
+
+    #[test]
+    fn every_public_card_is_one() {
+        for card in 0..=u8::MAX {
+            assert_eq!(LeducPosition::new(&[], Some(card), &[], &[]).public(), Some(card.min(254)));
+        }
+        assert_eq!(LeducPosition::new(&[], None, &[], &[]).public(), None);
     }
 }

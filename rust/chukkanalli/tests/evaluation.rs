@@ -2,7 +2,8 @@
 
 use std::thread;
 
-use chukkanalli::{Evaluator, Game, InfoSet, Refusal};
+use chukkanalli::archive::enumerate_infosets;
+use chukkanalli::{Counts, Evaluator, Game, InfoSet, Refusal, RECORD};
 
 const KUHN2: Game = Game::Kuhn { seats: 2 };
 const GAMES: [Game; 5] =
@@ -43,6 +44,24 @@ fn games_without_a_tree_get_no_evaluator() {
     }
     for seats in 7..=10 {
         assert_eq!(Evaluator::new(Game::Kuhn { seats }).unwrap_err(), Refusal::Tree);
+    }
+}
+
+/// The listing is lent more than any tree needs, so that it answers the tree's own counts; byte 22 of a record is its set's entries.
+#[test]
+fn counts_are_those_that_the_listing_answers() {
+    let (work, mut out) = (vec![0; 12 * 4_000_000], vec![0; RECORD * 2_000]);
+    for game in GAMES.into_iter().chain([Game::Kuhn { seats: 6 }]) {
+        let answer = enumerate_infosets(game.number(), game.seats(), &work, &mut out);
+        assert_eq!(answer.refusal, 0);
+        let records = out.chunks_exact(RECORD).take(answer.sets as usize);
+        let entries = records.map(|record| usize::from(record[22])).sum();
+        let counts = Counts { nodes: answer.nodes as usize, sets: answer.sets as usize, entries };
+        assert_eq!(game.counts(), Some(counts), "{game:?}");
+    }
+    for seats in 7..=10 {
+        assert_eq!(enumerate_infosets(0, seats, &work, &mut out).refusal, Refusal::Tree.number());
+        assert_eq!(Game::Kuhn { seats }.counts(), None);
     }
 }
 

@@ -125,3 +125,20 @@ fn saved_positions_are_refused_by_their_first_fault() {
         assert_eq!(saved(&[0, 5], None, &[2], &[], mark), Err(Refusal::EndMark));
     }
 }
+
+/// A public card 255 is a card that the deck does not have, and never none.
+#[test]
+fn a_public_card_outside_the_deck_is_refused() {
+    for card in [6, 254, 255] {
+        for round1 in [&[][..], &[2], &[1, 1], &[2, 0]] {
+            let position = LeducPosition::new(&[0, 5], Some(card), round1, &[]);
+            for mark in [0, 1] {
+                assert_eq!(LeducPoker::validate_decoded_state(position, mark), Err(Refusal::Card));
+            }
+            assert_eq!(LeducPoker::step(position, 1), Err(Refusal::Unreachable));
+            assert_eq!(LeducPoker::payouts(position).map(drop), Err(Refusal::Unreachable));
+        }
+        let without_a_card = LeducPosition::new(&[0], Some(card), &[], &[]);
+        assert_eq!(LeducPoker::validate_decoded_state(without_a_card, 0), Err(Refusal::CardCount));
+    }
+}

@@ -52,7 +52,7 @@ const PARTS: [&str; 16] = [
     "18446744073709551617",
 ];
 const SEAT: [&str; 8] = ["0", "0", "1", "1", "2", "6", "256", "18446744073709551616"];
-const ODD: [&[u8]; 30] = [
+const ODD: [&[u8]; 37] = [
     b"",
     b"-",
     b"--",
@@ -68,6 +68,13 @@ const ODD: [&[u8]; 30] = [
     b"--format=xml",
     b"--labelled",
     b"--any",
+    b"--seat=1",
+    b"--seat",
+    b"--top=0",
+    b"--all",
+    b"--table",
+    b"--steps=2",
+    b"--html=/dev/null",
     b"--files-from",
     b"--files-from=-",
     b"--version",
@@ -167,8 +174,10 @@ struct Labelled {
 impl Line {
     fn draw(random: &mut Random, games: &[Listed], folder: &Path) -> Self {
         let mut line = Line {
-            verb: random
-                .pick(&["evaluate", "evaluate", "ladder", "ladder", "reply", "reply", "template", "f64", "f64"]),
+            verb: random.pick(&[
+                "evaluate", "evaluate", "ladder", "ladder", "reply", "reply", "explain", "improve", "template", "f64",
+                "f64",
+            ]),
             game: if random.one_in(20) { "chess" } else { random.pick(&["kuhn", "leduc", "Kuhn", "LEDUC"]) },
             seats: mostly_fit(random, &SEATS),
             d: mostly_fit(random, &PARTS),
@@ -180,7 +189,11 @@ impl Line {
         if random.one_in(2000) {
             (line.game, line.seats, line.d) = ("kuhn", "6", "16");
         }
-        let many = if matches!(line.verb, "evaluate" | "ladder") { 1 + random.below(5) } else { 1 };
+        // Each step and each move is a walk through the tree.
+        if matches!(line.verb, "explain" | "improve") && matches!(line.seats, "5" | "6") {
+            line.seats = "3";
+        }
+        let many = if line.takes_many() { 1 + random.below(5) } else { 1 };
         fs::remove_dir_all(folder).and_then(|()| fs::create_dir(folder)).expect("the folder can be made anew");
         for k in 0..many {
             let given = line.table(random, games);
@@ -188,6 +201,10 @@ impl Line {
             line.tables.push(given);
         }
         line
+    }
+
+    fn takes_many(&self) -> bool {
+        matches!(self.verb, "evaluate" | "ladder" | "explain")
     }
 
     /// A table or profile of the line's game, most of the time, valid or spoiled.
@@ -303,12 +320,29 @@ impl Line {
         let good = outcomes.len() - bad;
         let headings = ran.out.lines().filter(|line| line.contains(" units") && line.contains(", D ")).count();
         assert_eq!(headings, if self.verb == "ladder" { good.min(1) } else { good }, "{args:?}: {ran:?}");
-        if matches!(self.verb, "evaluate" | "ladder") {
+        if self.takes_many() {
             let jobs = [OsString::from("--jobs=3")];
             assert_eq!(&run(&[args, &jobs].concat()), ran, "threads change the outcome of {args:?}");
             self.hold_lists(args, ran, &outcomes);
         }
+        if self.verb == "explain" {
+            hold_explained(args);
+        }
+        if self.verb == "ladder" {
+            hold_page(args, ran, bad);
+        }
+        if matches!(self.verb, "reply" | "improve") && ran.status == 0 {
+            self.hold_table(args);
+        }
         self.hold_format(args, ran);
+    }
+
+    /// A table that is printed is taken by `evaluate`, by its heading and labels.
+    fn hold_table(&self, args: &[OsString]) {
+        let form = if self.format == Some("csv") { "--format=csv" } else { "--format=text" };
+        let told = run(&[args, &["--table", form].map(OsString::from)].concat());
+        let taken = run_with(&["evaluate", "--labelled", "-"].map(OsString::from), told.out.as_bytes());
+        assert_eq!((told.status, taken.status), (0, 0), "the table of {args:?}: {told:?}, {taken:?}");
     }
 
     /// The same files by a folder, by a list, by a list on standard input, and without GAME SEATS D where all have a heading.
@@ -336,7 +370,8 @@ impl Line {
         if format == "csv" {
             let columns = |line: &str| line.split(',').count();
             assert!(lines[0].starts_with("version,commit,command,file,"), "{args:?}: {}", lines[0]);
-            assert!(self.verb == "reply" || lines.len() == 1 + self.tables.len(), "{args:?}: {told:?}");
+            let a_row_a_set = matches!(self.verb, "reply" | "explain" | "improve");
+            assert!(a_row_a_set || lines.len() == 1 + self.tables.len(), "{args:?}: {told:?}");
             assert!(lines[1..].iter().all(|line| columns(line) >= columns(lines[0])), "{args:?}: {told:?}");
             return;
         }
@@ -356,6 +391,39 @@ impl Line {
             assert_eq!(members, printed, "{args:?}: {told:?}");
         }
     }
+}
+
+/// A page and texts to be sent back change nothing else; a text is written for each table that was refused, and the page lists all.
+fn hold_page(args: &[OsString], ran: &Ran, bad: usize) {
+    let folder = std::env::temp_dir().join(format!("chukkanalli-fuzz-page-{}", std::process::id()));
+    let (page, reasons) = (folder.join("page.html"), folder.join("reasons"));
+    fs::create_dir_all(&folder).expect("the folder can be made");
+    let more = ["--html".into(), page.clone().into_os_string(), "--reasons".into(), reasons.clone().into_os_string()];
+    assert_eq!(&run(&[args, &more].concat()), ran, "a page changes the outcome of {args:?}");
+    let html = fs::read_to_string(&page).expect("the page was written");
+    let written = fs::read_dir(&reasons).expect("the folder was made").count();
+    assert_eq!(written, bad, "the reasons of {args:?}");
+    assert_eq!(html.matches("<th scope=\"row\">").count() + bad, args.len() - 4, "the page of {args:?}");
+    assert!(html.ends_with("</html>\n"), "the page of {args:?}");
+    fs::remove_dir_all(&folder).expect("the folder can be removed");
+}
+
+/// Holds what is explained to itself: what all sets of a seat add is its gain.
+fn hold_explained(args: &[OsString]) {
+    let told = run(&[args, &[OsString::from("--all")]].concat());
+    let (mut gains, mut adds) = (Vec::new(), Vec::new());
+    for line in told.out.lines() {
+        let words: Vec<&str> = line.split_whitespace().collect();
+        match words[..] {
+            ["seat", _, "gain", units, ..] => gains.push(units.parse::<u64>().expect("units are a number")),
+            ["units", "chips", "per", "hand", "table", ..] => adds.push(0),
+            [units, ..] if line.contains("card ") && !line.starts_with("With ") => {
+                *adds.last_mut().expect("a set stands below a heading") += units.parse::<u64>().expect("a number")
+            }
+            _ => {}
+        }
+    }
+    assert_eq!(gains, adds, "{args:?}: {told:?}");
 }
 
 /// Holds what is printed of a profile to itself: NashConv adds best response value − worth by seat, and exploitability divides it by the seats.

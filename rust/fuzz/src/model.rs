@@ -122,8 +122,17 @@ pub fn game_of<'a>(games: &'a [Listed], name: &str, seats: u128) -> Result<&'a L
 /// The numbers of a text with the line of each, or the line of its first fault.
 pub type Read<T> = Result<(Vec<T>, Vec<usize>), usize>;
 
+/// Whether the front of a file tells that it is UTF-16 or a zip container: a mark, a NUL in every other of four bytes, or PK.
+pub fn is_foreign(bytes: &[u8]) -> bool {
+    let utf16 = matches!(bytes, [0, b, 0, d, ..] | [b, 0, d, 0, ..] if *b != 0 && *d != 0);
+    utf16 || [&b"\xFF\xFE"[..], b"\xFE\xFF", b"PK\x03\x04"].iter().any(|front| bytes.starts_with(front))
+}
+
 /// Reads a text whose words are numbers of some kind.
 pub fn read<T>(bytes: &[u8], number: impl Fn(&str) -> Option<T>) -> Read<T> {
+    if is_foreign(bytes) {
+        return Err(1);
+    }
     let bytes = if bytes.starts_with(b"\xEF\xBB\xBF") { &bytes[3..] } else { bytes };
     let lossy = String::from_utf8_lossy(bytes);
     if let Some(line) = first_odd(bytes, &lossy) {

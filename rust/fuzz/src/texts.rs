@@ -172,6 +172,9 @@ pub fn try_one(random: &mut Random, games: &[Listed], labels: &[Labels]) {
 fn hold<T: Debug + PartialEq>(bytes: &[u8], read: impl Fn(&[u8]) -> Read<T>, number: impl Fn(&str) -> Option<T>) {
     let got = read(bytes);
     assert_eq!(got, model::read(bytes, number), "the reader on {:?}", String::from_utf8_lossy(bytes));
+    if model::is_foreign(bytes) {
+        return;
+    }
     let marked = [&b"\xEF\xBB\xBF"[..], bytes].concat();
     if !bytes.starts_with(b"\xEF\xBB\xBF") {
         assert_eq!(read(&marked), got, "a mark before {:?}", String::from_utf8_lossy(bytes));

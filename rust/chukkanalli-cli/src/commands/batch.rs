@@ -40,17 +40,24 @@ impl Batch {
         // Bad use is told before any file is read.
         let ready = setting.map(|setting| game::evaluator_of_parts(verb, &setting, None).map(|first| (first, setting)));
         let ready = ready.transpose()?;
-        let gathered = sources::gather(tables, options.files_from.as_deref(), console);
+        let gathered = match tables {
+            [table] if !verb.takes_many() => Ok(vec![Source::one::<u8>(table, console)]),
+            _ => sources::gather(tables, options.files_from.as_deref(), console),
+        };
         let mut sources = gathered.map_err(|sentence| Stop::Refused(vec![sentence]))?;
-        let (first, setting) = match ready {
+        let (mut first, setting) = match ready {
             Some(ready) => ready,
             None => {
                 let found = headings::first::<u8>(verb, &mut sources)?;
                 (found.evaluator(verb)?, found.setting)
             }
         };
+        if let Some(seat) = &options.seat {
+            game::hold_seat(verb, &mut first, setting.d.value, seat)?;
+        }
         let labels = Labels::new(&first);
-        let evaluators = game::one_a_thread(first, options.jobs, sources.len());
+        let at_most = if verb.shares_out() { usize::MAX } else { sources.len() };
+        let evaluators = game::one_a_thread(first, options.jobs, at_most);
         Ok(Batch { sources, labels, d: setting.d.value, evaluators, labelled: options.labelled, headed: !given })
     }
 
@@ -62,18 +69,16 @@ impl Batch {
         evaluation: impl Fn(&mut Evaluator, &[u8]) -> Result<R, Refusal> + Sync,
         mut hand_on: impl FnMut(&mut Console, usize, Outcome<R>) -> Result<(), Stop>,
     ) -> Result<(), Stop> {
-        let mut reader = Reader::new(&self.labels).with_d(self.d);
-        reader = if self.labelled { reader.labelled() } else { reader };
-        reader = if self.headed { reader.headed() } else { reader };
+        let evaluators = std::mem::take(&mut self.evaluators);
+        let (sources, reader) = (&self.sources, self.reader());
         let (fingerprints, mut same) = (Fingerprints::default(), SameTables::default());
-        let sources = &self.sources;
         console.expect(sources.len());
         let work = |evaluator: &mut Evaluator, place: usize| {
             table::evaluated(&sources[place], &reader, evaluator, |evaluator, parts| {
                 evaluation(evaluator, parts).map(|result| (result, fingerprints.of(parts)))
             })
         };
-        side_by_side(std::mem::take(&mut self.evaluators), sources.len(), work, |place, outcome| {
+        side_by_side(evaluators, sources.len(), work, |place, outcome| {
             let outcome = outcome.map(|Graded { read_by, result: (result, fingerprint) }| {
                 let before = same.before(fingerprint, place).map(|first| sources[first].name.as_str());
                 (Graded { read_by, result }, before)
@@ -84,5 +89,37 @@ impl Batch {
         })?;
         console.end();
         Ok(())
+    }
+
+    /// Evaluates table after table, each with all evaluators, and hands on what came of it with its place.
+    pub fn one_by_one<R>(
+        &mut self,
+        console: &mut Console,
+        evaluation: impl Fn(&mut Console, &mut Vec<Evaluator>, &Labels, &[u8]) -> Result<R, Refusal>,
+        mut hand_on: impl FnMut(&mut Console, usize, Outcome<R>) -> Result<(), Stop>,
+    ) -> Result<(), Stop> {
+        let mut evaluators = std::mem::take(&mut self.evaluators);
+        let (fingerprints, mut same) = (Fingerprints::default(), SameTables::default());
+        for (place, source) in self.sources.iter().enumerate() {
+            let outcome = table::evaluated(source, &self.reader(), &mut evaluators, |evaluators, parts| {
+                let result = evaluation(console, evaluators, &self.labels, parts)?;
+                let first = same.before(fingerprints.of(parts), place);
+                Ok((result, first.map(|first| self.sources[first].name.as_str())))
+            });
+            console.end();
+            let outcome = outcome.map(|Graded { read_by, result: (result, same) }| (Graded { read_by, result }, same));
+            hand_on(console, place, outcome)?;
+        }
+        Ok(())
+    }
+
+    fn reader(&self) -> Reader<'_> {
+        let mut reader = Reader::new(&self.labels).with_d(self.d);
+        reader = if self.labelled { reader.labelled() } else { reader };
+        if self.headed {
+            reader.headed()
+        } else {
+            reader
+        }
     }
 }

@@ -35,6 +35,11 @@ impl Evaluation {
     pub fn seat_values(&self) -> Vec<output::Members> {
         self.by_seat().map(|(seat, worth, best)| output::seat_values(seat, worth, best)).collect()
     }
+
+    /// What each seat gains by its best value, in units.
+    pub fn gains(&self) -> Vec<u64> {
+        self.by_seat().map(|(_, worth, best)| best.abs_diff(worth)).collect()
+    }
 }
 
 fn best_values(evaluator: &mut Evaluator, d: u64, parts: &[u8]) -> Result<Vec<i64>, Refusal> {

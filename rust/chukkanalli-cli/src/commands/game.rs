@@ -60,11 +60,19 @@ pub fn evaluator_of_parts(verb: Verb, setting: &Setting, seat: Option<&Number>) 
     }
 }
 
-/// An evaluator for each thread: as many as asked for, by default one a core, as there are tables, and as there is memory for.
-pub fn one_a_thread(first: Evaluator, jobs: Option<u64>, tables: usize) -> Vec<Evaluator> {
+/// Refuses a seat that the evaluator's game does not have.
+pub fn hold_seat(verb: Verb, evaluator: &mut Evaluator, d: u64, seat: &Number) -> Result<(), Stop> {
+    match evaluator.best_reply_into(seat.value, d, &[], &mut []) {
+        Err(refusal @ Refusal::Seat) => Err(refused(verb, "--seat", &seat.word, refusal)),
+        _ => Ok(()),
+    }
+}
+
+/// An evaluator for each thread: as many as asked for, by default one a core, at most so many, and as there is memory for.
+pub fn one_a_thread(first: Evaluator, jobs: Option<u64>, at_most: usize) -> Vec<Evaluator> {
     let cores = || thread::available_parallelism().map_or(1, usize::from);
     let asked = jobs.map_or_else(cores, |jobs| usize::try_from(jobs).unwrap_or(MOST_THREADS));
-    let wanted = asked.min(MOST_THREADS).min(tables);
+    let wanted = asked.min(MOST_THREADS).min(at_most);
     let game = first.game();
     let mut evaluators = vec![first];
     while evaluators.len() < wanted {

@@ -2,9 +2,11 @@
 
 mod batch;
 mod evaluate;
+mod explain;
 mod floats;
 mod game;
 mod headings;
+mod improve;
 mod ladder;
 mod reply;
 mod table;
@@ -103,6 +105,8 @@ fn carry_out(args: &[OsString], console: &mut Console) -> Result<u8, Stop> {
         Request::Evaluate { setting, tables, options } => evaluate::run(setting, &tables, &options, console),
         Request::Ladder { setting, tables, options } => ladder::run(setting, &tables, &options, console),
         Request::Reply { setting, table, seat, options } => reply::run(&setting, &table, &seat, &options, console),
+        Request::Explain { setting, tables, options } => explain::run(setting, &tables, &options, console),
+        Request::Improve { setting, table, options } => improve::run(setting, table, &options, console),
         Request::Template { setting, options } => template::run(&setting, &options, console),
         Request::F64 { asked, profile, options } => floats::run(asked, &profile, &options, console),
     }

@@ -2,7 +2,7 @@
 
 use std::path::Path;
 
-use chukkanalli::tables::{action_words, set_words, Labels, Reader};
+use chukkanalli::tables::{action_words, set_words, written, Labels, Reader};
 use chukkanalli::{BestReply, Evaluator, InfoSet, NashConv, Refusal};
 
 use super::table::{self, Graded};
@@ -37,6 +37,7 @@ pub fn run(
     options: &Options,
     console: &mut Console,
 ) -> Result<u8, Stop> {
+    let form = if options.table { Some(options.form(Verb::Reply)?) } else { None };
     let mut evaluator = game::evaluator_of_parts(Verb::Reply, setting, Some(seat))?;
     let labels = Labels::new(&evaluator);
     let (source, d) = (Source::one::<u8>(path, console), setting.d.value);
@@ -56,11 +57,14 @@ pub fn run(
         reply(evaluator, &labels, seat, d, parts)
     });
     let status = if answer.is_ok() { DONE } else { REFUSED };
-    let text = match (&answer, options.format) {
-        (Ok(graded), Format::Text) => text(&source.name, &labels, seat, d, graded),
-        (Ok(graded), _) => frame.heading() + &frame.evaluated(&source.name, machine_figures(&labels, seat, graded)),
-        (Err(_), Format::Text) => String::new(),
-        (Err(faults), _) => frame.heading() + &frame.refused(&source.name, faults),
+    let text = match (&answer, form, options.format) {
+        (Ok(graded), Some(form), _) => written(&labels, d, &graded.result.best.table, form),
+        (Err(_), Some(_), _) | (Err(_), None, Format::Text) => String::new(),
+        (Ok(graded), None, Format::Text) => text(&source.name, &labels, seat, d, graded),
+        (Ok(graded), None, _) => {
+            frame.heading() + &frame.evaluated(&source.name, machine_figures(&labels, seat, graded))
+        }
+        (Err(faults), None, _) => frame.heading() + &frame.refused(&source.name, faults),
     };
     if let Err(faults) = &answer {
         complain_of(faults, &source.name, console);

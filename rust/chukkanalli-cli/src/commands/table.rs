@@ -11,15 +11,15 @@ pub struct Graded<R> {
     pub result: R,
 }
 
-/// Reads a table and hands its parts to an evaluation; a refusal gets its place in the file.
-pub fn evaluated<R>(
+/// Reads a table and hands its parts to an evaluation, by one evaluator or several; a refusal gets its place in the file.
+pub fn evaluated<E, R>(
     source: &Source,
     reader: &Reader,
-    evaluator: &mut Evaluator,
-    evaluation: impl FnOnce(&mut Evaluator, &[u8]) -> Result<R, Refusal>,
+    evaluators: &mut E,
+    evaluation: impl FnOnce(&mut E, &[u8]) -> Result<R, Refusal>,
 ) -> Result<Graded<R>, Faults> {
     let table = reader.read(&source.bytes::<u8>()?)?;
-    match evaluation(evaluator, &table.numbers) {
+    match evaluation(evaluators, &table.numbers) {
         Ok(result) => Ok(Graded { read_by: table.read_by, result }),
         Err(refusal) => Err(reader.refused(refusal, &table)),
     }

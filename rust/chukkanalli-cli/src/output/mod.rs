@@ -40,6 +40,10 @@ pub struct Figures<'a> {
     /// NashConv and exploitability of a profile.
     pub floats: Option<[f64; 2]>,
     pub reply: Option<Vec<Members>>,
+    /// What each set adds to the gain of its seat.
+    pub explained: Option<Vec<Members>>,
+    /// What moving a part does, or the moves that were made.
+    pub moves: Option<Vec<Members>>,
 }
 
 /// A seat's worth, best value and gain, in units.
@@ -80,8 +84,17 @@ impl Frame {
     fn record(&self, file: &str, figures: Figures, faults: Option<&Faults>) -> String {
         let members = self.members(file, figures, faults);
         match self.format {
-            Format::Csv => csv::rows(&self.columns(), &members, "reply"),
+            Format::Csv => csv::rows(&self.columns(), &members, self.spread()),
             _ => json::line(&members),
+        }
+    }
+
+    /// The list that has a row for each of its objects in CSV.
+    fn spread(&self) -> &'static str {
+        match self.verb {
+            Verb::Explain => "explained",
+            Verb::Improve => "moves",
+            _ => "reply",
         }
     }
 
@@ -115,6 +128,8 @@ impl Frame {
             ("exploitability", figures.floats.map_or(Value::None, |[_, value]| Value::Float(value))),
             ("exploitability_fraction", fraction(shared)),
             ("reply", figures.reply.map_or(Value::None, Value::List)),
+            ("explained", figures.explained.map_or(Value::None, Value::List)),
+            ("moves", figures.moves.map_or(Value::None, Value::List)),
         ];
         members.extend(fault_members(faults));
         members
@@ -127,6 +142,7 @@ impl Frame {
         let setting: &[&str] = match self.verb {
             Verb::F64 => &["read_by", "any"],
             Verb::Reply => &["d", "read_by", "seat", "units"],
+            Verb::Explain => &["d", "read_by", "same_table_as", "units"],
             Verb::Ladder => &["d", "read_by", "same_table_as", "rank", "units"],
             _ => &["d", "read_by", "same_table_as", "units"],
         };
@@ -137,7 +153,23 @@ impl Frame {
             Verb::F64 => &["nash_conv", "exploitability"],
             _ => &["nash_conv", "nash_conv_fraction", "nash_conv_decimal", "exploitability_fraction"],
         };
-        let reply: &[&str] = if self.verb == Verb::Reply { &["set", "action", "reached"] } else { &[] };
+        let reply: &[&str] = match self.verb {
+            Verb::Reply => &["set", "action", "reached"],
+            Verb::Explain => &["seat", "set", "parts", "action", "adds", "adds_fraction", "mark", "words"],
+            Verb::Improve => &[
+                "step",
+                "set",
+                "from",
+                "to",
+                "parts",
+                "moved_nash_conv",
+                "moved_nash_conv_fraction",
+                "change",
+                "change_fraction",
+                "words",
+            ],
+            _ => &[],
+        };
         let back = ["refusal", "sentence", "faults", "more_faults"];
         let named = |names: &[&str]| names.iter().map(|name| name.to_string()).collect::<Vec<_>>();
         [named(&front), named(setting), by_seat.collect(), named(conv), named(reply), named(&back)].concat()

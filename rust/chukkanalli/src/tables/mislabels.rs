@@ -12,6 +12,10 @@ pub fn sentence(labels: &Labels, text: &str) -> String {
         let (needed, words) = (labels.actions(set), labels.words(set));
         return if actions.is_empty() {
             format!("{} lacks the actions before it: {needed}: {words}", quoted_label(text))
+        } else if alike(needed, actions) {
+            format!("{} has other blanks at its colon: the label is {needed}: {words}", quoted_label(text))
+        } else if lower_words(needed) == lower_words(actions) {
+            format!("{} has other signs at its actions: the label is {needed}: {words}", quoted_label(text))
         } else if in_another_order(needed, actions) {
             format!("{} has the actions in another order: {words} has {needed}", quoted_label(text))
         } else {
@@ -36,9 +40,13 @@ fn alike(left: &str, right: &str) -> bool {
     left.map(str::to_ascii_lowercase).eq(right.map(str::to_ascii_lowercase))
 }
 
+fn lower_words(text: &str) -> Vec<String> {
+    words_of(text).map(str::to_ascii_lowercase).collect()
+}
+
 fn in_another_order(needed: &str, actions: &str) -> bool {
     let sorted = |text: &str| {
-        let mut words: Vec<String> = words_of(text).map(str::to_ascii_lowercase).collect();
+        let mut words = lower_words(text);
         words.sort();
         words
     };
@@ -62,6 +70,13 @@ mod tests {
             said("PASS: seat 1, card 2, after PASS"),
             "'PASS: seat 1, card 2, after PASS' has other actions: seat 1, card 2, after PASS has PASS BET"
         );
+        let known = "PASS BET: seat 1, card 2, after PASS";
+        for blanks in ["PASS BET : seat 1, card 2, after PASS", "pass  bet:seat 1, card 2, after PASS"] {
+            assert_eq!(said(blanks), format!("'{blanks}' has other blanks at its colon: the label is {known}"));
+        }
+        for signs in ["PASS, BET: seat 1, card 2, after PASS", "(Pass/Bet): seat 1, card 2, after PASS"] {
+            assert_eq!(said(signs), format!("'{signs}' has other signs at its actions: the label is {known}"));
+        }
         assert_eq!(
             said("seat 1, card 2, after PASS"),
             "'seat 1, card 2, after PASS' lacks the actions before it: PASS BET: seat 1, card 2, after PASS"
