@@ -17,8 +17,8 @@ use Rattle.game_tree.specs.Shape.{SameActions}
 use Rattle.game_tree.specs.Table.{Table, strategyOf, tableOf, addUp, ValidTable, KeepsTable, tableWorth, tableBest, replyTable, nashConv, addUpBy, FinerRival, finerWorth, FinerUnbeaten}
 use Rattle.game_tree.specs.Small.{small}
 use Rattle.game_tree.specs.TableTheorem.{NodesCounted, DecisionsOfNodes, TableBack, StrategyBack, TableValid, StrategyValid, ValidMeans, TableRival, ReplyTableRival, ReplyTableWorth, NoRivalTableBetter, ReplyTableBest, ReplyTableEntries, OwnTableEntriesFree, TableUnitsAddUp, TableBounds, NashConvNotBelow, smallTable, SmallNoRivalTable}
-use Rattle.game_tree.specs.TableTheorem.{NoFinerTableBetter, FinerProducts, FinerTableUnits, RivalsOfGrainD, WorthOfGrainD, finerReply, FinerReplyBest, FinerReplyOfD, FinerReplyOfOne, NashConvZero, smallFiner, SmallFinerRivals, SmallNoFiner}
-use Rattle.game_tree.proofs.Integers.{+ℤ-mono, +ℤ-cancel, ≤ℤ-antisym, ·-one, ·-mul, ·-mono}
+use Rattle.game_tree.specs.TableTheorem.{NoFinerTableBetter, FinerProducts, ProductsCompare, FinerTableUnits, RivalsOfGrainD, WorthOfGrainD, finerReply, FinerReplyBest, FinerReplyOfD, FinerReplyOfOne, NashConvZero, smallFiner, SmallFinerRivals, SmallNoFiner}
+use Rattle.game_tree.proofs.Integers.{+ℤ-mono, +ℤ-cancel, ≤ℤ-antisym, ·-one, ·-mul, ·-mono, ·-cancel}
 use Rattle.game_tree.proofs.Tests.{Tested, is, isn't, tested, eqb-is, eqb-isn't}
 use Rattle.game_tree.proofs.Against.{every-both, own-entries-free}
 use Rattle.game_tree.proofs.Units.{units-add-up}
@@ -128,6 +128,11 @@ finer-products t C m D E i table z d e h p g v = rw
     (·-mul (C * D ^ m) (E ^ m) (tableBest t D (C * D ^ m) table i))
     (·-mono (C * D ^ m) (finerWorth t m D (C * D ^ m) E z i) (E ^ m · tableBest t D (C * D ^ m) table i)
     (no-finer-table-better t C m D i table d h p g E z e v))
+
+pub products-compare : ProductsCompare
+products-compare C m D E x v c d =
+    let e = ·-mul (C * D ^ m) (E ^ m) v in
+    (λ l. rw e (·-mono (C * D ^ m) x (E ^ m · v) l), λ l. ·-cancel (C * D ^ m) x (E ^ m · v) (NatL.mul-pos c (NatL.one-le-pow m D d)) (rw e at l))
 
 pub finer-table-units : FinerTableUnits
 finer-table-units t C m D E i table z d e h g v = (
@@ -275,7 +280,7 @@ small-no-rival-table = (
 )
 
 pub small-finer-rivals : SmallFinerRivals
-small-finer-rivals = ((small-finer .0, small-adds, keeps-tested small 0 smallTable smallFiner small-keeps), small-finer .1, small-finer .2, small-finer .3)
+small-finer-rivals = ((small-finer .0, small-adds, keeps-tested small 0 smallTable smallFiner small-keeps), small-finer .1, refl, small-below, small-finer .2, small-finer .3)
 
 pub small-no-finer : SmallNoFiner
 unfolding sets small addUpBy seatsOf entriesOf sumℕ

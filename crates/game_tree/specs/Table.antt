@@ -105,7 +105,7 @@ abbrev pub FinerUnbeaten : (t : Tree) (m D u i : ℕ) (table : Table) (value : �
 FinerUnbeaten t m D u i table value = (E : ℕ) (z : Table) → 1 ≤ E → FinerRival t D E i table z
     → finerWorth t m D u E z i ≤ℤ (E ^ m · value)
 
--- the reply is such a table: valid, with every other seat's entries as given; it is worth the value, and none is worth more,
+-- the reply is a rival table: valid, with every other seat's entries as given; it is worth the value, and none is worth more,
 -- nor is a rival of any grain
 pub record BestReply (t : Tree) (m D u i : ℕ) (table : Table) (value : ℤ) (reply : Table) : Type 0 where
   pub rival : RivalTable t D i table reply

@@ -7,7 +7,7 @@ use mathlib.Core.Logic.{_↔_}
 use mathlib.Core.List.{[], _∷_}
 use Prim.Native.Nat.{ℕ, _*_, _^_, _≤_, _<_}
 use lib.Dec.{eqb}
-use lib.IntN.{pos, natAbs}
+use lib.IntN.{ℤ, pos, natAbs}
 use lib.ListN.{length}
 use lib.Signed.{_≤ℤ_}
 use Rattle.game_tree.specs.Sums.{_·_}
@@ -113,6 +113,10 @@ FinerProducts = (t : Tree) (C m D E i : ℕ) (table z : Table) → 0 < D → 1 �
     → FinerRival t D E i table z
     → (U C D m · finerWorth t m D (U C D m) E z i) ≤ℤ ((C * D ^ m * E ^ m) · tableBest t D (U C D m) table i)
 
+-- Comparing by these products is comparing with E^m × a value in units, both ways.
+abbrev pub ProductsCompare : Type 0
+ProductsCompare = (C m D E : ℕ) (x v : ℤ) → 0 < C → 0 < D → (x ≤ℤ (E ^ m · v)) ↔ ((U C D m · x) ≤ℤ ((C * D ^ m * E ^ m) · v))
+
 -- Every division that gives that worth is exact, and the units of all ends add up to E^m × U.
 abbrev pub FinerTableUnits : Type 0
 FinerTableUnits = (t : Tree) (C m D E i : ℕ) (table z : Table) → 0 < D → 1 ≤ E → Splits C m t → SameActions t → FinerRival t D E i table z
@@ -132,7 +136,7 @@ abbrev pub finerReply : (t : Tree) (D u E : ℕ) (table : Table) (i : ℕ) → T
 finerReply t D u E table i = let s : Strategy = strategyOf t table in
     tableOf t (λ j k a. cond (eqb j i) (pure E (best (replyTree D s i u t)) k a) (s j k a))
 
--- It is a rival of that grain and worth just the best value, so any grain can copy the reply.
+-- It is a rival of that grain and worth just E^m × the best value, so any grain can copy the reply.
 abbrev pub FinerReplyBest : Type 0
 FinerReplyBest = (t : Tree) (C m D E i : ℕ) (table : Table) → 0 < D → 1 ≤ E → Splits C m t → PerfectRecall i t → SameActions t
     → ValidTable t D table
@@ -187,6 +191,7 @@ smallFiner = 100 ∷ 200 ∷ 200 ∷ 100 ∷ 2 ∷ 0 ∷ 300 ∷ 0 ∷ []
 
 abbrev pub SmallFinerRivals : Type 0
 SmallFinerRivals = FinerRival small 2 300 0 smallTable smallFiner × (finerWorth small 2 2 12 300 smallFiner 0 ≡ pos 240000)
+    × (300 ^ 2 * 12 ≡ 1080000) × (pos 240000 ≤ℤ (300 ^ 2 · pos 4))
     × (finerReply small 2 12 1 smallTable 0 ≡ 0 ∷ 1 ∷ 1 ∷ 0 ∷ 2 ∷ 0 ∷ 1 ∷ 0 ∷ [])
     × (finerWorth small 2 2 12 1 (finerReply small 2 12 1 smallTable 0) 0 ≡ pos 4)
 

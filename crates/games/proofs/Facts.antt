@@ -17,7 +17,7 @@ use Rattle.game_tree.specs.Table.{Table, strategyOf, tableBest}
 use Rattle.game_tree.specs.Recall.{RecallsOwn}
 use Rattle.game_tree.proofs.TableTheorem.{reply-table-best, own-table-entries-free, table-units-add-up}
 use Rattle.game_tree.proofs.Theorem.{units-exact, recall-kept, best-decides, decides-alike}
-use Rattle.game_tree.proofs.TableTheorem.{finer-products, finer-table-units, finer-reply-best, nash-conv-zero}
+use Rattle.game_tree.proofs.TableTheorem.{finer-products, finer-table-units, worth-of-grain-D, finer-reply-best, nash-conv-zero}
 use Rattle.game_tree.proofs.Sets.{Each, every→sets}
 use Rattle.kuhn_tree.specs.Tree.{kuhnTree}
 use Rattle.kuhn_tree.specs.Tree as KuhnTree
@@ -36,7 +36,7 @@ use Rattle.games.specs.Games.{treeOf, C, m, mostParts, rootUnits}
 use Rattle.games.specs.Seats.{seats-out}
 use Rattle.games.specs.Facts.{nodesOf, setsOf, entriesOf, Counted, kuhn, leduc, Table-of-counts, Fit, Games-fit, Reply-best}
 use Rattle.games.specs.Facts.{Units-exact, Units-add-up, Own-entries-free, openTo, Best-decides, Decides-alike}
-use Rattle.games.specs.Facts.{Finer-rivals, Finer-reply, Conv-zero}
+use Rattle.games.specs.Facts.{Finer-rivals, Finer-of-D, Finer-reply, Conv-zero}
 use Rattle.games.specs.internal.Facts.{Actions-listed}
 use Rattle.games.specs.internal.Actions.{actionsOf}
 use Rattle.games.specs.declared.Game.{Game}
@@ -174,6 +174,9 @@ finer-rivals g D E i table z known out w d e r =
     let f = games-fit g known out in
     let (exact, units) = finer-table-units (treeOf g) (C g) (m g) D E i table z d e (f .splits) (f .actions) r in
     (exact, units, finer-products (treeOf g) (C g) (m g) D E i table z d e (f .splits) (f .recall i w) (f .actions) r)
+
+pub finer-of-D : Finer-of-D
+finer-of-D g D i z known out d = worth-of-grain-D (treeOf g) (C g) (m g) D i z d (games-fit g known out .splits)
 
 pub finer-reply : Finer-reply
 finer-reply g D E i table known out w d e v =

@@ -1,5 +1,6 @@
 -- What holds of the games by number, proved in proofs/Facts.antt:
--- their counts as numbers that a program can hold, and what the reply theorem asks of their trees.
+-- their counts as numbers that a program can hold, what the reply theorem asks of their trees,
+-- and what follows for rivals of any grain (document 02, Eight).
 use mathlib.Core.Path.{_≡_}
 use mathlib.Core.Bool.{false, cond}
 use mathlib.Core.Logic.{_↔_}
@@ -13,7 +14,7 @@ use Rattle.game_tree.specs.Reply.{Reply, replyTree, Choice, value, best}
 use Rattle.game_tree.specs.Optimal.{EveryOwn, Decides}
 use Rattle.game_tree.specs.Recall.{PerfectRecall}
 use Rattle.game_tree.specs.Shape.{Sized, SameActions}
-use Rattle.game_tree.specs.Table.{Table, strategyOf, ValidTable, KeepsTable, tableBest, replyTable, nashConv, BestReply}
+use Rattle.game_tree.specs.Table.{Table, strategyOf, ValidTable, KeepsTable, tableWorth, tableBest, replyTable, nashConv, BestReply}
 use Rattle.game_tree.specs.Table.{FinerRival, finerWorth, Equilibrium}
 use Rattle.game_tree.specs.TableTheorem.{finerReply}
 use Rattle.kuhn_tree.specs.Counts.{kuhnNodes, kuhnSets, kuhnEntries}
@@ -114,7 +115,12 @@ Finer-rivals = (g : Game) (D E i : ℕ) (table z : Table) → g .number ≤ 1 �
     × ((rootUnits g D · finerWorth (treeOf g) (m g) D (rootUnits g D) E z i)
     ≤ℤ ((C g * D ^ m g * E ^ m g) · tableBest (treeOf g) D (rootUnits g D) table i))
 
--- the reply in grain E is such a rival, and worth just the best value
+-- of grain D the worth is D^m times that of the table in units
+abbrev pub Finer-of-D : Type 0
+Finer-of-D = (g : Game) (D i : ℕ) (z : Table) → g .number ≤ 1 → seats-out g ≡ false → 0 < D
+    → finerWorth (treeOf g) (m g) D (rootUnits g D) D z i ≡ D ^ m g · tableWorth (treeOf g) D (rootUnits g D) z i
+
+-- the reply in grain E is such a rival, and worth just E^m × the best value
 abbrev pub Finer-reply : Type 0
 Finer-reply = (g : Game) (D E i : ℕ) (table : Table) → g .number ≤ 1 → seats-out g ≡ false → i < g .seats → 0 < D → 1 ≤ E
     → ValidTable (treeOf g) D table

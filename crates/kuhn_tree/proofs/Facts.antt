@@ -1,18 +1,15 @@
 -- The statements of specs/Facts.antt, each by its proof: what other crates cite. Assumes nothing.
-use mathlib.Core.Path.{_≡_, refl, subst}
-use native.Mathlib.Omega.{arith}
+use mathlib.Core.Path.{_≡_, refl}
 use lib.ListN.{getD, drop}
-use lib.Signed.{_≤ℤ_}
-use Rattle.game_tree.specs.Table.{tableWorth}
 use Rattle.game_tree.proofs.TableTheorem.{reply-table-best}
 use Rattle.kuhn_tree.specs.Tree.{m, kuhnTree, C}
-use Rattle.kuhn_tree.specs.Facts.{rootUnits, FollowsRules, FuelEnough, SeatByKey, ActionsByKey, DepthByKey, LevelsByKey, TwoActions, Recalls, FansDivide, PayoffsBounded, PayoffsBalance, ReplyBest, CaseKUnbeaten, kuhn2, passes}
+use Rattle.kuhn_tree.specs.Facts.{FollowsRules, FuelEnough, SeatByKey, ActionsByKey, DepthByKey, LevelsByKey, TwoActions, Recalls, FansDivide, PayoffsBounded, PayoffsBalance, ReplyBest}
 use Rattle.kuhn_tree.proofs.Growth.{kuhn-follows, kuhn-fuel}
 use Rattle.kuhn_tree.proofs.Units.{kuhn-splits, kuhn-every, depthAt, kuhn-heights, levelAt, kuhn-levels}
 use Rattle.kuhn_tree.proofs.Recall.{kuhn-recall}
 use Rattle.kuhn_tree.proofs.Payoffs.{kuhn-pays, kuhn-balance}
 use Rattle.kuhn_tree.proofs.Sets.{kuhn-same-actions}
-pub use Rattle.kuhn_tree.proofs.Cases.{keys-in-order, case-k, case-k-reply, case-l}
+pub use Rattle.kuhn_tree.proofs.Keys.{keys-in-order}
 pub use Rattle.kuhn_tree.proofs.Order.{sets-in-order}
 pub use Rattle.kuhn_tree.proofs.Positions.{nodes-reached}
 pub use Rattle.kuhn_tree.proofs.Range.{units-fit}
@@ -53,6 +50,3 @@ payoffs-balance ante bet n l = kuhn-balance ante bet n l
 
 pub reply-best : ReplyBest
 reply-best ante bet n D i table d v = reply-table-best (kuhnTree ante bet n) (C n) (m n) D i table d (fans-divide ante bet n) (recalls ante bet n i) (actions-by-key ante bet n) v
-
-pub case-k-unbeaten : CaseKUnbeaten
-case-k-unbeaten z v = subst (λ x. tableWorth kuhn2 1 (rootUnits 2 1) z 0 ≤ℤ x) (case-k .3) (reply-best 1 1 2 1 0 passes (omega arith) (case-k .0) .unbeaten z v)

@@ -7,7 +7,7 @@ pub mod Recall
 pub mod Payoffs
 pub mod Sizes
 pub mod Sets
-pub mod Cases
+pub mod Keys
 pub mod Counts
 pub mod Order
 pub mod Positions

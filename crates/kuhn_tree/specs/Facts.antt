@@ -1,19 +1,18 @@
 -- The facts about Kuhn's tree, statement by statement (document 01, "The tree and its sets" and "Whole units").
 -- Each is proved in proofs/Facts.antt, which assumes nothing.
--- Throughout: n seats, any ante and bet; table a table with D parts in each set, i a seat, z a rival table.
+-- Throughout: n seats, any ante and bet; table a table with D parts in each set, i a seat.
 use mathlib.Core.Path.{_≡_}
 use mathlib.Core.List.{List, [], _∷_, map}
 use Prim.Native.Nat.{ℕ, _+_, _*_, _^_, _≤_, _<_, _-_}
-use lib.IntN.{ℤ, pos, negℤ}
+use lib.IntN.{pos}
 use lib.ListN.{length}
-use lib.Signed.{_≤ℤ_}
 use Rattle.prelude.specs.Finite.{sumℤ}
-use Rattle.game_tree.specs.Tree.{Key, Tree, U}
+use Rattle.game_tree.specs.Tree.{Key, U}
 use Rattle.game_tree.specs.Conditions.{Splits, Pays, Every}
 use Rattle.game_tree.specs.Recall.{PerfectRecall}
 use Rattle.game_tree.specs.Sets.{size, sets}
 use Rattle.game_tree.specs.Shape.{Sized, SameActions, SameHeights, Levels, EveryEnd}
-use Rattle.game_tree.specs.Table.{Table, ValidTable, RivalTable, tableWorth, tableBest, replyTable, nashConv, BestReply}
+use Rattle.game_tree.specs.Table.{Table, ValidTable, tableBest, replyTable, BestReply}
 use Rattle.kuhn_rules.specs.Moves.{Reached}
 use Rattle.kuhn_tree.specs.Tree.{next, below, m, fuel, kuhnTree, C, largestParts}
 use Rattle.kuhn_tree.specs.Follows.{Follows}
@@ -118,34 +117,3 @@ ReplyBest = (ante bet n D i : ℕ) (table : Table) → 0 < D → ValidTable (kuh
 abbrev pub UnitsFit : Type 0
 UnitsFit = (n D : ℕ) → 2 ≤ n → n ≤ 6 → D ≤ largestParts n
     → (rootUnits n D * largestPayoff 1 1 n < 2 ^ 63) × (n * (2 * (rootUnits n D * largestPayoff 1 1 n)) < 2 ^ 64)
-
--- 7. Document 01's cases k and l: of a valid table the worths of both seats, their best values, NashConv.
-abbrev pub kuhn2 : Tree
-kuhn2 = kuhnTree 1 1 2
-
-abbrev pub Case : ℕ → Table → (w₀ w₁ b₀ b₁ conv : ℤ) → Type 0
-Case D table w₀ w₁ b₀ b₁ conv = ValidTable kuhn2 D table
-    × (tableWorth kuhn2 D (rootUnits 2 D) table 0 ≡ w₀) × (tableWorth kuhn2 D (rootUnits 2 D) table 1 ≡ w₁)
-    × (tableBest kuhn2 D (rootUnits 2 D) table 0 ≡ b₀) × (tableBest kuhn2 D (rootUnits 2 D) table 1 ≡ b₁)
-    × (nashConv kuhn2 D (rootUnits 2 D) table 2 ≡ conv)
-
--- k. Always PASS.
-abbrev pub passes : Table
-passes = 1 ∷ 0 ∷ 1 ∷ 0 ∷ 1 ∷ 0 ∷ 1 ∷ 0 ∷ 1 ∷ 0 ∷ 1 ∷ 0 ∷ 1 ∷ 0 ∷ 1 ∷ 0 ∷ 1 ∷ 0 ∷ 1 ∷ 0 ∷ 1 ∷ 0 ∷ 1 ∷ 0 ∷ []
-
-abbrev pub CaseK : Type 0
-CaseK = Case 1 passes (pos 0) (pos 0) (pos 6) (pos 6) (pos 12)
-
--- The reply of seat 0: BET as the hand's first action on 0 and 1, which are its first and seventh sets, PASS in its other four.
-abbrev pub CaseKReply : Type 0
-CaseKReply = replyTable kuhn2 1 (rootUnits 2 1) passes 0
-    ≡ 0 ∷ 1 ∷ 1 ∷ 0 ∷ 1 ∷ 0 ∷ 1 ∷ 0 ∷ 1 ∷ 0 ∷ 1 ∷ 0 ∷ 0 ∷ 1 ∷ 1 ∷ 0 ∷ 1 ∷ 0 ∷ 1 ∷ 0 ∷ 1 ∷ 0 ∷ 1 ∷ 0 ∷ []
-
--- l. An equilibrium.
-abbrev pub CaseL : Type 0
-CaseL = Case 3 (3 ∷ 0 ∷ 3 ∷ 0 ∷ 3 ∷ 0 ∷ 2 ∷ 1 ∷ 0 ∷ 3 ∷ 0 ∷ 3 ∷ 3 ∷ 0 ∷ 2 ∷ 1 ∷ 2 ∷ 1 ∷ 3 ∷ 0 ∷ 3 ∷ 0 ∷ 0 ∷ 3 ∷ [])
-    (negℤ (pos 9)) (pos 9) (negℤ (pos 9)) (pos 9) (pos 0)
-
--- The theorem tried on case k: no rival table of seat 0 is worth more than 6.
-abbrev pub CaseKUnbeaten : Type 0
-CaseKUnbeaten = (z : Table) → RivalTable kuhn2 1 0 passes z → tableWorth kuhn2 1 (rootUnits 2 1) z 0 ≤ℤ pos 6

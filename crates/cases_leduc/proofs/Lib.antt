@@ -1,0 +1,3 @@
+-- How these numbers are had.
+pub mod Rows
+pub mod Numbers

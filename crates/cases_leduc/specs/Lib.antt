@@ -1,0 +1,2 @@
+-- Leduc, always CALL: what it is worth.
+pub mod Numbers
