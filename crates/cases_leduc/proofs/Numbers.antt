@@ -9,7 +9,7 @@ use lib.Dec.{eqb, leb}
 use lib.IntN.{ℤ, pos, _+ℤ_, _-ℤ_}
 use lib.ListN.{length, getD, take, drop}
 use lib.Seq.{take-append-seam, drop-append-add}
-use Rattle.prelude.specs.Finite.{and, or, some, those, has}
+use Rattle.prelude.specs.Finite.{_&&_, _||_, some, those, has}
 use Rattle.game_tree.specs.Sums.{_·_}
 use Rattle.game_tree.specs.Tree.{Key, Tree, Strategy, all, worth}
 use Rattle.game_tree.specs.Conditions.{Every}
@@ -53,18 +53,18 @@ calling j k a = cond (eqb (getD (options (in-play (first k) (second k))) a 0) CA
 
 -- the other seat has raised in a round
 unfoldable raised : ℕ → List ℕ → Bool
-unfolding some and
-raised s h = some (length h) (λ i. and (eqb (i % 2) (1 - s)) (eqb (getD h i 0) RAISE))
+unfolding some _&&_
+raised s h = some (length h) (λ i. eqb (i % 2) (1 - s) && eqb (getD h i 0) RAISE)
 
 -- with card c and public card p a raise pays
 unfoldable strong : ℕ → ℕ → Bool
-unfolding and or
-strong c p = or (leb 4 c) (or (eqb (rank c) (rank p)) (and (leb 2 c) (or (eqb p 4) (eqb p 5))))
+unfolding _&&_ _||_
+strong c p = leb 4 c || (eqb (rank c) (rank p) || (leb 2 c && (eqb p 4 || eqb p 5)))
 
 -- the second action, which is RAISE, with a strong card; the first where the other seat, which never raises, has raised
 unfoldable raising : Choice
-unfolding raised strong or
-raising k = cond (or (raised (getD k 0 0) (first k)) (raised (getD k 0 0) (second k))) 0 (cond (strong (getD k 1 0) (getD k 2 0)) 1 0)
+unfolding raised strong _||_
+raising k = cond (raised (getD k 0 0) (first k) || raised (getD k 0 0) (second k)) 0 (cond (strong (getD k 1 0) (getD k 2 0)) 1 0)
 
 abbrev tree : Tree
 tree = leducTree 1 2 4
@@ -122,7 +122,7 @@ unfolding measures
 both t = (measures 0 t, measures 1 t)
 
 measured : both tree ≡ ((pos 0, pos 176, true), (pos 0, pos 176, true))
-unfolding both highest _·_ leducTree Leduc.below Leduc.next Leduc.each and or some those has Betting.ends-with Betting.folded Betting.closes Betting.behind
+unfolding both highest _·_ leducTree Leduc.below Leduc.next Leduc.each _&&_ _||_ some those has Betting.ends-with Betting.folded Betting.closes Betting.behind
     Betting.raises Betting.may Betting.options Betting.in-play Betting.turn Betting.ended Cards.left Cards.remaining Rules.public-due Rules.due Rules.key
     Rules.after-action Rules.put-in Rules.contribution Rules.folds Rules.pairs Rules.beats Rules.wins Rules.payoff
 measured = refl

@@ -6,7 +6,7 @@ use native.Mathlib.Omega.{arith}
 use lib.Dec.{eqb}
 use lib.IntN.{ℤ, pos, negsuc, _+ℤ_, _-ℤ_, natAbs, +ℤ-idl, +ℤ-invr, -ℤ-+ℤ-cancel}
 use lib.ListN.{length, getD}
-use lib.Signed.{_≤ℤ_, ≤ℤ-refl}
+use lib.Signed.{_≤ℤ_, ≤ℤ-refl, leZ-yes}
 use Rattle.game_tree.specs.Sums.{_·_, sumℕ, parts}
 use Rattle.game_tree.specs.Tree.{Key, Tree, Strategy, all, U}
 use Rattle.game_tree.specs.Conditions.{allBut, Every, Keeps, Rival, Splits}
@@ -278,6 +278,10 @@ small-no-rival-table = (
   λ z v. subst (λ x. tableWorth small 2 12 z 0 ≤ℤ x) (small-replies .1)
       (no-rival-table-better small 3 2 2 0 smallTable z (omega arith) (small-premises .0) (small-premises .1) small-same v),
 )
+
+small-below : pos 240000 ≤ℤ (300 ^ 2 · pos 4)
+unfolding _·_
+small-below = leZ-yes tt
 
 pub small-finer-rivals : SmallFinerRivals
 small-finer-rivals = ((small-finer .0, small-adds, keeps-tested small 0 smallTable smallFiner small-keeps), small-finer .1, refl, small-below, small-finer .2, small-finer .3)
