@@ -1,16 +1,23 @@
 -- The premises of the reply theorem are met by a table of each game, by computing; so it holds of them. Assumes nothing.
-use mathlib.Core.Path.{_≡_, refl, sym, subst, _∙_}
+use mathlib.Core.Path.{_≡_, refl, sym, ap, subst, _∙_}
 use mathlib.Core.Bool.{true}
-use Prim.Native.Nat.{ℕ, _<_}
+use Prim.Native.Nat.{ℕ, _*_, _^_, _<_}
 use native.Mathlib.Omega.{arith}
-use lib.IntN.{pos}
+use lib.IntN.{pos, negℤ}
 use lib.ListN.{length}
+use lib.Signed.{_≤ℤ_}
 use Rattle.prelude.specs.Finite as Finite
 use Rattle.prelude.specs.Finite.{_&&_, _||_, some, every, those, has}
 use Rattle.game_tree.specs.Sums.{_·_, sum, sumℕ}
-use Rattle.game_tree.specs.Reply.{best, value, withKey, highest}
-use Rattle.game_tree.specs.Sets.{sets, setActions, entriesOf, entries, before}
-use Rattle.game_tree.specs.Table.{Table, addUp, tableBest, replyTable}
+use Rattle.game_tree.specs.Tree.{Tree}
+use Rattle.game_tree.specs.Reply.{replyTree, best, value, withKey, highest, pure}
+use Rattle.game_tree.specs.Conditions.{allBut}
+use Rattle.game_tree.specs.Sets.{sets, setActions, entriesOf, entries, before, seatsOf}
+use Rattle.game_tree.specs.Table.{Table, strategyOf, laidOut, addUp, tableWorth, tableBest, replyTable, nashConv, addUpBy, FinerRival, finerWorth}
+use Rattle.game_tree.specs.TableTheorem.{finerReply}
+use Rattle.game_tree.proofs.Integers.{·-zero}
+use Rattle.game_tree.proofs.Tables.{keepsIn, keeps-tested}
+use Rattle.game_tree.proofs.TableTheorem.{rivals-of-grain-D}
 use Rattle.kuhn_rules.specs.Rules.{bet-made, after-bet, ended, bets, stands, left, remaining, legal, contribution, wins, paid-by-others, payoff}
 use Rattle.kuhn_tree.specs.Tree as Kuhn
 use Rattle.kuhn_tree.specs.Counts.{dealNodes}
@@ -19,14 +26,14 @@ use Rattle.leduc_betting.specs.Cards as Cards
 use Rattle.leduc_rules.specs.Rules as Rules
 use Rattle.leduc_tree.specs.Tree as Leduc
 use Rattle.leduc_tree.specs.Turns.{joined, turns, isFirst, firstOnes, firstTurns, actionsInOrder}
-use Rattle.games.specs.Games.{treeOf, rootUnits}
+use Rattle.games.specs.Games.{treeOf, m, rootUnits}
 use Rattle.games.specs.internal.Actions.{actionsOf}
 use Rattle.games.specs.declared.Game.{Game}
-use Rattle.games.proofs.Facts.{counted-games, actions-listed, reply-best}
+use Rattle.games.proofs.Facts.{counted-games, actions-listed, reply-best, finer-reply, conv-zero}
 use Rattle.tree_refusals.specs.Accepted.{AcceptedTable}
 use Rattle.units_best.specs.Best.{BestReply}
-use Rattle.cases.specs.Cases.{kuhn2-tables, passes, bluffs}
-use Rattle.cases.specs.Tried.{KuhnTried, leduc, callsAt, calls, LeducTried}
+use Rattle.cases.specs.Cases.{kuhn2-tables, passes, bluffs, settled}
+use Rattle.cases.specs.Tried.{KuhnTried, leduc, callsAt, calls, LeducTried, finer, mixes, FinerTried, tens, FinerReplyTried, inEquilibrium, EquilibriumTried}
 
 -- the theorem, of a table that is accepted
 best-reply : (g : Game) (D i : ℕ) (table : Table) → AcceptedTable g D table → i < g .seats
@@ -88,3 +95,63 @@ calls-accepted = record {
 
 pub leduc-tried : LeducTried
 leduc-tried = (calls-accepted, λ i l. best-reply leduc 1 i calls calls-accepted l)
+
+-- ---- rivals of finer grain
+
+abbrev two : Tree
+two = treeOf kuhn2-tables
+
+added-up : (length mixes ≡ entries two) × (addUpBy (allBut 0 10 1) (sets two) mixes ≡ true) × (keepsIn 0 (seatsOf (sets two)) passes mixes ≡ true)
+    × (length settled ≡ entries two) × (addUp 3 (setActions two) settled ≡ true)
+unfolding addUpBy addUp keepsIn seatsOf sets entriesOf sumℕ treeOf Kuhn.kuhnTree Kuhn.below Kuhn.next Kuhn.each and or some every those has bet-made
+    after-bet ended left remaining legal
+added-up = (refl, refl, refl, refl, refl)
+
+numbers : (finer 1 10 mixes 0 ≡ pos 3000) × (finer 1 1 bluffs 0 ≡ pos 6) × (tableWorth two 1 (rootUnits kuhn2-tables 1) passes 0 ≡ pos 0)
+    × (10 ^ m kuhn2-tables * rootUnits kuhn2-tables 1 ≡ 6000) × (10 ^ m kuhn2-tables · negℤ (pos 9) ≡ negℤ (pos 9000))
+    × (finerReply two 3 (rootUnits kuhn2-tables 3) 10 settled 0 ≡ tens) × (tableBest two 3 (rootUnits kuhn2-tables 3) settled 0 ≡ negℤ (pos 9))
+    × (nashConv two 3 (rootUnits kuhn2-tables 3) settled 2 ≡ pos 0)
+unfolding finerWorth tableWorth tableBest nashConv strategyOf laidOut replyTree pure best sum withKey value highest _·_ sets sumℕ before entriesOf
+    treeOf Kuhn.C Kuhn.kuhnTree Kuhn.below Kuhn.next Kuhn.each and or some those has bet-made after-bet ended left remaining legal every Finite.sum
+    bets stands contribution wins paid-by-others payoff
+numbers = (refl, refl, refl, refl, refl, refl, refl, refl)
+
+mixes-rival : FinerRival two 1 10 0 passes mixes
+mixes-rival = (added-up .0, added-up .1, keeps-tested two 0 passes mixes (added-up .2))
+
+pub finer-tried : FinerTried
+finer-tried = (mixes-rival, numbers .3, numbers .0, kuhn-tried .1 .finer 10 mixes (omega arith) mixes-rival)
+
+settled-accepted : AcceptedTable kuhn2-tables 3 settled
+unfolding or dealNodes
+settled-accepted = record {
+  game = record { known = omega arith; seats = refl; small = omega arith };
+  least = omega arith;
+  most = omega arith;
+  valid = (added-up .3, added-up .4);
+}
+
+pub finer-reply-tried : FinerReplyTried
+finer-reply-tried =
+    let a = settled-accepted in
+    let (r, w) = finer-reply kuhn2-tables 3 10 0 settled (a .game .known) (a .game .seats) (omega arith) (a .least) (omega arith) (a .valid) in (
+      a,
+      numbers .5,
+      subst (FinerRival two 3 10 0 settled) (numbers .5) r,
+      subst (λ z. finer 3 10 z 0 ≡ negℤ (pos 9000)) (numbers .5) (w ∙ ap (λ x. 10 ^ m kuhn2-tables · x) (numbers .6) ∙ numbers .4),
+      sym (numbers .4),
+    )
+
+-- with D 1 the reply table is a rival of grain 1
+bluffs-rival : FinerRival two 1 1 0 passes bluffs
+bluffs-rival = rivals-of-grain-D two 1 0 passes bluffs .1 (kuhn-tried .1 .rival)
+
+passes-not : inEquilibrium 1 passes → ⊥
+passes-not f =
+    let h = f 0 (omega arith) 1 bluffs (omega arith) bluffs-rival in
+    absurd (subst (λ x. pos 6 ≤ℤ x) (·-zero (1 ^ m kuhn2-tables)) (rw (numbers .1, numbers .2) at h) .le)
+
+pub equilibrium-tried : EquilibriumTried
+equilibrium-tried =
+    let a = settled-accepted in
+    (conv-zero kuhn2-tables 3 settled (a .game .known) (a .game .seats) (a .least) (a .valid) .0 (numbers .7), passes-not, bluffs-rival, numbers .1, numbers .2)
