@@ -194,6 +194,9 @@ fn verb_names() -> String {
 /// Whether GAME SEATS D are left out: the second word is no whole number.
 fn leaves_out_setting(verb: Verb, places: &[OsString], options: &Options) -> bool {
     let given = !places.is_empty() || options.files_from.is_some();
+    if options.from_json {
+        return true;
+    }
     verb.takes_headings() && given && !places.get(1).is_some_and(|word| is_whole(word))
 }
 
@@ -306,6 +309,9 @@ mod tests {
         let options = Options { seat: Some(number("1", 1)), top: Some(3), all: true, ..none() };
         let explain = Request::Explain { setting: None, tables: paths(&["t"]), options };
         assert_eq!(parsed("explain t --seat 1 --top=3 --all"), Ok(explain));
+        let options = Options { from_json: true, ..none() };
+        let ladder = Request::Ladder { setting: None, tables: paths(&["a", "2"]), options };
+        assert_eq!(parsed("ladder --from-json a 2"), Ok(ladder));
         let options = Options { steps: Some(5), table: true, ..none() };
         let improve = |setting| Request::Improve { setting, table: PathBuf::from("t"), options: options.clone() };
         assert_eq!(parsed("improve t --steps 5 --table"), Ok(improve(None)));
@@ -401,6 +407,7 @@ mod tests {
         assert_eq!(sentence("template kuhn 2 1 --jobs 2"), "there is no option '--jobs'");
         assert_eq!(sentence("f64 kuhn 2 p --jobs 2"), unknown("--jobs"));
         assert_eq!(sentence("evaluate t --seat 1"), unknown("--seat"));
+        assert_eq!(sentence("ladder --from-json"), "TABLE is missing");
         assert_eq!(sentence("explain t --seat"), "--seat takes a seat, and it is missing");
         assert_eq!(sentence("explain t --top x"), "--top is 'x', and a whole number without a sign is needed");
     }

@@ -18,7 +18,7 @@ pub struct Described {
 }
 
 /// The options.
-pub const OPTIONS: [Described; 12] = [
+pub const OPTIONS: [Described; 13] = [
     Described {
         name: "--format",
         value: Some("a form"),
@@ -64,6 +64,15 @@ gain, the leader's faults in words and what was refused",
         what: "\
 writes a text for each refused table to FOLDER, to be sent
 back",
+    },
+    Described {
+        name: "--from-json",
+        value: None,
+        taken_by: |verb| verb == Verb::Ladder,
+        shown: "--from-json",
+        what: "\
+ranks the records in TABLE..., lines that evaluate or ladder
+printed with --format json, in place of tables",
     },
     Described {
         name: "--table",

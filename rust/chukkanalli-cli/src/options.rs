@@ -37,6 +37,7 @@ pub struct Options {
     pub steps: Option<u64>,
     pub html: Option<PathBuf>,
     pub reasons: Option<PathBuf>,
+    pub from_json: bool,
 }
 
 impl Options {
@@ -102,6 +103,7 @@ fn take(verb: Verb, options: &mut Options, name: &str, value: OsString) -> Resul
         "--files-from" => options.files_from = Some(PathBuf::from(value)),
         "--html" => options.html = Some(PathBuf::from(value)),
         "--reasons" => options.reasons = Some(PathBuf::from(value)),
+        "--from-json" => options.from_json = true,
         "--labelled" => options.labelled = true,
         "--any" => options.any = true,
         "--seat" => options.seat = Some(number_of(verb, name, &value)?),

@@ -52,7 +52,7 @@ const PARTS: [&str; 16] = [
     "18446744073709551617",
 ];
 const SEAT: [&str; 8] = ["0", "0", "1", "1", "2", "6", "256", "18446744073709551616"];
-const ODD: [&[u8]; 37] = [
+const ODD: [&[u8]; 38] = [
     b"",
     b"-",
     b"--",
@@ -75,6 +75,7 @@ const ODD: [&[u8]; 37] = [
     b"--table",
     b"--steps=2",
     b"--html=/dev/null",
+    b"--from-json",
     b"--files-from",
     b"--files-from=-",
     b"--version",
@@ -330,6 +331,7 @@ impl Line {
         }
         if self.verb == "ladder" {
             hold_page(args, ran, bad);
+            hold_records(args, ran);
         }
         if matches!(self.verb, "reply" | "improve") && ran.status == 0 {
             self.hold_table(args);
@@ -406,6 +408,14 @@ fn hold_page(args: &[OsString], ran: &Ran, bad: usize) {
     assert_eq!(html.matches("<th scope=\"row\">").count() + bad, args.len() - 4, "the page of {args:?}");
     assert!(html.ends_with("</html>\n"), "the page of {args:?}");
     fs::remove_dir_all(&folder).expect("the folder can be removed");
+}
+
+/// The records of the tables give the same standing as the tables.
+fn hold_records(args: &[OsString], ran: &Ran) {
+    let words = [&[OsString::from("evaluate"), OsString::from("--format=json")], &args[1..]].concat();
+    let records = run(&words);
+    let told = run_with(&["ladder", "--from-json", "-"].map(OsString::from), records.out.as_bytes());
+    assert_eq!(&told, ran, "records change the outcome of {args:?}");
 }
 
 /// Holds what is explained to itself: what all sets of a seat add is its gain.

@@ -11,7 +11,7 @@ use crate::args::{Setting, Verb};
 use crate::console::Console;
 use crate::jobs::side_by_side;
 use crate::options::Options;
-use crate::same::{Fingerprints, SameTables};
+use crate::same::{Fingerprint, SameTables};
 use crate::sources::{self, Source};
 
 /// The tables of a command line, and what they are evaluated with.
@@ -24,8 +24,15 @@ pub struct Batch {
     headed: bool,
 }
 
-/// What came of a table: the figures, and the name of the first table that has the same parts, or what is wrong with it.
-pub type Outcome<'a, R> = Result<(Graded<R>, Option<&'a str>), Faults>;
+/// What came of a table: the figures, and which table has the same parts, or what is wrong with it.
+pub type Outcome<'a, R> = Result<(Graded<R>, Same<'a>), Faults>;
+
+/// What a table is known again by, and the name of the first that has the same parts.
+#[derive(Clone, Copy)]
+pub struct Same<'a> {
+    pub fingerprint: Fingerprint,
+    pub first: Option<&'a str>,
+}
 
 impl Batch {
     /// Gathers the tables, and takes GAME SEATS D from the first heading where they are left out.
@@ -71,17 +78,17 @@ impl Batch {
     ) -> Result<(), Stop> {
         let evaluators = std::mem::take(&mut self.evaluators);
         let (sources, reader) = (&self.sources, self.reader());
-        let (fingerprints, mut same) = (Fingerprints::default(), SameTables::default());
+        let mut same = SameTables::default();
         console.expect(sources.len());
         let work = |evaluator: &mut Evaluator, place: usize| {
             table::evaluated(&sources[place], &reader, evaluator, |evaluator, parts| {
-                evaluation(evaluator, parts).map(|result| (result, fingerprints.of(parts)))
+                evaluation(evaluator, parts).map(|result| (result, Fingerprint::of(parts)))
             })
         };
         side_by_side(evaluators, sources.len(), work, |place, outcome| {
             let outcome = outcome.map(|Graded { read_by, result: (result, fingerprint) }| {
-                let before = same.before(fingerprint, place).map(|first| sources[first].name.as_str());
-                (Graded { read_by, result }, before)
+                let first = same.before(fingerprint, place).map(|first| sources[first].name.as_str());
+                (Graded { read_by, result }, Same { fingerprint, first })
             });
             hand_on(console, place, outcome)?;
             console.count();
@@ -99,12 +106,13 @@ impl Batch {
         mut hand_on: impl FnMut(&mut Console, usize, Outcome<R>) -> Result<(), Stop>,
     ) -> Result<(), Stop> {
         let mut evaluators = std::mem::take(&mut self.evaluators);
-        let (fingerprints, mut same) = (Fingerprints::default(), SameTables::default());
+        let mut same = SameTables::default();
         for (place, source) in self.sources.iter().enumerate() {
             let outcome = table::evaluated(source, &self.reader(), &mut evaluators, |evaluators, parts| {
                 let result = evaluation(console, evaluators, &self.labels, parts)?;
-                let first = same.before(fingerprints.of(parts), place);
-                Ok((result, first.map(|first| self.sources[first].name.as_str())))
+                let fingerprint = Fingerprint::of(parts);
+                let first = same.before(fingerprint, place).map(|first| self.sources[first].name.as_str());
+                Ok((result, Same { fingerprint, first }))
             });
             console.end();
             let outcome = outcome.map(|Graded { read_by, result: (result, same) }| (Graded { read_by, result }, same));

@@ -2,9 +2,9 @@
 
 use std::path::PathBuf;
 
-use chukkanalli::{Evaluator, Game, NashConv, Refusal, Worths};
+use chukkanalli::{Evaluator, Game, NashConv, Refusal};
 
-use super::batch::Batch;
+use super::batch::{Batch, Same};
 use super::table::Graded;
 use super::{complain_of, Stop, DONE, REFUSED};
 use crate::args::{Setting, Verb};
@@ -15,15 +15,24 @@ use crate::output::{self, Frame};
 
 /// What a table is worth to each seat, each seat's best value, and NashConv.
 pub struct Evaluation {
-    worths: Worths,
+    worths: Vec<i64>,
     best: Vec<i64>,
     pub conv: NashConv,
 }
 
 impl Evaluation {
     pub fn of(evaluator: &mut Evaluator, d: u64, parts: &[u8]) -> Result<Self, Refusal> {
-        let (worths, best) = (evaluator.worths(d, parts)?, best_values(evaluator, d, parts)?);
+        let (worths, best) = (evaluator.worths(d, parts)?.to_vec(), best_values(evaluator, d, parts)?);
         Ok(Evaluation { worths, best, conv: evaluator.nash_conv_units(d, parts)? })
+    }
+
+    /// What a record says of a table: the worth and best value of each seat, and NashConv.
+    pub fn of_record(seats: &[(i64, i64)], conv: NashConv) -> Self {
+        Evaluation {
+            worths: seats.iter().map(|seat| seat.0).collect(),
+            best: seats.iter().map(|seat| seat.1).collect(),
+            conv,
+        }
     }
 
     /// Each seat with its worth and its best value.
@@ -67,7 +76,7 @@ pub fn run(setting: Option<Setting>, tables: &[PathBuf], options: &Options, cons
             }
             let text = match (outcome, options.format) {
                 (Ok((graded, same)), Format::Text) => {
-                    format!("{}{}", std::mem::replace(&mut gap, "\n"), block(name, game, d, &graded, same))
+                    format!("{}{}", std::mem::replace(&mut gap, "\n"), block(name, game, d, &graded, same.first))
                 }
                 (Ok((graded, same)), _) => frame.evaluated(name, machine_figures(&graded, same)),
                 (Err(_), Format::Text) => return Ok(()),
@@ -79,10 +88,11 @@ pub fn run(setting: Option<Setting>, tables: &[PathBuf], options: &Options, cons
     Ok(status)
 }
 
-fn machine_figures<'a>(graded: &Graded<Evaluation>, same: Option<&'a str>) -> output::Figures<'a> {
+fn machine_figures<'a>(graded: &Graded<Evaluation>, same: Same<'a>) -> output::Figures<'a> {
     output::Figures {
         read_by: Some(graded.read_by),
-        same_table_as: same,
+        same_table_as: same.first,
+        parts_sha256: Some(same.fingerprint.hex()),
         seat_values: graded.result.seat_values(),
         conv: Some(graded.result.conv),
         ..output::Figures::default()

@@ -5,7 +5,7 @@ use std::path::PathBuf;
 use chukkanalli::tables::{action_words, set_words, Labels};
 use chukkanalli::{Evaluator, NashConv, Refusal};
 
-use super::batch::Batch;
+use super::batch::{Batch, Same};
 use super::table::Graded;
 use super::{complain_of, Stop, DONE, REFUSED};
 use crate::args::{Setting, Verb};
@@ -51,7 +51,11 @@ pub fn run(setting: Option<Setting>, tables: &[PathBuf], options: &Options, cons
             }
             let text = match (outcome, options.format) {
                 (Ok((graded, same)), Format::Text) => {
-                    format!("{}{}", std::mem::replace(&mut gap, "\n"), block(name, &labels, d, &graded, same, options))
+                    format!(
+                        "{}{}",
+                        std::mem::replace(&mut gap, "\n"),
+                        block(name, &labels, d, &graded, same.first, options)
+                    )
                 }
                 (Ok((graded, same)), _) => frame.evaluated(name, machine_figures(&labels, d, &graded, same, options)),
                 (Err(_), Format::Text) => return Ok(()),
@@ -200,7 +204,7 @@ fn machine_figures<'a>(
     labels: &Labels,
     d: u64,
     graded: &Graded<Answer>,
-    same: Option<&'a str>,
+    same: Same<'a>,
     options: &Options,
 ) -> output::Figures<'a> {
     let answer = &graded.result;
@@ -220,7 +224,8 @@ fn machine_figures<'a>(
     let sets = answer.seats.iter().flat_map(|own| shown(own, options).iter().map(move |switch| told(own, switch)));
     output::Figures {
         read_by: Some(graded.read_by),
-        same_table_as: same,
+        same_table_as: same.first,
+        parts_sha256: Some(same.fingerprint.hex()),
         seat_values: answer.seats.iter().map(|own| output::seat_values(own.seat, own.worth, own.best)).collect(),
         conv: Some(answer.conv),
         explained: Some(sets.collect()),

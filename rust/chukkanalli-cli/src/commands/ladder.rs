@@ -4,13 +4,13 @@ use std::fs;
 use std::io;
 use std::path::{Path, PathBuf};
 
-use chukkanalli::tables::{game_words, Faults, Labels, ReadBy};
+use chukkanalli::tables::{self, game_words, Faults, Labels, ReadBy};
 use chukkanalli::{Evaluator, Game, NashConv, Refusal};
 
 use super::batch::Batch;
 use super::evaluate::Evaluation;
 use super::{explain, game, Stop, DONE, REFUSED};
-use crate::args::{Setting, Verb};
+use crate::args::{Misuse, Setting, Verb};
 use crate::columns::{self, Side};
 use crate::console::Console;
 use crate::fraction::Fraction;
@@ -19,6 +19,8 @@ use crate::names::file_name;
 use crate::options::{Format, Options};
 use crate::output::{Figures, Frame};
 use crate::ranks::ranked;
+use crate::records::{record, Ranked, Record};
+use crate::same::SameTables;
 use crate::{date, reasons};
 
 /// What a table came to. What it is worth to each seat is told to software and on a page alone.
@@ -26,6 +28,7 @@ struct Entrant {
     name: String,
     read_by: ReadBy,
     same: Option<String>,
+    fingerprint: String,
     conv: NashConv,
     seats: Option<Evaluation>,
 }
@@ -46,6 +49,9 @@ struct Leader {
 }
 
 pub fn run(setting: Option<Setting>, tables: &[PathBuf], options: &Options, console: &mut Console) -> Result<u8, Stop> {
+    if options.from_json {
+        return from_json(tables, options, console);
+    }
     let mut batch = Batch::new(Verb::Ladder, setting, tables, options, console)?;
     let (game, d) = (batch.labels.game(), batch.d);
     let frame = Frame { verb: Verb::Ladder, format: options.format, game, d: Some(d), seat: None, any: false };
@@ -60,18 +66,13 @@ pub fn run(setting: Option<Setting>, tables: &[PathBuf], options: &Options, cons
             match outcome {
                 Ok((graded, same)) => {
                     let (conv, seats, parts) = graded.result;
-                    let same = same.map(str::to_string);
+                    let (same, fingerprint) = (same.first.map(str::to_string), same.fingerprint.hex());
                     if leader.as_ref().is_none_or(|leader| conv.compare(&leader.conv).is_lt()) {
                         leader = Some(Leader { name: name.clone(), conv, parts });
                     }
-                    standing.ranked.push(Entrant { name, read_by: graded.read_by, same, conv, seats });
+                    standing.ranked.push(Entrant { name, read_by: graded.read_by, same, fingerprint, conv, seats });
                 }
-                Err(faults) => {
-                    for sentence in faults.sentences(&name) {
-                        console.complain_beside_results(sentence);
-                    }
-                    standing.unranked.push((name, faults));
-                }
+                Err(faults) => standing.refuse(name, faults, console),
             }
             Ok(())
         },
@@ -82,14 +83,75 @@ pub fn run(setting: Option<Setting>, tables: &[PathBuf], options: &Options, cons
         let page = standing.page(asked.clone(), leader, &batch.labels, d, options, console)?;
         status = status.max(written(fs::write(path, page.html()), path, console));
     }
-    if let Some(folder) = &options.reasons {
-        status = status.max(written(reasons::write(folder, &asked, &standing.unranked), folder, console));
-    }
-    console.print(&match options.format {
-        Format::Text => standing.text(game, d),
-        _ => standing.records(&frame),
-    })?;
+    status = status.max(standing.hand_out(&asked, options, console));
+    standing.print(&frame, d, console)?;
     Ok(status)
+}
+
+/// The standing of records that `evaluate` or `ladder` printed, in any number of runs: NashConv and U are the records', and the order is that of
+/// the proved comparison.
+fn from_json(files: &[PathBuf], options: &Options, console: &mut Console) -> Result<u8, Stop> {
+    let odd = [
+        ("--html", options.html.is_some()),
+        ("--files-from", options.files_from.is_some()),
+        ("--labelled", options.labelled),
+    ];
+    if let Some((name, _)) = odd.into_iter().find(|(_, given)| *given) {
+        return Err(Misuse::of(Verb::Ladder, format!("--from-json takes records, and {name} is for tables")).into());
+    }
+    let mut records = Vec::new();
+    for path in files {
+        records.extend(records_of(path, console).map_err(Stop::Refused)?);
+    }
+    let Some((_, first)) = records.first() else {
+        return Err(Stop::Refused(vec!["there is no record".to_string()]));
+    };
+    let (game, d) = (first.game, first.d);
+    let other = records.iter().find(|(_, record)| (record.game, record.d) != (game, d));
+    if let Some((place, record)) = other {
+        let (theirs, ours) = (game_words(record.game), game_words(game));
+        return Err(Stop::Refused(vec![format!(
+            "{place}: this record is of {theirs}, D {}, and the first of {ours}, D {d}",
+            record.d
+        )]));
+    }
+    let mut standing = Standing { ranked: Vec::new(), unranked: Vec::new() };
+    let (mut same, names) =
+        (SameTables::default(), records.iter().map(|(_, record)| record.file.clone()).collect::<Vec<_>>());
+    for (place, (_, Record { file: name, outcome, .. })) in records.into_iter().enumerate() {
+        match outcome {
+            Ok(Ranked { read_by, conv, seats, fingerprint }) => {
+                let first = same.before(fingerprint.clone(), place).map(|first| names[first].clone());
+                let seats = Some(Evaluation::of_record(&seats, conv));
+                standing.ranked.push(Entrant { name, read_by, same: first, fingerprint, conv, seats });
+            }
+            Err(faults) => standing.refuse(name, faults, console),
+        }
+    }
+    let status = if standing.unranked.is_empty() { DONE } else { REFUSED };
+    let status = status.max(standing.hand_out(&format!("{}, D {d}", game_words(game)), options, console));
+    let frame = Frame { verb: Verb::Ladder, format: options.format, game, d: Some(d), seat: None, any: false };
+    standing.print(&frame, d, console)?;
+    Ok(status)
+}
+
+/// The bytes of a file of records at most.
+const MOST_OF_RECORDS: usize = 1 << 30;
+
+/// The records of a file, each with its place; else what is wrong with the first line that has none.
+fn records_of(path: &Path, console: &mut Console) -> Result<Vec<(String, Record)>, Vec<String>> {
+    let (name, read) = match path == Path::new("-") {
+        true => ("standard input".to_string(), tables::limited(console.input(), MOST_OF_RECORDS)),
+        false => (file_name(path), tables::opened(path).and_then(|file| tables::limited(file, MOST_OF_RECORDS))),
+    };
+    let bytes = read.map_err(|error| tables::unreadable(error).sentences(&name))?;
+    let text = String::from_utf8(bytes).map_err(|_| vec![format!("{name}: this is not text")])?;
+    let lines = (1..).zip(text.lines()).filter(|(_, line)| !line.trim().is_empty());
+    let records = lines.map(|(line, content)| {
+        let place = format!("{name}:{line}");
+        record(content).map(|record| (place.clone(), record)).map_err(|sentence| vec![format!("{place}: {sentence}")])
+    });
+    records.collect()
 }
 
 /// Each fault, with its line and without the file.
@@ -129,6 +191,29 @@ struct Standing {
 }
 
 impl Standing {
+    /// Tells what is wrong with a table.
+    fn refuse(&mut self, name: String, faults: Faults, console: &mut Console) {
+        for sentence in faults.sentences(&name) {
+            console.complain_beside_results(sentence);
+        }
+        self.unranked.push((name, faults));
+    }
+
+    /// Writes the reasons of what was refused where they are asked for, and gives the status of that.
+    fn hand_out(&self, asked: &str, options: &Options, console: &mut Console) -> u8 {
+        match &options.reasons {
+            Some(folder) => written(reasons::write(folder, asked, &self.unranked), folder, console),
+            None => DONE,
+        }
+    }
+
+    fn print(&self, frame: &Frame, d: u64, console: &mut Console) -> io::Result<()> {
+        console.print(&match frame.format {
+            Format::Text => self.text(frame.game, d),
+            _ => self.records(frame),
+        })
+    }
+
     fn text(&self, game: Game, d: u64) -> String {
         let mut text = format!("{}, D {d}", game_words(game));
         if let Some(first) = self.ranked.first() {
@@ -173,6 +258,7 @@ impl Standing {
             let figures = Figures {
                 read_by: Some(entrant.read_by),
                 same_table_as: entrant.same.as_deref(),
+                parts_sha256: Some(entrant.fingerprint.clone()),
                 rank: Some(rank),
                 seat_values: entrant.seats.as_ref().map_or(Vec::new(), Evaluation::seat_values),
                 conv: Some(entrant.conv),

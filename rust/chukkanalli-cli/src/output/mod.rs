@@ -34,6 +34,8 @@ pub struct Frame {
 pub struct Figures<'a> {
     pub read_by: Option<ReadBy>,
     pub same_table_as: Option<&'a str>,
+    /// The SHA-256 of a table's parts, in hexadecimal digits.
+    pub parts_sha256: Option<String>,
     pub rank: Option<usize>,
     pub seat_values: Vec<Members>,
     pub conv: Option<NashConv>,
@@ -118,6 +120,7 @@ impl Frame {
             ("read_by", figures.read_by.map(ReadBy::name).into()),
             ("any", Value::Bool(self.any)),
             ("same_table_as", figures.same_table_as.into()),
+            ("parts_sha256", figures.parts_sha256.as_deref().into()),
             ("rank", figures.rank.into()),
             ("seat", self.seat.into()),
             ("units", figures.conv.map(|conv| conv.units).into()),

@@ -73,6 +73,12 @@ impl Faults {
         Faults { told: vec![Fault { line, sentence: sentence.into() }], count: 1, refusal: None }
     }
 
+    /// The faults that a record has: those that were told, how many more there were, and the refusal where a call refused.
+    pub fn of_record(told: Vec<Fault>, more: usize, refusal: Option<Refusal>) -> Self {
+        let count = told.len() + more;
+        Faults { told, count, refusal }
+    }
+
     /// The same as what a proved call's refusal comes from.
     pub(crate) fn of_refusal(self, refusal: Refusal) -> Self {
         Faults { refusal: Some(refusal), ..self }
