@@ -7,7 +7,6 @@ use lib.Ieee.{Float, binary64, ofBits, toBits}
 use lib.ListN.{take, drop, replicate}
 use Rattle.kuhn_rules.specs.Rules.{PASS, BET}
 use Rattle.kuhn.specs.Calls as Kuhn
-use Rattle.kuhn.specs.declared.KuhnPoker.{KuhnPoker}
 use Rattle.leduc_betting.specs.Betting.{FOLD, CALL, RAISE}
 use Rattle.leduc_betting.specs.declared.Public.the-variants.{Hidden, Card}
 use Rattle.leduc.specs.Calls as Leduc
@@ -20,17 +19,22 @@ use Rattle.cases.specs.Cases.{kuhn2-tables, room, passes, table-refusal,
 
 -- ---- Leduc's money and ranks
 
+-- rounds without a raise, and with one
+abbrev pub called : List ℕ
+called = CALL ∷ CALL ∷ []
+
+abbrev pub raised : List ℕ
+raised = RAISE ∷ CALL ∷ []
+
 abbrev pub payments : List Case
 payments =
-    case "RAISE CALL in round 1 alone"
-    (paid-in (RAISE ∷ CALL ∷ []) (CALL ∷ CALL ∷ []) ++ leduc-payoffs (leduc-at (0 ∷ 5 ∷ []) (Card 2) (RAISE ∷ CALL ∷ []) (CALL ∷ CALL ∷ [])))
+    case "RAISE CALL in round 1 alone" (paid-in raised called ++ leduc-payoffs (leduc-at (0 ∷ 5 ∷ []) (Card 2) raised called))
     (plus 3 ∷ plus 3 ∷ minus 3 ∷ plus 3 ∷ [])
-    ∷ case "RAISE CALL in round 2 alone"
-    (paid-in (CALL ∷ CALL ∷ []) (RAISE ∷ CALL ∷ []) ++ leduc-payoffs (leduc-at (0 ∷ 5 ∷ []) (Card 2) (CALL ∷ CALL ∷ []) (RAISE ∷ CALL ∷ [])))
+    ∷ case "RAISE CALL in round 2 alone" (paid-in called raised ++ leduc-payoffs (leduc-at (0 ∷ 5 ∷ []) (Card 2) called raised))
     (plus 5 ∷ plus 5 ∷ minus 5 ∷ plus 5 ∷ [])
-    ∷ case "RAISE FOLD in round 2" (leduc-payoffs (leduc-at (0 ∷ 5 ∷ []) (Card 2) (CALL ∷ CALL ∷ []) (RAISE ∷ FOLD ∷ []))) (plus 1 ∷ minus 1 ∷ [])
-    ∷ case "2 and 4, no pair" (leduc-payoffs (leduc-at (2 ∷ 4 ∷ []) (Card 0) (CALL ∷ CALL ∷ []) (CALL ∷ CALL ∷ []))) (minus 1 ∷ plus 1 ∷ [])
-    ∷ case "2 and 4, 3 public" (leduc-payoffs (leduc-at (2 ∷ 4 ∷ []) (Card 3) (CALL ∷ CALL ∷ []) (CALL ∷ CALL ∷ []))) (plus 1 ∷ minus 1 ∷ [])
+    ∷ case "RAISE FOLD in round 2" (leduc-payoffs (leduc-at (0 ∷ 5 ∷ []) (Card 2) called (RAISE ∷ FOLD ∷ []))) (plus 1 ∷ minus 1 ∷ [])
+    ∷ case "2 and 4, no pair" (leduc-payoffs (leduc-at (2 ∷ 4 ∷ []) (Card 0) called called)) (minus 1 ∷ plus 1 ∷ [])
+    ∷ case "2 and 4, 3 public" (leduc-payoffs (leduc-at (2 ∷ 4 ∷ []) (Card 3) called called)) (plus 1 ∷ minus 1 ∷ [])
     ∷ []
 
 -- ---- a refusal for each number but 3, which is Seven-seats
@@ -69,13 +73,14 @@ abbrev pub Kuhn-moves : Type 0
 Kuhn-moves = (Kuhn.dealt kuhn2 (kuhn-at (2 ∷ []) []) 1 ≡ record { refusal = 0; state = kuhn-at (2 ∷ 1 ∷ []) [] })
     × (Kuhn.stepped kuhn2 (kuhn-at (2 ∷ 1 ∷ []) (PASS ∷ [])) 7 ≡ record { refusal = 0; state = kuhn-at (2 ∷ 1 ∷ []) (PASS ∷ BET ∷ []) })
 
--- Leduc: of the cards 1 to 4 outcome 2 is card 3; RAISE opens round 2; FOLD, which nobody behind makes, becomes CALL
+-- Leduc: of the cards 1 to 4 outcome 2 is card 3; RAISE opens round 2; FOLD, by a seat that is not behind, becomes CALL
 abbrev pub Leduc-moves : Type 0
-Leduc-moves = (Leduc.dealt (leduc-at (0 ∷ 5 ∷ []) Hidden (CALL ∷ CALL ∷ []) []) 2
-    ≡ record { refusal = 0; state = leduc-at (0 ∷ 5 ∷ []) (Card 3) (CALL ∷ CALL ∷ []) [] })
-    × (Leduc.stepped (leduc-at (0 ∷ 5 ∷ []) (Card 3) (CALL ∷ CALL ∷ []) []) RAISE
-    ≡ record { refusal = 0; state = leduc-at (0 ∷ 5 ∷ []) (Card 3) (CALL ∷ CALL ∷ []) (RAISE ∷ []) })
-    × (Leduc.stepped (leduc-at (0 ∷ 5 ∷ []) Hidden [] []) FOLD ≡ record { refusal = 0; state = leduc-at (0 ∷ 5 ∷ []) Hidden (CALL ∷ []) [] })
+Leduc-moves = (Leduc.dealt (leduc-at (0 ∷ 5 ∷ []) Hidden called []) 2
+    ≡ record { refusal = 0; state = leduc-at (0 ∷ 5 ∷ []) (Card 3) called [] })
+    × (Leduc.stepped (leduc-at (0 ∷ 5 ∷ []) (Card 3) called []) RAISE
+    ≡ record { refusal = 0; state = leduc-at (0 ∷ 5 ∷ []) (Card 3) called (RAISE ∷ []) })
+    × (Leduc.stepped (leduc-at (0 ∷ 5 ∷ []) Hidden [] []) FOLD
+    ≡ record { refusal = 0; state = leduc-at (0 ∷ 5 ∷ []) Hidden (CALL ∷ []) [] })
 
 -- ---- Leduc's third and last records: seat, key length, key in 13 bytes, public card, cards in 6 bytes, legal count, 0
 
