@@ -3,6 +3,7 @@
 mod common;
 
 use std::fs;
+use std::sync::atomic::{AtomicUsize, Ordering};
 
 use common::json::{Json, Schema};
 use common::{root, run, run_line, table, Run};
@@ -21,10 +22,13 @@ fn records(run: &Run) -> Vec<Json> {
     records
 }
 
+/// How often tables were written, so that no two tests write the same files.
+static WRITTEN: AtomicUsize = AtomicUsize::new(0);
+
 /// Tables of a game that differ, none of them with equal parts in all sets.
 fn tables(game: &str, seats: u64, d: u64, count: u64) -> Vec<String> {
     let template = run_line(&format!("template {game} {seats} {d}")).out;
-    let mut seed = seats + d;
+    let (mut seed, time) = (seats + d, WRITTEN.fetch_add(1, Ordering::Relaxed));
     let mut draw = |below: u64| {
         seed = seed.wrapping_mul(6364136223846793005).wrapping_add(1442695040888963407);
         (seed >> 33) % below
@@ -44,7 +48,7 @@ fn tables(game: &str, seats: u64, d: u64, count: u64) -> Vec<String> {
             None => line.to_string(),
         });
         let lines: Vec<String> = lines.collect();
-        table(&format!("format-{game}-{seats}-{d}-{k}.txt"), lines.join("\n"))
+        table(&format!("format-{time}-{game}-{seats}-{d}-{k}.txt"), lines.join("\n"))
     };
     (0..count).map(&mut write).collect()
 }
