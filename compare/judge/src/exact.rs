@@ -1,5 +1,5 @@
-//! Document 01's whole units over the tree of the unchanged Rust's moves: worths, best values with their replies, NashConv.
-//! Written for reading, not for speed, in i128, which no sum here can leave.
+//! Document 01's whole units over the tree of the unchanged Rust's moves: worths, best values with their replies, NashConv; and what a rival of
+//! another grain is worth (document 02, Eight). Written for reading, not for speed, in i128, which no sum here can leave.
 
 use crate::whole;
 use reinfors_core::game::{Actor, Game};
@@ -10,9 +10,6 @@ use std::sync::OnceLock;
 
 /// The places of an answer that has a number for each seat.
 pub const SEATS: usize = 6;
-
-/// No payoff of either game is further from 0.
-const LARGEST_PAYOFF: i128 = 13;
 
 /// A game with the numbers of U = C × D^m and the limit of D.
 pub trait Whole: Game<Event = f64> {
@@ -85,6 +82,8 @@ pub struct Tree {
     pub nodes: Vec<Node>,
     pub sets: Vec<Set>,
     pub entries: usize,
+    /// No payoff is further from 0.
+    pub largest_payoff: i128,
     numbers: HashMap<Vec<u8>, usize>,
 }
 
@@ -98,6 +97,7 @@ impl Tree {
             nodes: Vec::new(),
             sets: Vec::new(),
             entries: 0,
+            largest_payoff: 0,
             numbers: HashMap::new(),
         };
         tree.grow(game, &game.initial_state());
@@ -140,7 +140,7 @@ impl Tree {
         let mut payoffs = [0; SEATS];
         for (payoff, event) in payoffs.iter_mut().zip(events) {
             *payoff = whole(event.expect("every seat has a payoff at an end"));
-            assert!(i128::from(payoff.abs()) <= LARGEST_PAYOFF);
+            self.largest_payoff = self.largest_payoff.max(i128::from(payoff.abs()));
         }
         self.nodes.push(Node::End(payoffs));
         self.nodes.len() - 1
@@ -183,10 +183,42 @@ impl Tree {
 
     /// Whether the parts of each set add up to D.
     pub fn adds_up(&self, table: &[u8], d: u64) -> bool {
-        let sum = |set| self.part(table, set).iter().map(|&part| u64::from(part)).sum::<u64>();
-        (0..self.sets.len()).all(|set| sum(set) == d)
+        self.adds_up_by(table, |_| d)
+    }
+
+    /// Whether the parts of each set add up to what its seat has.
+    fn adds_up_by<T: Part>(&self, table: &[T], parts: impl Fn(usize) -> u64) -> bool {
+        let sum = |set| self.part(table, set).iter().map(|&part| u128::from(part.into())).sum::<u128>();
+        self.sets.iter().enumerate().all(|(number, set)| sum(number) == u128::from(parts(set.seat)))
+    }
+
+    /// The units of each node from the root's: a deal shares them evenly, and a decision hands on what `share` says of its seat, an entry and its own.
+    fn units_of_nodes(&self, root: i128, share: impl Fn(usize, usize, i128) -> i128) -> Vec<i128> {
+        let mut units = vec![0; self.nodes.len()];
+        units[0] = root;
+        for (number, node) in self.nodes.iter().enumerate() {
+            let own = units[number];
+            match node {
+                Node::End(_) => {}
+                Node::Chance(children) => {
+                    children.iter().for_each(|&child| units[child] = evenly(own, children.len() as i128));
+                }
+                Node::Decision { set, children } => {
+                    let Set { seat, first, .. } = self.sets[*set];
+                    children.iter().zip(first..).for_each(|(&child, entry)| units[child] = share(seat, entry, own));
+                }
+            }
+        }
+        units
     }
 }
+
+/// A part: of a table a byte, of a rival of any grain a number.
+pub trait Part: Copy + Into<u64> + TryFrom<u64> {}
+
+impl Part for u8 {}
+
+impl Part for u64 {}
 
 /// A table as probabilities: part / D.
 pub fn probabilities(table: &[u8], d: u64) -> Vec<f64> {
@@ -206,6 +238,7 @@ pub fn leduc() -> &'static Tree {
 }
 
 /// A valid table of a tree, with D parts in each set.
+#[derive(Clone, Copy)]
 pub struct Played<'a> {
     pub tree: &'a Tree,
     pub d: u64,
@@ -224,7 +257,7 @@ impl<'a> Played<'a> {
         let played = Played { tree, d, table };
         // No sum has more terms than the tree has nodes, no node more units than the root, and NashConv has two such sums for each seat.
         let terms = (2 * SEATS * tree.nodes.len()) as i128;
-        played.units().checked_mul(LARGEST_PAYOFF * terms).expect("no sum below can leave i128");
+        played.units().checked_mul(tree.largest_payoff * terms).expect("no sum below can leave i128");
         played
     }
 
@@ -236,26 +269,10 @@ impl<'a> Played<'a> {
 
     /// The units of each node; a responder's moves pass all of them on.
     pub fn units_of_nodes(&self, responder: Option<usize>) -> Vec<i128> {
-        let mut units = vec![0; self.tree.nodes.len()];
-        units[0] = self.units();
-        for (number, node) in self.tree.nodes.iter().enumerate() {
-            let own = units[number];
-            match node {
-                Node::End(_) => {}
-                Node::Chance(children) => {
-                    children.iter().for_each(|&child| units[child] = evenly(own, children.len() as i128));
-                }
-                Node::Decision { set, children } if Some(self.tree.sets[*set].seat) == responder => {
-                    children.iter().for_each(|&child| units[child] = own);
-                }
-                Node::Decision { set, children } => {
-                    for (&child, &part) in children.iter().zip(self.tree.part(self.table, *set)) {
-                        units[child] = evenly(own * i128::from(part), i128::from(self.d));
-                    }
-                }
-            }
-        }
-        units
+        self.tree.units_of_nodes(self.units(), |seat, entry, own| match Some(seat) == responder {
+            true => own,
+            false => evenly(own * i128::from(self.table[entry]), i128::from(self.d)),
+        })
     }
 
     /// What each seat's table is worth, 0 past the seats.
@@ -281,17 +298,25 @@ impl<'a> Played<'a> {
         Best { value, reply }
     }
 
-    /// The ends by a seat's own moves, for the worths of its rivals.
+    /// A seat's rivals with E parts in its own sets, where i128 holds U × E^m × the largest payoff.
+    pub fn grain(&self, seat: usize, e: u64) -> Option<Grain<'a>> {
+        assert!(seat < self.tree.seats && e >= 1);
+        let scale = i128::from(e).checked_pow(self.tree.moves)?;
+        self.units().checked_mul(scale)?.checked_mul(self.tree.largest_payoff)?;
+        Some(Grain { played: *self, seat, parts: e, scale })
+    }
+
+    /// The ends by a seat's own moves, for the worths of its rivals with D parts.
     pub fn sequences(&self, seat: usize) -> Sequences<'a> {
         let tree = self.tree;
         let units = self.units_of_nodes(Some(seat));
-        let mut gains = vec![0; tree.entries + 1];
+        let mut totals = vec![0; tree.entries + 1];
         let mut before = vec![None; tree.sets.len()];
         let mut sequences = vec![0; tree.nodes.len()];
         for (number, node) in tree.nodes.iter().enumerate() {
             let sequence = sequences[number];
             match node {
-                Node::End(payoffs) => gains[sequence] += units[number] * i128::from(payoffs[seat]),
+                Node::End(payoffs) => totals[sequence] += units[number] * i128::from(payoffs[seat]),
                 Node::Decision { set, children } if tree.sets[*set].seat == seat => {
                     assert_eq!(*before[*set].get_or_insert(sequence), sequence, "a seat recalls all its moves");
                     let first = tree.sets[*set].first + 1;
@@ -302,7 +327,7 @@ impl<'a> Played<'a> {
                 }
             }
         }
-        Sequences { tree, d: self.d, before, gains }.scaled()
+        Sequences::new(Grain { played: *self, seat, parts: self.d, scale: 1 }, before, totals)
     }
 
     /// The sum of best − worth over the seats.
@@ -318,40 +343,115 @@ fn evenly(units: i128, by: i128) -> i128 {
     share
 }
 
+fn times(number: i128, by: i128) -> i128 {
+    number.checked_mul(by).expect("the product is within i128")
+}
+
+/// A seat's rivals of one grain: so many parts in each of its own sets, and in the others the table's entries. The root has U × scale units: E^m for E
+/// parts of any number, and 1 is enough for D. The units of all ends add up to these, so no sum of units × payoff leaves what `Played` checks.
+#[derive(Clone, Copy)]
+pub struct Grain<'a> {
+    pub played: Played<'a>,
+    pub seat: usize,
+    pub parts: u64,
+    scale: i128,
+}
+
+impl Grain<'_> {
+    /// The parts of each set of a seat.
+    fn parts_of(&self, seat: usize) -> u64 {
+        if seat == self.seat {
+            self.parts
+        } else {
+            self.played.d
+        }
+    }
+
+    /// Whether a list is one of the rivals.
+    pub fn has<T: Part>(&self, rival: &[T]) -> bool {
+        let Played { tree, table, .. } = self.played;
+        let same = |(&part, &own): (&T, &u8)| part.into() == u64::from(own);
+        let kept = |number| tree.part(rival, number).iter().zip(tree.part(table, number)).all(same);
+        rival.len() == tree.entries
+            && tree.adds_up_by(rival, |seat| self.parts_of(seat))
+            && tree.sets.iter().enumerate().all(|(number, set)| set.seat == self.seat || kept(number))
+    }
+
+    /// The units of each node under a rival, divided before they are multiplied, since units × part may leave i128.
+    pub fn units_of_nodes<T: Part>(&self, rival: &[T]) -> Vec<i128> {
+        assert!(self.has(rival));
+        self.played.tree.units_of_nodes(times(self.played.units(), self.scale), |seat, entry, own| {
+            times(evenly(own, i128::from(self.parts_of(seat))), i128::from(rival[entry].into()))
+        })
+    }
+
+    /// What a rival is worth to the seat.
+    pub fn worth<T: Part>(&self, rival: &[T]) -> i128 {
+        let mut worth: i128 = 0;
+        for (node, units) in self.played.tree.nodes.iter().zip(self.units_of_nodes(rival)) {
+            if let Node::End(payoffs) = node {
+                let more = times(units, i128::from(payoffs[self.seat]));
+                worth = worth.checked_add(more).expect("the sum is within i128");
+            }
+        }
+        worth
+    }
+
+    /// A reply, which has all D parts of each of the seat's sets on one action, with all parts of this grain there.
+    pub fn copy(&self, reply: &[u8]) -> Vec<u64> {
+        let mut copy: Vec<u64> = reply.iter().map(|&part| u64::from(part)).collect();
+        for set in self.played.tree.sets.iter().filter(|set| set.seat == self.seat) {
+            for part in &mut copy[set.first..][..set.actions] {
+                *part = *part / self.played.d * self.parts;
+            }
+        }
+        copy
+    }
+}
+
 /// Units × payoff of a table's ends, added up for each sequence of a seat's own moves. A sequence is told by its last move: 0 has none, and
 /// e + 1 ends with the move of entry e.
 pub struct Sequences<'a> {
-    tree: &'a Tree,
-    d: u64,
+    pub grain: Grain<'a>,
     /// The sequence on the way to each of the seat's sets.
     before: Vec<Option<usize>>,
-    /// What a sequence gains with one part on each of its moves.
+    /// What a sequence gains from U units with all parts on each of its moves: no more than U × the largest payoff.
+    totals: Vec<i128>,
+    /// What it gains from the grain's units with one part on each.
     gains: Vec<i128>,
 }
 
-impl Sequences<'_> {
+impl<'a> Sequences<'a> {
+    fn new(grain: Grain<'a>, before: Vec<Option<usize>>, totals: Vec<i128>) -> Self {
+        let mut sequences = Sequences { grain, before, totals, gains: Vec::new() };
+        let parts = sequences.products(|_| i128::from(grain.parts));
+        let gain = |(&total, parts)| evenly(times(total, grain.scale), parts);
+        sequences.gains = sequences.totals.iter().zip(parts).map(gain).collect();
+        sequences
+    }
+
+    /// The same ends for the rivals with E parts, where i128 holds them.
+    pub fn finer(&self, e: u64) -> Option<Self> {
+        let grain = self.grain.played.grain(self.grain.seat, e)?;
+        Some(Sequences::new(grain, self.before.clone(), self.totals.clone()))
+    }
+
     /// Of each sequence the product of a factor for each of its moves.
     fn products(&self, factor: impl Fn(usize) -> i128) -> Vec<i128> {
-        let mut products = vec![1; self.gains.len()];
-        for (set, before) in self.tree.sets.iter().zip(&self.before) {
+        let mut products = vec![1; self.totals.len()];
+        for (set, before) in self.grain.played.tree.sets.iter().zip(&self.before) {
             let Some(before) = *before else { continue };
-            (set.first..set.first + set.actions).for_each(|e| products[e + 1] = products[before] * factor(e));
+            (set.first..set.first + set.actions).for_each(|e| products[e + 1] = times(products[before], factor(e)));
         }
         products
     }
 
-    /// From all D parts on each move to one.
-    fn scaled(mut self) -> Self {
-        let scales = self.products(|_| i128::from(self.d));
-        self.gains.iter_mut().zip(scales).for_each(|(gain, scale)| *gain = evenly(*gain, scale));
-        self
-    }
-
-    /// What a rival is worth to the seat: a valid table with the others' entries. No part is above D, so no sum leaves what `Played::new` checks.
-    pub fn worth(&self, rival: &[u8]) -> i128 {
-        assert!(self.tree.adds_up(rival, self.d));
-        let parts = self.products(|e| i128::from(rival[e]));
-        self.gains.iter().zip(parts).map(|(gain, parts)| gain * parts).sum()
+    /// What a rival is worth to the seat.
+    pub fn worth<T: Part>(&self, rival: &[T]) -> i128 {
+        assert!(self.grain.has(rival));
+        let parts = self.products(|e| i128::from(rival[e].into()));
+        let terms = self.gains.iter().zip(parts).map(|(&gain, parts)| times(gain, parts));
+        terms.fold(0, |sum: i128, term| sum.checked_add(term).expect("the sum is within i128"))
     }
 }
 

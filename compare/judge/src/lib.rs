@@ -4,6 +4,7 @@
 pub mod answer;
 pub mod calls;
 pub mod exact;
+pub mod finer;
 pub mod floats;
 pub mod floats_lists;
 pub mod kuhn;

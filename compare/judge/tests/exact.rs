@@ -1,10 +1,11 @@
-//! The reference in whole units: document 01's cases k and l and its counts, the unchanged Rust's f64 NashConv, and rivals.
+//! The reference in whole units: document 01's cases k and l and its counts, the unchanged Rust's f64 NashConv, and rivals of D parts and of others.
 
 mod common;
 
 use common::COUNTS;
-use judge::exact::{kuhn, leduc, probabilities, Node, Played, Tree};
-use judge::parts::{pure_rival, rival, table, Kind, CASE_K, CASE_L, KINDS};
+use judge::exact::{kuhn, leduc, probabilities, Best, Node, Played, Tree};
+use judge::finer::Answered;
+use judge::parts::{equilibrium, pure_rival, rival, table, Kind, CASE_K, CASE_L, KINDS};
 use judge::EventNumber;
 use random::Random;
 use reinfors_core::best_response::nash_conv;
@@ -65,6 +66,12 @@ fn longest(tree: &Tree, node: usize) -> (i128, u32) {
             (fans, moves + 1)
         }
     }
+}
+
+#[test]
+fn largest_payoffs() {
+    let largest: Vec<i128> = (2..=6).map(kuhn).chain([leduc()]).map(|tree| tree.largest_payoff).collect();
+    assert_eq!(largest, [2, 4, 6, 8, 10, 13]);
 }
 
 #[test]
@@ -171,6 +178,170 @@ fn ties_go_to_the_lowest_action() {
     for (number, set) in kuhn(2).sets.iter().enumerate().filter(|(_, set)| set.seat == 1) {
         if set.members.iter().all(|&member| units[member] == 0) {
             assert_eq!(kuhn(2).part(&played.best(1).reply, number), [1, 0]);
+        }
+    }
+}
+
+fn wide(table: &[u8]) -> Vec<u64> {
+    table.iter().map(|&part| u64::from(part)).collect()
+}
+
+/// E^m.
+fn scale(tree: &Tree, e: u64) -> i128 {
+    i128::from(e).pow(tree.moves)
+}
+
+/// A table with the same parts in each of a seat's sets, all of two actions.
+fn with_parts(tree: &Tree, table: &[u8], seat: usize, parts: [u64; 2]) -> Vec<u64> {
+    let mut list = wide(table);
+    for set in tree.sets.iter().filter(|set| set.seat == seat) {
+        list[set.first..][..2].copy_from_slice(&parts);
+    }
+    list
+}
+
+#[test]
+fn case_k_against_ten_parts() {
+    let played = Played::new(kuhn(2), 1, &CASE_K);
+    let grain = played.grain(0, 10).expect("within i128");
+    let even = with_parts(kuhn(2), &CASE_K, 0, [5, 5]);
+    assert_eq!(grain.units_of_nodes(&even)[0], 6_000);
+    assert_eq!(grain.worth(&even), 3_000);
+    for (e, worth) in [(1, 6), (2, 48), (10, 6_000)] {
+        let grain = played.grain(0, e).expect("within i128");
+        assert_eq!(grain.worth(&grain.copy(&played.best(0).reply)), worth);
+    }
+}
+
+#[test]
+fn case_l_with_ten_parts() {
+    let played = Played::new(kuhn(2), 3, &CASE_L);
+    let grain = played.grain(0, 10).expect("within i128");
+    let copy = grain.copy(&played.best(0).reply);
+    assert_eq!(copy.iter().filter(|&&part| part == 10).count(), 6);
+    assert_eq!(grain.worth(&copy), -9_000);
+}
+
+/// The largest E that i128 holds with the most parts in the table.
+#[test]
+fn the_largest_grains() {
+    let mut random = Random::new(9);
+    for (tree, e) in [(kuhn(6), 69), (leduc(), 374)] {
+        let (seat, d) = (tree.seats - 1, tree.most_parts);
+        let table = table(tree, d, Kind::Mixed, &mut random);
+        let played = Played::new(tree, d, &table);
+        assert!(played.grain(seat, e + 1).is_none());
+        let grain = played.grain(seat, e).expect("within i128");
+        let best = played.best(seat);
+        assert_eq!(grain.worth(&grain.copy(&best.reply)), scale(tree, e) * best.value);
+        let rival = rival(tree, &wide(&table), seat, e, Kind::Mixed, &mut random);
+        let worth = grain.worth(&rival);
+        assert!(worth <= scale(tree, e) * best.value);
+        assert_eq!(played.sequences(seat).finer(e).expect("within i128").worth(&rival), worth);
+    }
+}
+
+/// Parts that do not add up to E in the seat's sets or that are not the table's in the others' are no rival's.
+#[test]
+fn what_no_finer_rival_is() {
+    let tree = kuhn(2);
+    let played = Played::new(tree, 1, &CASE_K);
+    for e in [1, 2, 7, 1_000] {
+        let grain = played.grain(0, e).expect("within i128");
+        let bets = with_parts(tree, &CASE_K, 0, [0, e]);
+        assert!(grain.has(&bets));
+        assert!(!grain.has(&bets[1..]) && !grain.has(&[&bets[..], &[0]].concat()));
+        for (number, set) in tree.sets.iter().enumerate() {
+            let [first, last] = [bets[set.first], bets[set.first + 1]];
+            let one_less = if last > 0 { [first, last - 1] } else { [first - 1, last] };
+            // The last one adds up to E for who counts in 64 bits.
+            for parts in [one_less, [first + 1, last], [0, 0], [9, 0], [u64::MAX - e + 1, 2 * e]] {
+                let mut other = bets.clone();
+                other[set.first..][..2].copy_from_slice(&parts);
+                assert!(!grain.has(&other), "{parts:?} in set {number} with {e} parts");
+            }
+            let mut other = bets.clone();
+            other[set.first..][..2].copy_from_slice(&[last, first]);
+            assert_eq!(grain.has(&other), set.seat == 0, "the parts of set {number} exchanged");
+        }
+    }
+    // Seat 0 bets all cards, and seat 1 is made to call with card 0, in set 9: more than any reply gains, which is 6.
+    let mut called = with_parts(tree, &CASE_K, 0, [0, 1]);
+    called[2 * 9..][..2].copy_from_slice(&[0, 1]);
+    let table: Vec<u8> = called.iter().map(|&part| part as u8).collect();
+    assert_eq!(Played::new(tree, 1, &table).worths()[0], 8);
+    assert!(!played.grain(0, 1).expect("within i128").has(&called));
+}
+
+/// A rival with D parts is worth D^m times what it is as a table.
+#[test]
+fn grain_d_is_the_tables() {
+    let mut random = Random::new(5);
+    for tree in [kuhn(2), kuhn(3), kuhn(4), leduc()] {
+        for (d, kind) in [1, 2, 3, 10].into_iter().zip(KINDS) {
+            let table = table(tree, d, kind, &mut random);
+            let played = Played::new(tree, d, &table);
+            for seat in 0..tree.seats {
+                let rival = rival(tree, &table, seat, d, Kind::Mixed, &mut random);
+                let worth = Played::new(tree, d, &rival).worths()[seat];
+                assert_eq!(played.grain(seat, d).expect("within i128").worth(&rival), scale(tree, d) * worth);
+            }
+        }
+    }
+}
+
+/// Holds each seat's reply to so many finer rivals. NashConv, which is answered, is 0 exactly if no seat has one that is worth more than its own entries.
+fn held(played: &Played, rivals: usize, whole: usize, random: &mut Random) -> i128 {
+    let (mut nash_conv, mut gains) = (0, false);
+    for (seat, &worth) in played.worths()[..played.tree.seats].iter().enumerate() {
+        let Best { value, reply } = played.best(seat);
+        let answered = Answered { sequences: played.sequences(seat), worth, best: value, reply: &reply };
+        gains |= answered.held(rivals, whole, random).gains;
+        nash_conv += value - worth;
+    }
+    assert_eq!(nash_conv == 0, !gains);
+    nash_conv
+}
+
+#[test]
+fn no_finer_rival_is_worth_more() {
+    let mut random = Random::new(6);
+    for (tree, whole) in [(kuhn(2), 50), (kuhn(3), 18), (kuhn(4), 3), (leduc(), 3)] {
+        for (d, kind) in ds(tree).into_iter().flat_map(|d| KINDS.map(|kind| (d, kind))) {
+            let table = table(tree, d, kind, &mut random);
+            held(&Played::new(tree, d, &table), 200, whole, &mut random);
+        }
+    }
+}
+
+#[test]
+fn no_finer_rival_of_the_large_games_is_worth_more() {
+    let mut random = Random::new(7);
+    for (tree, d, kind) in [(kuhn(5), 16, Kind::Mixed), (kuhn(5), 3, Kind::Sparse), (kuhn(6), 16, Kind::Mixed)] {
+        let table = table(tree, d, kind, &mut random);
+        held(&Played::new(tree, d, &table), 200, 1, &mut random);
+    }
+}
+
+/// Case l among them. A part moved in one set, and most have a finer rival that is worth more.
+#[test]
+fn no_finer_rival_beats_an_equilibrium() {
+    let (tree, mut random) = (kuhn(2), Random::new(8));
+    assert_eq!(equilibrium(1, 0), CASE_L);
+    for thirds in [1, 2, 5, 21] {
+        for bets in 0..=thirds {
+            let (d, table) = (3 * u64::from(thirds), equilibrium(thirds, bets));
+            let mut nash_conv = |table: &[u8], rivals| held(&Played::new(tree, d, table), rivals, 6, &mut random);
+            assert_eq!(nash_conv(&table, 200), 0);
+            let moved = tree.sets.iter().map(|set| {
+                let mut other = table.clone();
+                let part = &mut other[set.first..][..2];
+                let from = usize::from(part[0] == 0);
+                part[from] -= 1;
+                part[1 - from] += 1;
+                nash_conv(&other, 6)
+            });
+            assert!(moved.filter(|&nash_conv| nash_conv > 0).count() >= 6);
         }
     }
 }

@@ -1,4 +1,5 @@
-//! The calls in whole units: random tables of each game, rivals of their seats, and calls that are refused, held to the reference.
+//! The calls in whole units: random tables of each game, rivals of their seats, of D parts and of other grains, and calls that are refused, held to the
+//! reference.
 
 use crate::game::Game;
 use crate::number::{fewer, more, number_but, other_length};
@@ -6,13 +7,17 @@ use crate::Counts;
 use chukkanalli::archive::{self, best_reply, nash_conv_units, worths};
 use host::memory::Memory;
 use host::stack::stack_of;
-use judge::exact::{Played, Sequences};
-use judge::parts::{mixed_rival, near, pure_rival, rival, table, Kind, KINDS};
+use judge::exact::{Played, Sequences, SEATS};
+use judge::finer::{Answered, Held, GRAINS};
+use judge::parts::{equilibrium, mixed_rival, near, pure_rival, rival, table, Kind, KINDS};
 use judge::units::Call;
 use random::Random;
 
 /// The mixed rivals of each game and seat, at least.
 const LEAST_MIXED: usize = 10_000;
+
+/// The finer rivals of each table and seat.
+const FINER: usize = 200;
 
 /// A game, and how much of it is compared.
 struct Plan {
@@ -20,19 +25,21 @@ struct Plan {
     tables: usize,
     /// The rivals of each kind for each table and seat.
     rivals: usize,
+    /// The finer rivals of each table and seat that are weighed whole too.
+    whole: usize,
     /// The calls refused with each number.
     refused: usize,
 }
 
 pub fn compare(random: &mut Random) {
-    let plan = |game, tables, rivals, refused| Plan { game, tables, rivals, refused };
+    let plan = |game, tables, rivals, whole, refused| Plan { game, tables, rivals, whole, refused };
     let plans = [
-        plan(Game::kuhn(2), 2_400, 6, 100),
-        plan(Game::kuhn(3), 480, 30, 100),
-        plan(Game::kuhn(4), 48, 300, 20),
-        plan(Game::kuhn(5), 24, 600, 2),
-        plan(Game::kuhn(6), 6, 2_400, 1),
-        plan(Game::leduc(), 48, 300, 20),
+        plan(Game::kuhn(2), 2_400, 6, FINER, 100),
+        plan(Game::kuhn(3), 480, 30, 50, 100),
+        plan(Game::kuhn(4), 48, 300, 18, 20),
+        plan(Game::kuhn(5), 24, 600, 3, 2),
+        plan(Game::kuhn(6), 6, 2_400, 1, 1),
+        plan(Game::leduc(), 48, 300, 18, 20),
     ];
     let mut counts = Counts::new();
     for plan in &plans {
@@ -43,6 +50,7 @@ pub fn compare(random: &mut Random) {
         assert!(rivals.iter().all(|rivals| rivals.mixed >= LEAST_MIXED), "{}: too few mixed rivals", plan.game.name);
     }
     pure_rivals(random);
+    equilibria(&mut counts, random);
     println!("units: at most {} bytes of stack", plans.iter().map(Plan::stack).max().expect("six games"));
     counts.print();
 }
@@ -54,12 +62,20 @@ struct Rivals {
     pure: usize,
     near: usize,
     whole: usize,
+    finer: [usize; GRAINS.len()],
+    finer_whole: usize,
 }
 
 impl Rivals {
     fn print(&self, seat: usize) {
-        let Rivals { mixed, pure, near, whole } = self;
+        let Rivals { mixed, pure, near, whole, finer, finer_whole } = self;
         println!("  seat {seat}: {mixed} mixed rivals, {pure} pure ones and {near} near the reply are not better; {whole} are weighed whole too");
+        println!("    nor are {finer:?} with {GRAINS:?} parts; {finer_whole} are weighed whole too");
+    }
+
+    fn add_finer(&mut self, held: &Held) {
+        self.finer.iter_mut().zip(held.rivals).for_each(|(finer, more)| *finer += more);
+        self.finer_whole += held.whole;
     }
 }
 
@@ -84,7 +100,7 @@ impl Asked {
         memory
     }
 
-    fn worths(&self, counts: &mut Counts, random: &mut Random) {
+    fn worths(&self, counts: &mut Counts, random: &mut Random) -> [i64; SEATS] {
         let Call { game, seats, d, table, .. } = &self.call;
         let mut memory = self.memory(random);
         let ours = worths(*game, *seats, &mut memory.work, *d, table);
@@ -93,6 +109,7 @@ impl Asked {
         assert_eq!(ours, expected, "the worths of {:?}", self.call);
         self.left(ours.refusal, 0, &memory);
         counts.count(ours.refusal);
+        ours.worths
     }
 
     fn best_reply(&self, counts: &mut Counts, random: &mut Random) {
@@ -108,7 +125,7 @@ impl Asked {
         counts.count(ours.refusal);
     }
 
-    fn nash_conv(&self, counts: &mut Counts, random: &mut Random) {
+    fn nash_conv(&self, counts: &mut Counts, random: &mut Random) -> u64 {
         let Call { game, seats, d, table, .. } = &self.call;
         let mut memory = self.memory(random);
         let ours = nash_conv_units(*game, *seats, &mut memory.work, *d, table);
@@ -118,6 +135,7 @@ impl Asked {
         assert_eq!(ours, expected, "NashConv of {:?}", self.call);
         self.left(ours.refusal, 0, &memory);
         counts.count(ours.refusal);
+        ours.nash_conv
     }
 
     /// A refused call leaves all of both; an accepted one the words past its share and the output past what it wrote.
@@ -148,18 +166,26 @@ impl Plan {
         for number in 0..self.tables {
             // 24 tables have each kind with each D; fewer have another kind and another D in turn, the first mixed with the largest D.
             let number = if self.tables < 24 { number * 5 + 1 } else { number };
-            let mut asked = Asked { call: self.some_call(number, random), seat: 0, room: 0 };
-            asked.worths(counts, random);
-            asked.nash_conv(counts, random);
-            for (seat, rivals) in rivals.iter_mut().enumerate() {
-                asked.seat = seat as u64;
-                asked.room = self.game.tree.entries as u64 + more(random);
-                asked.best_reply(counts, random);
-                self.replied(&asked.call, seat, random);
-                self.rivals(&asked.call, seat, rivals, random);
-            }
+            self.one_table(self.some_call(number, random), &mut rivals, counts, random);
         }
         rivals
+    }
+
+    /// All calls on a table. NashConv, which is answered, is 0 exactly if no seat has a finer rival that is worth more than its own entries.
+    fn one_table(&self, call: Call, rivals: &mut [Rivals], counts: &mut Counts, random: &mut Random) -> u64 {
+        let mut asked = Asked { call, seat: 0, room: 0 };
+        let worths = asked.worths(counts, random);
+        let nash_conv = asked.nash_conv(counts, random);
+        let mut gains = false;
+        for (seat, rivals) in rivals.iter_mut().enumerate() {
+            asked.seat = seat as u64;
+            asked.room = self.game.tree.entries as u64 + more(random);
+            asked.best_reply(counts, random);
+            self.replied(&asked.call, seat, random);
+            gains |= self.rivals(&asked.call, seat, worths[seat], rivals, random);
+        }
+        assert_eq!(nash_conv == 0, !gains, "NashConv {nash_conv} of {:?}", asked.call);
+        nash_conv
     }
 
     /// The best value of a table, by the archive, and the reply.
@@ -188,8 +214,8 @@ impl Plan {
         assert_eq!(self.best(&Call { table: other, ..call.clone() }, seat), (value, reply), "a rival of {call:?}");
     }
 
-    /// No rival is worth more than the best value.
-    fn rivals(&self, call: &Call, seat: usize, rivals: &mut Rivals, random: &mut Random) {
+    /// No rival is worth more than the best value. Answers whether a finer one is worth more than the table is to the seat.
+    fn rivals(&self, call: &Call, seat: usize, worth: i64, rivals: &mut Rivals, random: &mut Random) -> bool {
         let tree = self.game.tree;
         let Call { d, table, .. } = call;
         let (best, reply) = self.best(call, seat);
@@ -201,6 +227,11 @@ impl Plan {
         rivals.pure += weighed.not_better(|| rival(tree, table, seat, *d, Kind::Pure, random));
         rivals.near += weighed.not_better(|| near(tree, &reply, seat, *d, random));
         rivals.whole += 2;
+        let sequences = weighed.sequences;
+        let answered = Answered { sequences, worth: i128::from(worth), best: i128::from(best), reply: &reply };
+        let held = answered.held(FINER, self.whole, random);
+        rivals.add_finer(&held);
+        held.gains
     }
 
     /// Each of the numbers 1 to 9 so many times. Answers how many calls there were.
@@ -301,7 +332,7 @@ impl Weighed<'_> {
 
 /// All 64 pure rivals of each seat of some tables of Kuhn 2: the best of them is the best value.
 fn pure_rivals(random: &mut Random) {
-    let plan = Plan { game: Game::kuhn(2), tables: 240, rivals: 0, refused: 0 };
+    let plan = Plan { game: Game::kuhn(2), tables: 240, rivals: 0, whole: 0, refused: 0 };
     for number in 0..plan.tables {
         let call = plan.some_call(number, random);
         for seat in 0..2 {
@@ -311,4 +342,16 @@ fn pure_rivals(random: &mut Random) {
         }
     }
     println!("units, Kuhn 2: of {} tables all 64 pure rivals of each seat; the best is the best value", plan.tables);
+}
+
+/// Kuhn's equilibria of two seats: NashConv is 0, and no finer rival is worth more than a seat's own entries.
+fn equilibria(counts: &mut Counts, random: &mut Random) {
+    let plan = Plan { game: Game::kuhn(2), tables: 0, rivals: 6, whole: FINER, refused: 0 };
+    let mut rivals = vec![Rivals::default(); 2];
+    for (thirds, bets) in (1..=21).flat_map(|thirds| (0..=thirds).map(move |bets| (thirds, bets))) {
+        let call = Call::of(plan.game.number, plan.game.tree, 3 * u64::from(thirds), equilibrium(thirds, bets));
+        assert_eq!(plan.one_table(call, &mut rivals, counts, random), 0, "{bets} of {thirds} parts");
+    }
+    println!("units, Kuhn 2: NashConv of its equilibria is 0, and no rival beats one");
+    rivals.iter().enumerate().for_each(|(seat, rivals)| rivals.print(seat));
 }
