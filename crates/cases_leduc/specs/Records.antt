@@ -1,5 +1,5 @@
--- Records of Leduc's listing (document 01, "The tree and its sets"): seat, key length, key in 13 bytes, public card, cards in 6 bytes, legal
--- count, 0. Proved in proofs/Records.antt.
+-- Records of Leduc's listing (document 01, "The tree and its sets"): seat, key length, key in 13 bytes, public card, cards in 6 bytes,
+-- legal count, 0. Proved in proofs/Records.antt.
 use mathlib.Core.Path.{_≡_}
 use mathlib.Core.List.{[], _∷_}
 use Prim.Native.Nat.{_*_}
