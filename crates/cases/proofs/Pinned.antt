@@ -1,16 +1,10 @@
 -- The values of specs/Pinned.antt, by computing; number 3 by the count of Kuhn 7's nodes. Assumes nothing.
-use mathlib.Core.Path.{_≡_, refl, ap, _∙_}
-use mathlib.Core.List.{List, [], _∷_}
-use Prim.Native.Nat.{ℕ, _*_}
-use native.Mathlib.Omega.{arith}
-use lib.Dec.{ltb}
+use mathlib.Core.Path.{_≡_, refl}
 use lib.Ieee as Ieee
-use lib.ListN.{take, drop}
 use borrow.Author.Tests.{lt-ltb}
 use Rattle.prelude.specs.Finite.{_&&_, _||_, some, every, sum, has, places, those}
 use Rattle.kuhn_rules.specs.Rules as KuhnRules
 use Rattle.kuhn_rules.specs.Reached as KuhnReached
-use Rattle.kuhn_rules.specs.Stakes as KuhnStakes
 use Rattle.kuhn_positions.specs.Positions as KuhnPositions
 use Rattle.kuhn.specs.Calls as KuhnCalls
 use Rattle.leduc_betting.specs.Betting as LeducBetting
@@ -26,18 +20,10 @@ use Rattle.game_tree.specs.Table as Table
 use Rattle.game_tree_f64.specs.Values as Values
 use Rattle.kuhn_tree.specs.Tree as KuhnTree
 use Rattle.kuhn_tree.proofs.Facts.{too-large}
-use Rattle.leduc_tree.specs.Tree.{start, next, fuel}
-use Rattle.leduc_tree.specs.Turns.{turns, isFirst, joined}
-use Rattle.listing_records.specs.Listing.{bytesOf, padded}
-use Rattle.leduc_listing.specs.internal.Walk.{recordsOf}
-use Rattle.leduc_listing.proofs.Facts.{walked}
 use Rattle.games.specs.Games as Games
-use Rattle.games.specs.Games.{gameOf, treeOf}
-use Rattle.listing.specs.Calls.{listingOf}
-use Rattle.listing.proofs.Facts.{by-number}
 use Rattle.f64_games.specs.Values as GameValues
 use Rattle.cases.specs.Cases.{Agree}
-use Rattle.cases.specs.Pinned.{payments, refusals, Seven-seats, Kuhn-moves, Leduc-moves, Leduc-records, Uniform-bits}
+use Rattle.cases.specs.Pinned.{payments, refusals, Game-two, Seven-seats, Kuhn-moves, Leduc-moves, Uniform-bits}
 
 pub payments-agree : Agree payments
 unfolding _&&_ _||_ some every has those LeducBetting.ends-with LeducBetting.folded LeducBetting.closes LeducBetting.open-round LeducBetting.behind
@@ -69,27 +55,13 @@ unfolding _&&_ _||_ some every has those LeducBetting.ends-with LeducBetting.fol
     LeducCalls.deal-refusal LeducCalls.step-refusal LeducBetting.counted
 leduc-moves = (refl, refl, refl)
 
--- ---- number 3
+-- ---- numbers 1 and 3
+pub game-two : Game-two
+game-two memory D table = refl
+
 pub seven-seats : Seven-seats
-unfolding _||_ treeOf
+unfolding _||_ Games.treeOf
 seven-seats memory D table = rw (lt-ltb 4000000 _ (too-large 1 1 .1))
-
--- ---- records, by the walk that writes the listing
-by-walk : listingOf (gameOf 1 2) ≡ recordsOf (turns fuel (next start) start)
-by-walk = by-number .leduc ∙ walked
-
-third : take 24 (drop 48 (recordsOf (turns fuel (next start) start))) ≡ 0 ∷ 7 ∷ 0 ∷ 0 ∷ 2 ∷ 2 ∷ 1 ∷ 1 ∷ 0 ∷ 0 ∷ 0 ∷ 0 ∷ 0 ∷ 0 ∷ 0 ∷ 2 ∷ 0 ∷ 1 ∷ 0 ∷ 0 ∷ 0 ∷ 0 ∷ 2 ∷ 0 ∷ []
-unfolding recordsOf turns next joined isFirst bytesOf padded _&&_ _||_ some those has LeducBetting.ends-with LeducBetting.folded LeducBetting.closes LeducBetting.behind LeducBetting.raises LeducBetting.may
-    LeducBetting.options LeducBetting.in-play LeducBetting.turn LeducBetting.ended LeducCards.left LeducCards.remaining LeducRules.public-due LeducRules.due LeducRules.key
-third = refl
-
-last : drop (24 * 935) (recordsOf (turns fuel (next start) start)) ≡ 0 ∷ 10 ∷ 0 ∷ 5 ∷ 0 ∷ 3 ∷ 2 ∷ 2 ∷ 1 ∷ 2 ∷ 2 ∷ 2 ∷ 0 ∷ 0 ∷ 0 ∷ 0 ∷ 5 ∷ 1 ∷ 0 ∷ 0 ∷ 0 ∷ 0 ∷ 2 ∷ 0 ∷ []
-unfolding recordsOf turns next joined isFirst bytesOf padded _&&_ _||_ some those has LeducBetting.ends-with LeducBetting.folded LeducBetting.closes LeducBetting.behind LeducBetting.raises LeducBetting.may
-    LeducBetting.options LeducBetting.in-play LeducBetting.turn LeducBetting.ended LeducCards.left LeducCards.remaining LeducRules.public-due LeducRules.due LeducRules.key
-last = refl
-
-pub leduc-records : Leduc-records
-leduc-records = (ap (λ l. take 24 (drop 48 l)) by-walk ∙ third, ap (drop (24 * 935)) by-walk ∙ last)
 
 -- ---- bits
 pub uniform-bits : Uniform-bits

@@ -1,17 +1,16 @@
 -- Values that the worked cases leave open, computed from the definitions: payoffs of each round's raise, ranks, a refusal for each
--- number, moves, records of the listing, bits. Proved in proofs/Pinned.antt.
+-- number, moves, bits. Proved in proofs/Pinned.antt.
 use mathlib.Core.Path.{_≡_}
 use mathlib.Core.List.{List, [], _∷_, _++_}
-use Prim.Native.Nat.{ℕ, _*_}
+use Prim.Native.Nat.{ℕ}
 use lib.Ieee.{Float, binary64, ofBits, toBits}
-use lib.ListN.{take, drop, replicate}
+use lib.ListN.{take, replicate}
 use Rattle.kuhn_rules.specs.Rules.{PASS, BET}
 use Rattle.kuhn.specs.Calls as Kuhn
 use Rattle.leduc_betting.specs.Betting.{FOLD, CALL, RAISE}
 use Rattle.leduc_betting.specs.declared.Public.the-variants.{Hidden, Card}
 use Rattle.leduc.specs.Calls as Leduc
 use Rattle.games.specs.Games.{gameOf}
-use Rattle.listing.specs.Calls.{listingOf}
 use Rattle.f64_games.specs.Values.{nashConvOf, exploitabilityOf}
 use Rattle.tree_refusals.specs.Checks.{evaluation-refusal, reply-refusal}
 use Rattle.cases.specs.Cases.{Case, case, refusal, plus, minus, bytes, kuhn2, kuhn-at, leduc-at, leduc-payoffs, paid-in}
@@ -37,12 +36,11 @@ payments =
     ∷ case "2 and 4, 3 public" (leduc-payoffs (leduc-at (2 ∷ 4 ∷ []) (Card 3) called called)) (plus 1 ∷ minus 1 ∷ [])
     ∷ []
 
--- ---- a refusal for each number but 3, which is Seven-seats
+-- ---- a refusal for each number; 1 and 3 come whatever the table
 
 abbrev pub refusals : List Case
 refusals =
-    case "1" (refusal (evaluation-refusal (gameOf 2 2) room 1 passes)) (refusal 1)
-    ∷ case "2" (refusal (Kuhn.start-refusal (record { players = 11 }))) (refusal 2)
+    case "2" (refusal (Kuhn.start-refusal (record { players = 11 }))) (refusal 2)
     ∷ case "4" (refusal (evaluation-refusal kuhn2-tables 695 1 passes)) (refusal 4)
     ∷ case "5" (refusal (refused 2 1 passes)) (refusal 5)
     ∷ case "6" (refusal (table-refusal 65 passes)) (refusal 6)
@@ -62,7 +60,11 @@ refusals =
     ∷ case "20" (refusal (Leduc.payoff-refusal (leduc-at (0 ∷ 5 ∷ []) Hidden (CALL ∷ []) []))) (refusal 20)
     ∷ []
 
--- 3: Kuhn with seven seats, whatever else
+-- 1: a game with the number 2
+abbrev pub Game-two : Type 0
+Game-two = (memory D : ℕ) (table : List ℕ) → evaluation-refusal (gameOf 2 2) memory D table ≡ 1
+
+-- 3: Kuhn with seven seats
 abbrev pub Seven-seats : Type 0
 Seven-seats = (memory D : ℕ) (table : List ℕ) → evaluation-refusal (gameOf 0 7) memory D table ≡ 3
 
@@ -81,14 +83,6 @@ Leduc-moves = (Leduc.dealt (leduc-at (0 ∷ 5 ∷ []) Hidden called []) 2
     ≡ record { refusal = 0; state = leduc-at (0 ∷ 5 ∷ []) (Card 3) called (RAISE ∷ []) })
     × (Leduc.stepped (leduc-at (0 ∷ 5 ∷ []) Hidden [] []) FOLD
     ≡ record { refusal = 0; state = leduc-at (0 ∷ 5 ∷ []) Hidden (CALL ∷ []) [] })
-
--- ---- Leduc's third and last records: seat, key length, key in 13 bytes, public card, cards in 6 bytes, legal count, 0
-
-abbrev pub Leduc-records : Type 0
-Leduc-records = (take 24 (drop 48 (listingOf (gameOf 1 2)))
-    ≡ 0 ∷ 7 ∷ 0 ∷ 0 ∷ 2 ∷ 2 ∷ 1 ∷ 1 ∷ 0 ∷ 0 ∷ 0 ∷ 0 ∷ 0 ∷ 0 ∷ 0 ∷ 2 ∷ 0 ∷ 1 ∷ 0 ∷ 0 ∷ 0 ∷ 0 ∷ 2 ∷ 0 ∷ [])
-    × (drop (24 * 935) (listingOf (gameOf 1 2))
-    ≡ 0 ∷ 10 ∷ 0 ∷ 5 ∷ 0 ∷ 3 ∷ 2 ∷ 2 ∷ 1 ∷ 2 ∷ 2 ∷ 2 ∷ 0 ∷ 0 ∷ 0 ∷ 0 ∷ 5 ∷ 1 ∷ 0 ∷ 0 ∷ 0 ∷ 0 ∷ 2 ∷ 0 ∷ [])
 
 -- ---- bits: Kuhn 2, every entry 0.5
 

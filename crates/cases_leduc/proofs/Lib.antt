@@ -1,3 +1,4 @@
 -- How these numbers are had.
 pub mod Rows
 pub mod Numbers
+pub mod Records

@@ -1,2 +1,3 @@
--- Leduc, always CALL: what it is worth.
+-- Leduc: what a table is worth, and records of its listing.
 pub mod Numbers
+pub mod Records
