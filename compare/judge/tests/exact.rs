@@ -226,7 +226,8 @@ fn case_l_with_ten_parts() {
 #[test]
 fn the_largest_grains() {
     let mut random = Random::new(9);
-    for (tree, e) in [(kuhn(6), 69), (leduc(), 374)] {
+    let largest = [37_817_785_460, 277_669, 1_766, 422, 69, 374];
+    for (tree, e) in (2..=6).map(kuhn).chain([leduc()]).zip(largest) {
         let (seat, d) = (tree.seats - 1, tree.most_parts);
         let table = table(tree, d, Kind::Mixed, &mut random);
         let played = Played::new(tree, d, &table);
@@ -251,6 +252,9 @@ fn what_no_finer_rival_is() {
         let bets = with_parts(tree, &CASE_K, 0, [0, e]);
         assert!(grain.has(&bets));
         assert!(!grain.has(&bets[1..]) && !grain.has(&[&bets[..], &[0]].concat()));
+        assert!(
+            !grain.has(&with_parts(tree, &CASE_K, 0, [0, e - 1])) && !grain.has(&with_parts(tree, &CASE_K, 0, [1, e]))
+        );
         for (number, set) in tree.sets.iter().enumerate() {
             let [first, last] = [bets[set.first], bets[set.first + 1]];
             let one_less = if last > 0 { [first, last - 1] } else { [first - 1, last] };
