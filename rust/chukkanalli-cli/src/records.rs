@@ -62,7 +62,7 @@ fn read(members: &HashMap<String, Json>) -> Option<Record> {
     }
     let number = if get("game")?.text()? == game_word(Game::Leduc) { 1 } else { 0 };
     let game = Game::by_number(number, get("seats")?.whole()?).ok()?;
-    let file = get("file")?.text()?.to_string();
+    let file = get("file").and_then(Json::text).filter(|text| prints(text))?.to_string();
     let outcome = match get("units")? {
         Json::Null => Err(faults(members)?),
         _ => Ok(ranked(members)?),
@@ -90,7 +90,8 @@ fn faults(members: &HashMap<String, Json>) -> Option<Faults> {
                 Json::Null => None,
                 line => Some(line.whole()?),
             };
-            Some(Fault { line, sentence: own.get("sentence")?.text()?.to_string() })
+            let sentence = own.get("sentence").and_then(Json::text).filter(|text| prints(text))?;
+            Some(Fault { line, sentence: sentence.to_string() })
         }
         _ => None,
     };
@@ -100,6 +101,12 @@ fn faults(members: &HashMap<String, Json>) -> Option<Faults> {
         number => Some(Refusal::from_number(number.whole()?)?),
     };
     Some(Faults::of_record(told?, members.get("more_faults")?.whole()?, refusal))
+}
+
+/// Whether all of a text prints, as in every text of a record.
+fn prints(text: &str) -> bool {
+    let shown = text.escape_debug().to_string();
+    shown.replace(r"\'", "'").replace(r#"\""#, "\"").replace(r"\\", r"\") == text
 }
 
 impl Json {
@@ -213,6 +220,16 @@ mod tests {
         });
         for odd in ["", "{", "[1,]", "[1 2]", "{\"a\"}", "\"a", "\"\\x\"", "nul", "[1]]", &"[".repeat(1000)] {
             assert_eq!(parsed(odd), None, "{odd}");
+        }
+    }
+
+    #[test]
+    fn texts_of_a_record_print() {
+        for text in ["a b", r"a\\b \xff", "it's \"é\"", "e\u{301}"] {
+            assert!(prints(text), "{text:?}");
+        }
+        for text in ["a\u{1b}[2J", "a\nb", "\u{202e}a"] {
+            assert!(!prints(text), "{text:?}");
         }
     }
 

@@ -218,7 +218,7 @@ fn machine_figures<'a>(
             ("adds", Value::from(switch.adds)),
             ("adds_fraction", Value::Fraction(Fraction::of_sum(switch.adds, answer.conv.units).to_string())),
             ("mark", Value::from(mark_name(switch.mark))),
-            ("words", gains.then(|| Value::text(sentence(labels, d, answer, switch))).unwrap_or(Value::None)),
+            ("words", if gains { Value::text(sentence(labels, d, answer, switch)) } else { Value::None }),
         ]
     };
     let sets = answer.seats.iter().flat_map(|own| shown(own, options).iter().map(move |switch| told(own, switch)));

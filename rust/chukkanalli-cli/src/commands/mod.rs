@@ -4,11 +4,13 @@ mod batch;
 mod evaluate;
 mod explain;
 mod floats;
+mod from_json;
 mod game;
 mod headings;
 mod improve;
 mod ladder;
 mod reply;
+mod standing;
 mod table;
 mod template;
 
