@@ -103,7 +103,7 @@ two = treeOf kuhn2-tables
 
 added-up : (length mixes ≡ entries two) × (addUpBy (allBut 0 10 1) (sets two) mixes ≡ true) × (keepsIn 0 (seatsOf (sets two)) passes mixes ≡ true)
     × (length settled ≡ entries two) × (addUp 3 (setActions two) settled ≡ true)
-unfolding addUpBy addUp keepsIn seatsOf sets entriesOf sumℕ treeOf Kuhn.kuhnTree Kuhn.below Kuhn.next Kuhn.each and or some every those has bet-made
+unfolding addUpBy addUp keepsIn seatsOf sets entriesOf sumℕ treeOf Kuhn.kuhnTree Kuhn.below Kuhn.next Kuhn.each _&&_ _||_ some every those has bet-made
     after-bet ended left remaining legal
 added-up = (refl, refl, refl, refl, refl)
 
@@ -112,7 +112,7 @@ numbers : (finer 1 10 mixes 0 ≡ pos 3000) × (finer 1 1 bluffs 0 ≡ pos 6) ×
     × (finerReply two 3 (rootUnits kuhn2-tables 3) 10 settled 0 ≡ tens) × (tableBest two 3 (rootUnits kuhn2-tables 3) settled 0 ≡ negℤ (pos 9))
     × (nashConv two 3 (rootUnits kuhn2-tables 3) settled 2 ≡ pos 0)
 unfolding finerWorth tableWorth tableBest nashConv strategyOf laidOut replyTree pure best sum withKey value highest _·_ sets sumℕ before entriesOf
-    treeOf Kuhn.C Kuhn.kuhnTree Kuhn.below Kuhn.next Kuhn.each and or some those has bet-made after-bet ended left remaining legal every Finite.sum
+    treeOf Kuhn.C Kuhn.kuhnTree Kuhn.below Kuhn.next Kuhn.each _&&_ _||_ some those has bet-made after-bet ended left remaining legal every Finite.sum
     bets stands contribution wins paid-by-others payoff
 numbers = (refl, refl, refl, refl, refl, refl, refl, refl)
 
@@ -123,7 +123,7 @@ pub finer-tried : FinerTried
 finer-tried = (mixes-rival, numbers .3, numbers .0, kuhn-tried .1 .finer 10 mixes (omega arith) mixes-rival)
 
 settled-accepted : AcceptedTable kuhn2-tables 3 settled
-unfolding or dealNodes
+unfolding _||_ dealNodes
 settled-accepted = record {
   game = record { known = omega arith; seats = refl; small = omega arith };
   least = omega arith;
