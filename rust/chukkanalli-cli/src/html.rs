@@ -158,6 +158,7 @@ th, td { text-align: left; vertical-align: top; padding: 0.3em 0.6em; font-weigh
 thead th { font-weight: bold; border-bottom: 2px solid #111; }
 tbody { border-bottom: 1px solid #777; }
 tbody th { min-width: 10em; overflow-wrap: anywhere; }
+tbody td { white-space: nowrap; }
 .n { text-align: right; font-variant-numeric: tabular-nums; }
 .bar { display: block; height: 0.5em; border: 1px solid #555; }
 .bar span { display: block; height: 100%; background: #555; print-color-adjust: exact; -webkit-print-color-adjust: exact; }
