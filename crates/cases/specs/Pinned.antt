@@ -2,7 +2,7 @@
 -- number, moves, bits. Proved in proofs/Pinned.antt.
 use mathlib.Core.Path.{_≡_}
 use mathlib.Core.List.{List, [], _∷_, _++_}
-use Prim.Native.Nat.{ℕ}
+use Prim.Native.Nat.{ℕ, _*_, _≤_}
 use lib.Ieee.{Float, binary64, ofBits, toBits}
 use lib.ListN.{take, replicate}
 use Rattle.kuhn_rules.specs.Rules.{PASS, BET}
@@ -10,9 +10,13 @@ use Rattle.kuhn.specs.Calls as Kuhn
 use Rattle.leduc_betting.specs.Betting.{FOLD, CALL, RAISE}
 use Rattle.leduc_betting.specs.declared.Public.the-variants.{Hidden, Card}
 use Rattle.leduc.specs.Calls as Leduc
-use Rattle.games.specs.Games.{gameOf}
+use Rattle.refusals.specs.Refusals.{first}
+use Rattle.game_tree.specs.Sets.{size}
+use Rattle.games.specs.Games.{gameOf, treeOf, mostParts}
+use Rattle.trees_played.specs.Kuhn as Kuhn-played
+use Rattle.trees_played.specs.Leduc as Leduc-played
 use Rattle.f64_games.specs.Values.{nashConvOf, exploitabilityOf}
-use Rattle.tree_refusals.specs.Checks.{evaluation-refusal, reply-refusal}
+use Rattle.tree_refusals.specs.Checks.{tree-checks, evaluation-refusal, reply-refusal}
 use Rattle.cases.specs.Cases.{Case, case, refusal, plus, minus, bytes, kuhn2, kuhn-at, leduc-at, leduc-payoffs, paid-in}
 use Rattle.cases.specs.Cases.{kuhn2-tables, room, passes, table-refusal, refused}
 
@@ -67,6 +71,21 @@ Game-two = (memory D : ℕ) (table : List ℕ) → evaluation-refusal (gameOf 2 
 -- 3: Kuhn with seven seats
 abbrev pub Seven-seats : Type 0
 Seven-seats = (memory D : ℕ) (table : List ℕ) → evaluation-refusal (gameOf 0 7) memory D table ≡ 3
+
+-- of the games that document 01 evaluates, Kuhn with 2 to 6 seats and Leduc, none is refused for its tree
+abbrev pub Small-enough : Type 0
+Small-enough = ((n memory : ℕ) → 2 ≤ n → n ≤ 6 → 12 * size (treeOf (gameOf 0 n)) ≤ memory → first (tree-checks (gameOf 0 n) memory) ≡ 0)
+    × ((memory : ℕ) → 12 * size (treeOf (gameOf 1 2)) ≤ memory → first (tree-checks (gameOf 1 2) memory) ≡ 0)
+
+-- 6: the most parts of each
+abbrev pub Most-parts : Type 0
+Most-parts = (mostParts (gameOf 0 2) ≡ 64) × (mostParts (gameOf 0 3) ≡ 64) × (mostParts (gameOf 0 4) ≡ 64)
+    × (mostParts (gameOf 0 5) ≡ 16) × (mostParts (gameOf 0 6) ≡ 16) × (mostParts (gameOf 1 2) ≡ 64)
+
+-- ---- the trees that are evaluated are those that the calls on positions play
+
+abbrev pub Trees-evaluated : Type 0
+Trees-evaluated = ((n : ℕ) → treeOf (gameOf 0 n) ≡ Kuhn-played.tree (record { players = n })) × (treeOf (gameOf 1 2) ≡ Leduc-played.tree)
 
 -- ---- moves
 

@@ -13,6 +13,8 @@ ghost use mathlib.Core.Path.{_≡_};
 ghost use mathlib.Core.List.{[], _∷_};
 ghost use Prim.Native.Nat.{_≤_, _<_};
 ghost use lib.ListN.{length, take};
+ghost use Rattle.kuhn_rules.specs.Rules.{PASS, BET};
+ghost use Rattle.kuhn_rules.specs.Stakes.{ante, stake};
 ghost use Rattle.kuhn_positions.specs.Positions.{position-checks};
 ghost use Rattle.kuhn.specs.Calls.{start-refusal, started, deal-refusal, dealt, step-refusal, stepped, legal-of, legal-refusal};
 ghost use Rattle.kuhn.specs.Calls.{listed, key-of, key-refusal, keyed, written, payoff-refusal, paid, checked};
@@ -66,7 +68,7 @@ impl KuhnPoker {
 
     // Document 01's numbers, which the constants have: the game, actions, seats, places of a position, stakes.
     fn constants() -> [u64; 9]
-        ensures { λ r. ⌜ r ≡ 0 ∷ 0 ∷ 1 ∷ 2 ∷ 10 ∷ 10 ∷ 19 ∷ 1 ∷ 1 ∷ [] ⌝ }
+        ensures { λ r. ⌜ r ≡ 0 ∷ PASS ∷ BET ∷ 2 ∷ 10 ∷ 10 ∷ 19 ∷ ante ∷ stake ∷ [] ⌝ }
     {
         [
             Self::NUMBER as u64,

@@ -21,6 +21,8 @@ ghost use mathlib.Core.Path.{_≡_};
 ghost use mathlib.Core.List.{[], _∷_};
 ghost use lib.IntN.{pos};
 ghost use lib.ListN.{length, replicate};
+ghost use Rattle.leduc_betting.specs.Betting.{FOLD, CALL, RAISE};
+ghost use Rattle.leduc_rules.specs.Stakes.{ante, raise₁, raise₂};
 ghost use Rattle.leduc_positions.specs.Positions.{legal-of};
 ghost use Rattle.leduc.specs.Calls.{started, dealt, stepped, legal-refusal, listed, key-of, key-refusal, keyed, written, paid, checked};
 
@@ -74,7 +76,7 @@ impl LeducPoker {
 
     // Document 01's numbers, which the constants have: the game, actions, cards, raises a round, seats, actions a round, stakes.
     fn constants() -> [u64; 11]
-        ensures { λ r. ⌜ r ≡ 1 ∷ 0 ∷ 1 ∷ 2 ∷ 6 ∷ 2 ∷ 2 ∷ 4 ∷ 1 ∷ 2 ∷ 4 ∷ [] ⌝ }
+        ensures { λ r. ⌜ r ≡ 1 ∷ FOLD ∷ CALL ∷ RAISE ∷ 6 ∷ 2 ∷ 2 ∷ 4 ∷ ante ∷ raise₁ ∷ raise₂ ∷ [] ⌝ }
     {
         [
             Self::NUMBER as u64,
