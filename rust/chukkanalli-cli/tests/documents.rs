@@ -156,7 +156,7 @@ fn the_apis_proved_program_is_the_sample() {
     let blocks = blocks(&api, "rattle");
     let source = document("crates/sample/src/reply.rt");
     let words = |text: &str| text.split_whitespace().collect::<String>();
-    for call in ["worths::worths(Game::KUHN", "best_reply::best_reply(Game::KUHN"] {
+    for call in ["worths::worths(KuhnPoker::NUMBER", "best_reply::best_reply(KuhnPoker::NUMBER"] {
         assert!(blocks.concat().contains(call) && words(&source).contains(&words(call)), "{call}");
     }
 }
