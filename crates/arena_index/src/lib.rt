@@ -1,4 +1,6 @@
 // The index of a tree in work memory: each set gets its first entry, and its members are linked.
+#![tactic(auto)]
+
 ghost use Rattle.std.specs.Prelude.{◌≡◌, ◌≤◌, ◌<◌};
 ghost use Rattle.arena_index.specs.internal.Indexing.{Numbers, Links, Indexes, Met, pushed, linked};
 ghost use Rattle.arena.specs.internal.Words.{PLACES};

@@ -1,4 +1,6 @@
 // A game's tree with its index in work memory, by the game's number: the first step of every evaluation. Behind it stand the words that an evaluation keeps.
+#![tactic(auto)]
+
 ghost use Rattle.std.specs.Prelude.{◌≡◌, ◌*◌, ◌≤◌, length};
 ghost use Rattle.arena.specs.internal.Built.{Built};
 ghost use Rattle.games.specs.Games.{tree_of};
@@ -51,7 +53,7 @@ pub fn store(g: Game, words: &mut [u64])
 }
 
 // Where the words of a stored tree stand: the first members of its sets, then the units or the reach of each node, then the choice of each set.
-#[derive(Drop)]
+#[derive(Clone, Copy)]
 pub struct Places {
     pub heads: usize,
     pub reach: usize,

@@ -1,4 +1,6 @@
 // Ways over a stored tree that know nothing of what is added up on them.
+#![tactic(auto)]
+
 ghost use Rattle.std.specs.Prelude.{◌<◌};
 ghost use Rattle.arena_walks.specs.internal.Child.{Child};
 

@@ -4,7 +4,7 @@ ghost use Rattle.std.specs.Float.{inf};
 ghost use Rattle.std.specs.Float.Ieee.{lt};
 
 // Where a choice is: the action, and its sum.
-#[derive(Drop)]
+#[derive(Clone, Copy)]
 pub struct Lead {
     pub action: usize,
     pub sum: f64,

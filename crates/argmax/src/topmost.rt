@@ -2,7 +2,7 @@
 ghost use Rattle.std.specs.Prelude.{◌≡◌, cond, ltb};
 
 // Where a choice is: the action, and its sum.
-#[derive(Drop)]
+#[derive(Clone, Copy)]
 pub struct Top {
     pub action: usize,
     pub sum: u64,

@@ -1,4 +1,6 @@
 // The best value of a seat against a table, in whole units, and the reply that is worth it.
+#![tactic(auto)]
+
 ghost use Rattle.std.specs.Prelude.{◌≡◌, ◌*◌, ◌≤◌, ◌<◌, length};
 ghost use Rattle.std.proofs.lemmas.List.Edits.{sets};
 ghost use Rattle.game_tree.specs.Table.{table_best, reply_table};
@@ -14,7 +16,7 @@ use games::Game;
 
 // A call's refusal number, 0 if it was accepted, and the best value, 0 if it was refused. C has it as it is.
 #[repr(C)]
-#[derive(Drop)]
+#[derive(Clone, Copy)]
 pub struct ReplyAnswer {
     pub refusal: u64,
     pub value: i64,

@@ -1,4 +1,6 @@
 // The f64 values of a profile, under the Rust's names: best response values, worths, NashConv and exploitability.
+#![tactic(auto)]
+
 ghost use Rattle.std.specs.Prelude.{◌≡◌, ◌*◌, ◌≤◌, length};
 ghost use Rattle.games.specs.Games.{game_of};
 ghost use Rattle.games.specs.Facts.{nodes_of};
@@ -14,7 +16,7 @@ ghost use Rattle.best_response.specs.internal.Asked.{checks_of, PassedOf, SeatOf
 use games::Game;
 
 // What a call asks of a profile.
-#[derive(Drop)]
+#[derive(Clone, Copy)]
 pub enum Asked {
     Best(usize),
     Bests,
@@ -25,7 +27,7 @@ pub enum Asked {
 
 // A call's refusal number, 0 if it was accepted, and count values, 0.0 past them; every number but the first is 0 if it was refused. C has it as it is.
 #[repr(C)]
-#[derive(Drop)]
+#[derive(Clone, Copy)]
 pub struct ValuesAnswer {
     pub refusal: u64,
     pub count: usize,

@@ -4,7 +4,7 @@ ghost use Rattle.c_structs.specs.Kuhn.{state_of, position_of, moved_of, written_
 
 // A position.
 #[repr(C)]
-#[derive(Drop)]
+#[derive(Clone, Copy)]
 pub struct KuhnPosition {
     pub cards: [u8; 10],
     pub dealt: u64,
@@ -14,7 +14,7 @@ pub struct KuhnPosition {
 
 // What a start, a deal, a step or a saved-position check answers.
 #[repr(C)]
-#[derive(Drop)]
+#[derive(Clone, Copy)]
 pub struct KuhnMoved {
     pub refusal: u64,
     pub position: KuhnPosition,
@@ -22,7 +22,7 @@ pub struct KuhnMoved {
 
 // What a legal list or a key answers.
 #[repr(C)]
-#[derive(Drop)]
+#[derive(Clone, Copy)]
 pub struct KuhnWritten {
     pub refusal: u64,
     pub position: KuhnPosition,
@@ -31,7 +31,7 @@ pub struct KuhnWritten {
 
 // What a payoff answers.
 #[repr(C)]
-#[derive(Drop)]
+#[derive(Clone, Copy)]
 pub struct KuhnPayoffs {
     pub refusal: u64,
     pub position: KuhnPosition,

@@ -10,7 +10,7 @@ pub const NONE: u8 = 255;
 
 // A position.
 #[repr(C)]
-#[derive(Drop)]
+#[derive(Clone, Copy)]
 pub struct LeducPosition {
     pub cards: [u8; 2],
     pub dealt: u64,
@@ -22,7 +22,7 @@ pub struct LeducPosition {
 
 // What a start, a deal, a step or a saved-position check answers.
 #[repr(C)]
-#[derive(Drop)]
+#[derive(Clone, Copy)]
 pub struct LeducMoved {
     pub refusal: u64,
     pub position: LeducPosition,
@@ -30,7 +30,7 @@ pub struct LeducMoved {
 
 // What a legal list or a key answers.
 #[repr(C)]
-#[derive(Drop)]
+#[derive(Clone, Copy)]
 pub struct LeducWritten {
     pub refusal: u64,
     pub position: LeducPosition,
@@ -39,7 +39,7 @@ pub struct LeducWritten {
 
 // What a payoff answers.
 #[repr(C)]
-#[derive(Drop)]
+#[derive(Clone, Copy)]
 pub struct LeducPayoffs {
     pub refusal: u64,
     pub position: LeducPosition,

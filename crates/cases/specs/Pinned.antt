@@ -15,7 +15,7 @@ use Rattle.trees_played.specs.Kuhn as Kuhn-played
 use Rattle.trees_played.specs.Leduc as Leduc-played
 use Rattle.f64_games.specs.Values.{nash_conv_of, exploitability_of}
 use Rattle.tree_refusals.specs.Checks.{tree_checks, evaluation_refusal, reply-refusal}
-use Rattle.cases.specs.Cases.{Case, case, refusal, plus, minus, bytes, kuhn2, kuhn_at, leduc_at, leduc-payoffs, paid_in}
+use Rattle.cases.specs.Cases.{Case, case, refusal, plus, minus, kuhn2, kuhn_at, leduc_at, leduc-payoffs, paid_in}
 use Rattle.cases.specs.Cases.{kuhn2_tables, room, passes, table-refusal, refused}
 
 -- ---- Leduc's money and ranks

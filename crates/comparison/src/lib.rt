@@ -1,9 +1,11 @@
 // The comparison of two quotients of whole numbers, by cross products of 128 bits in halves of 64.
+#![tactic(auto)]
+
 ghost use Rattle.std.specs.Prelude.{◌≡◌, ◌+◌, ◌*◌, ◌^◌};
 ghost use Rattle.comparison.specs.Order.{compared, compared_quotients, number_of};
 
 // How one quotient stands to another.
-#[derive(Drop)]
+#[derive(Clone, Copy)]
 pub enum Comparison {
     Less,
     Equal,
@@ -11,7 +13,7 @@ pub enum Comparison {
 }
 
 // A number of 128 bits.
-#[derive(Drop)]
+#[derive(Clone, Copy)]
 pub struct Wide {
     pub high: u64,
     pub low: u64,

@@ -1,4 +1,6 @@
 // The reach of each own decision of a seat that replies to a profile: stored in work memory, behind the tree.
+#![tactic(auto)]
+
 ghost use Rattle.std.specs.Prelude.{◌≤◌, length};
 ghost use Rattle.f64_collect.specs.internal.Reached.{Divided, Each, Reached, ReachedAll, Storable};
 

@@ -1,5 +1,7 @@
 // The f64 values of a profile by the game's number, where the game's tree is stored. Behind the tree's index stand the reaches of a seat's nodes, and behind
 // these its choices.
+#![tactic(auto)]
+
 ghost use Rattle.std.specs.Prelude.{◌≡◌, ◌*◌, ◌≤◌, ◌<◌, pos, length};
 ghost use Rattle.std.specs.Float.{binary64};
 ghost use Rattle.std.specs.Float.Ieee.{of_int, div};

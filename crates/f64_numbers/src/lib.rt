@@ -1,4 +1,6 @@
 // Numbers in f64 for a walk over a tree in work memory: a float in a word, a payoff, a chance weight, an entry of a set.
+#![tactic(auto)]
+
 ghost use Rattle.std.specs.Prelude.{◌≡◌, ◌<◌, length, get_or, set};
 ghost use Rattle.std.specs.Float.{nan, binary64};
 ghost use Rattle.std.specs.Float.Ieee.{to_bits, of_bits, of_int};

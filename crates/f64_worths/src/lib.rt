@@ -1,5 +1,7 @@
 // What a profile is worth to two seats, one behind the other, in f64, read of a tree in work memory. No word is trusted: where no tree is held an answer means
 // nothing, and the call still ends.
+#![tactic(auto)]
+
 ghost use Rattle.std.specs.Prelude.{◌≡◌, ◌+◌, ◌<◌, ◌≤◌, length, get_or};
 ghost use Rattle.std.specs.Float.{nan, binary64};
 ghost use Rattle.std.specs.Float.Ieee.{of_int};
@@ -12,7 +14,7 @@ use arena::words::{CHANCE, END, actions, kind, next, set, word};
 use f64_numbers::{payoff_of, weighed, weight};
 
 // A number for each of two seats.
-#[derive(Drop)]
+#[derive(Clone, Copy)]
 pub struct Two {
     pub first: f64,
     pub second: f64,

@@ -1,1 +1,2 @@
 // Profiles in f64: definitions and what holds of them.
+#![tactic(auto)]

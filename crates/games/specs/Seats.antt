@@ -1,9 +1,9 @@
 -- The seat counts that a game has (document 01, number 2).
 use Rattle.std.specs.Prelude.{Bool, not, cond, eqb, ltb}
-use Rattle.prelude.specs.Finite.{◌||◌}
+use Rattle.prelude.specs.Finite.{◌or◌}
 use Rattle.games.specs.Games.{is_kuhn}
 use Rattle.games.specs.declared.Game.{Game}
 
 -- the seat count is outside 2 to 10 for Kuhn, or not 2 for Leduc
 abbrev pub seats-out : Game → Bool
-seats-out g = cond (is_kuhn g) (ltb g.seats 2 || ltb 10 g.seats) (not (eqb g.seats 2))
+seats-out g = cond (is_kuhn g) (ltb g.seats 2 or ltb 10 g.seats) (not (eqb g.seats 2))

@@ -1,4 +1,6 @@
 // The games by number, and their counts.
+#![tactic(auto)]
+
 ghost use Rattle.std.specs.Prelude.{◌≡◌, false, ◌≤◌, ◌<◌, ltb, get_or};
 ghost use Rattle.games.specs.Games.{most_parts, C, m};
 ghost use Rattle.games.specs.Seats.{seats-out};
@@ -6,7 +8,7 @@ ghost use Rattle.games.specs.Facts.{nodes_of, sets_of, entries_of};
 ghost use Rattle.games.specs.internal.Actions.{actions_of};
 
 // A game: its number, 0 for Kuhn and 1 for Leduc, and its seats.
-#[derive(Drop)]
+#[derive(Clone, Copy)]
 pub struct Game {
     pub number: usize,
     pub seats: usize,

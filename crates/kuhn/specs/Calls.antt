@@ -3,7 +3,7 @@
 use Rattle.std.specs.Prelude.{not, List, [], ◌∷◌, ◌++◌, ℕ, zero, suc, eqb, leb, ltb, pos, length, get_or, drop, replicate}
 use Rattle.refusals.specs.Refusals.{Check, first, ◌refuses◌}
 use Rattle.refusals.specs.Refusals as Refusals
-use Rattle.prelude.specs.Finite.{◌&&◌}
+use Rattle.prelude.specs.Finite.{◌and◌}
 use Rattle.kuhn_rules.specs.Rules.{due, live, over, ended, legal, key, remaining}
 use Rattle.kuhn_rules.specs.Stakes.{payoffs_of}
 use Rattle.kuhn_positions.specs.Positions.{cards_of, history_of, initial, with_card, with_action}
@@ -42,7 +42,7 @@ started g = record { refusal = start-refusal g; state = initial }
 
 -- deal: the card of an outcome is the one that stands there among those left
 abbrev pub deal_checks : ℕ → KuhnState → ℕ → List Check
-deal_checks n s k = (not (due n (cards_of s) && ltb k (length (remaining n (cards_of s)))) refuses Refusals.unfit) ∷ []
+deal_checks n s k = (not (due n (cards_of s) and ltb k (length (remaining n (cards_of s)))) refuses Refusals.unfit) ∷ []
 
 unfoldable pub deal-refusal : KuhnPoker → KuhnState → ℕ → ℕ
 deal-refusal g s k = first (position_checks g.players s ++ deal_checks g.players s k)

@@ -1,5 +1,7 @@
 // Kuhn poker for 2 to 10 seats: positions by value, the rules calls and the saved-position check.
 // A call refuses by document 01's numbers, in its order, and then gives the position back as it came.
+#![tactic(auto)]
+
 ghost use Rattle.std.specs.Prelude.{◌≡◌, [], ◌∷◌, ◌≤◌, ◌<◌, length, take};
 ghost use Rattle.kuhn_rules.specs.Rules.{PASS, BET};
 ghost use Rattle.kuhn_rules.specs.Stakes.{ante, stake};
@@ -15,20 +17,20 @@ use kuhn_positions::checks::{
 use kuhn_positions::{with_action, with_card};
 
 // The game: how many seats play.
-#[derive(Drop)]
+#[derive(Clone, Copy)]
 pub struct KuhnPoker {
     pub players: usize,
 }
 
 // A call's refusal number, 0 if it was accepted, and a position: the new one of an accepted deal or step, else the one handed in.
-#[derive(Drop)]
+#[derive(Clone, Copy)]
 pub struct Moved {
     pub refusal: u64,
     pub state: KuhnState,
 }
 
 // The same for a call that writes: how many bytes it wrote.
-#[derive(Drop)]
+#[derive(Clone, Copy)]
 pub struct Written {
     pub refusal: u64,
     pub state: KuhnState,
@@ -36,7 +38,7 @@ pub struct Written {
 }
 
 // The same for the payoffs: one for each of count seats, 0 past them.
-#[derive(Drop)]
+#[derive(Clone, Copy)]
 pub struct Payoffs {
     pub refusal: u64,
     pub state: KuhnState,
@@ -323,7 +325,7 @@ impl KuhnPoker {
 }
 
 // What a seat may do: the first count of the actions.
-#[derive(Drop)]
+#[derive(Clone, Copy)]
 struct Legal {
     count: usize,
     actions: [u8; 2],

@@ -1,4 +1,6 @@
 // Kuhn's tree, laid out in work memory: the deals, and below each full deal a hand.
+#![tactic(auto)]
+
 ghost use Rattle.std.specs.Prelude.{◌≡◌, ◌+◌, ◌*◌, ◌^◌, ◌<◌, ◌≤◌, length};
 ghost use Rattle.kuhn_rules.specs.Stakes.{ante, stake};
 ghost use Rattle.kuhn_tree.specs.Tree.{tree_of_kuhn};

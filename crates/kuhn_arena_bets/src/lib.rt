@@ -1,4 +1,6 @@
 // A hand with a bet, laid out in work memory.
+#![tactic(auto)]
+
 ghost use Rattle.std.specs.Prelude.{◌+◌, ◌*◌, ◌^◌, ◌≤◌};
 ghost use Rattle.game_tree.specs.Sets.{size};
 ghost use Rattle.arena.specs.internal.Built.{Built, Room};

@@ -1,4 +1,6 @@
 // A hand of Kuhn's tree, laid out in work memory.
+#![tactic(auto)]
+
 ghost use Rattle.std.specs.Prelude.{◌-◌};
 ghost use Rattle.game_tree.specs.Sets.{size};
 ghost use Rattle.arena.specs.internal.Built.{Built, Room};

@@ -1,1 +1,2 @@
 // Kuhn's tree as its builder goes through it: definitions and facts, no code.
+#![tactic(auto)]

@@ -1,4 +1,6 @@
 // What a hand's nodes say, by number: seats, cards, and the words of ends and decisions.
+#![tactic(auto)]
+
 ghost use Rattle.std.specs.Prelude.{◌≡◌, cond, ◌+◌, ◌*◌, ◌%◌, ◌<◌, ◌≤◌, ltb};
 ghost use Rattle.arena.specs.internal.Words.{decision_word, PLACES};
 ghost use Rattle.kuhn_arena_layout.specs.internal.Layout.{card_at, unit_of, Top};

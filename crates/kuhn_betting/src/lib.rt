@@ -1,4 +1,6 @@
 // The betting: what depends on the history alone.
+#![tactic(auto)]
+
 ghost use Rattle.std.specs.Prelude.{◌≡◌, ℕ, ◌≤◌, ◌<◌, length, get_or, take};
 ghost use Rattle.kuhn_rules.specs.Rules.{ended, overrun, bets};
 ghost use Rattle.kuhn_rules.specs.Reached.{unknown};

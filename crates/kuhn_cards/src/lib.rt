@@ -1,4 +1,6 @@
 // The cards: 0 to n, one for each of n seats.
+#![tactic(auto)]
+
 ghost use Rattle.std.specs.Prelude.{◌≡◌, cond, ◌+◌, ◌≤◌, ◌<◌, length, get_or, take};
 ghost use Rattle.prelude.specs.Finite.{has};
 ghost use Rattle.kuhn_rules.specs.Rules.{remaining};

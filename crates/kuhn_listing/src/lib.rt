@@ -1,7 +1,9 @@
 // The listing of Kuhn's sets: a walk over the deals and then the histories, which writes a record at each node that is the first of its set.
+#![tactic(auto)]
+
 ghost use Rattle.std.specs.Prelude.{◌≡◌, not, [], ◌∷◌, ◌+◌, ◌≤◌, ◌<◌, eqb, length, get_or, take, set};
 ghost use Rattle.std.proofs.lemmas.List.Edits.{sets};
-ghost use Rattle.prelude.specs.Finite.{◌&&◌, ◌||◌, some, has};
+ghost use Rattle.prelude.specs.Finite.{◌and◌, ◌or◌, some, has};
 ghost use Rattle.kuhn_tree.specs.Order.{histories, lowest_but, first};
 ghost use Rattle.listing_records.specs.Listing.{padded};
 ghost use Rattle.listing_records.specs.internal.Written.{Wrote};
@@ -20,7 +22,7 @@ const NO_PUBLIC: u8 = 255;
 // Whether card y was left when the first q seats had theirs, and is not card x.
 fn left_but(cards: &[u8], q: usize, x: usize, y: usize) -> bool
     requires { q ≤ length cards.now }
-    ensures { result ≡ (not (has y (take q cards.now)) && not (eqb y x)) }
+    ensures { result ≡ (not (has y (take q cards.now)) and not (eqb y x)) }
 {
     if contains(cards, q, y) {
         return false;
@@ -47,7 +49,7 @@ fn lowest_but(cards: &[u8], n: usize, x: usize, q: usize) -> bool
 // The same of every seat but one.
 fn lowest_unless(cards: &[u8], n: usize, seat: usize, x: usize, q: usize) -> bool
     requires { (q < n) × (n ≤ length cards.now) × (get_or cards.now q 0 ≤ n) }
-    ensures { result ≡ (eqb q seat || lowest_but n (take n cards.now) x q) }
+    ensures { result ≡ (eqb q seat or lowest_but n (take n cards.now) x q) }
 {
     if q == seat {
         return true;

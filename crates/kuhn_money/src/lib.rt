@@ -1,4 +1,6 @@
 // The money: who stands, who wins, and what each seat pays or gains.
+#![tactic(auto)]
+
 ghost use Rattle.std.specs.Prelude.{◌≡◌, not, cond, ◌⊎◌, ◌-◌, ◌≤◌, ◌<◌, pos, neg_ℤ, length, get_or, take};
 ghost use Rattle.prelude.specs.Finite.{sum};
 ghost use Rattle.kuhn_rules.specs.Rules.{bet-made, stands, contribution, wins};

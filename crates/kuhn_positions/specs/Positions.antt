@@ -2,7 +2,7 @@
 use Rattle.std.specs.Prelude.{Bool, not, cond, List, [], ◌∷◌, ℕ, ◌+◌, ◌*◌, ◌-◌, eqb, leb, ltb, take, set, replicate}
 use Rattle.refusals.specs.Refusals.{Check, ◌refuses◌}
 use Rattle.refusals.specs.Refusals as Refusals
-use Rattle.prelude.specs.Finite.{◌&&◌, ◌||◌}
+use Rattle.prelude.specs.Finite.{◌and◌, ◌or◌}
 use Rattle.kuhn_rules.specs.Rules.{BET, overrun}
 use Rattle.kuhn_rules.specs.Reached.{possible, strange, twice, unknown}
 use Rattle.kuhn_positions.specs.declared.KuhnState.{KuhnState}
@@ -35,11 +35,11 @@ counted a = cond (ltb BET a) BET a
 
 -- number 2: the seat count is outside 2 to 10
 abbrev pub seats-out : ℕ → Bool
-seats-out n = ltb n 2 || ltb 10 n
+seats-out n = ltb n 2 or ltb 10 n
 
 -- number 19: no length is above its array, and the cards and actions can be reached by legal moves
 unfoldable pub reachable : ℕ → KuhnState → Bool
-reachable n s = (leb s.dealt 10 && leb s.acted 19) && possible n (cards_of s) (history_of s)
+reachable n s = (leb s.dealt 10 and leb s.acted 19) and possible n (cards_of s) (history_of s)
 
 -- the checks of every rules call on a position, before its own
 abbrev pub position_checks : ℕ → KuhnState → List Check
@@ -52,7 +52,7 @@ saved_checks n s =
     ∷ (not (eqb s.dealt n) refuses Refusals.card-count)
     ∷ (strange n (cards_of s) refuses Refusals.card)
     ∷ (twice (cards_of s) refuses Refusals.card-twice)
-    ∷ ((ltb (2 * n - 1) s.acted || unknown (history_of s)) refuses Refusals.history)
+    ∷ ((ltb (2 * n - 1) s.acted or unknown (history_of s)) refuses Refusals.history)
     ∷ (overrun n (history_of s) refuses Refusals.closed)
     ∷ []
 

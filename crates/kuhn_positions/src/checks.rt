@@ -1,6 +1,6 @@
 // What a call asks of a position before it answers.
 ghost use Rattle.std.specs.Prelude.{◌≡◌, not, ◌≤◌, eqb, length, take};
-ghost use Rattle.prelude.specs.Finite.{◌||◌};
+ghost use Rattle.prelude.specs.Finite.{◌or◌};
 ghost use Rattle.refusals.specs.Refusals.{first};
 ghost use Rattle.kuhn_rules.specs.Rules.{live, over, ended};
 ghost use Rattle.kuhn_rules.specs.Reached.{fair, played};
@@ -71,7 +71,7 @@ pub fn is_reachable(n: usize, state: KuhnState) -> bool
 
 // Whether an action stands there before every seat has its card.
 fn acts_early(dealt: usize, acted: usize, n: usize) -> bool
-    ensures { result ≡ not (eqb acted 0 || eqb dealt n) }
+    ensures { result ≡ not (eqb acted 0 or eqb dealt n) }
 {
     if acted == 0 {
         return false;

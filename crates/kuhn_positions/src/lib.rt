@@ -1,4 +1,6 @@
 // Positions of Kuhn poker by value, one card or action more, and what a call asks of one. The calls are in the crate kuhn.
+#![tactic(auto)]
+
 pub mod checks;
 
 ghost use Rattle.std.specs.Prelude.{◌≡◌, ◌≤◌, ◌<◌};
@@ -15,7 +17,7 @@ pub const CARDS: usize = 10;
 pub const ACTIONS: usize = 19;
 
 // A position: the cards dealt, seat by seat, and the actions made. Places past a length are not part of it.
-#[derive(Drop)]
+#[derive(Clone, Copy)]
 pub struct KuhnState {
     pub cards: [u8; 10],
     pub dealt: usize,

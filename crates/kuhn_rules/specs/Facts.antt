@@ -1,6 +1,6 @@
 -- What holds of Kuhn's rules, proved in proofs/Facts.antt. n is the number of seats, cs the cards dealt, h the history.
 use Rattle.std.specs.Prelude.{◌≡◌, true, List, ℕ, ◌*◌, ◌≤◌, ◌<◌, eqb, leb, pos, length, get_or, take}
-use Rattle.prelude.specs.Finite.{◌&&◌, sumℤ, has}
+use Rattle.prelude.specs.Finite.{◌and◌, sumℤ, has}
 use Rattle.kuhn_rules.specs.Rules.{BET, turn, live, over, left, remaining, legal, key, wins, payoff}
 use Rattle.kuhn_rules.specs.Moves.{Reached}
 use Rattle.kuhn_rules.specs.Reached.{possible}
@@ -12,7 +12,7 @@ pub record DecidesReached : Type 0 where
 
 -- the actions that moves make are the legal ones of the seat whose turn it is
 abbrev pub LegalMoves : Type 0
-LegalMoves = (n : ℕ) (cs h : List ℕ) (a : ℕ) → has a (legal n cs h (turn n h)) ≡ (live n cs h && leb a BET)
+LegalMoves = (n : ℕ) (cs h : List ℕ) (a : ℕ) → has a (legal n cs h (turn n h)) ≡ (live n cs h and leb a BET)
 
 -- at every end just one seat wins
 abbrev pub OneWinner : Type 0

@@ -2,8 +2,8 @@
 -- in three layers: the betting depends on the history alone,
 -- the deal on the cards, the money on both and on the stakes. A history lists the actions made, from the first.
 -- `abbrev` and `unfoldable` tell the prover when it may put a definition in place of its name; a reader may pass over both.
-use Rattle.std.specs.Prelude.{Bool, true, false, not, cond, List, [], ◌∷◌, ℕ, ◌+◌, ◌-◌, ◌%◌, eqb, leb, ltb, ℤ, pos, neg_ℤ, length, get_or, take}
-use Rattle.prelude.specs.Finite.{◌&&◌, ◌||◌, some, every, sum, those, has}
+use Rattle.std.specs.Prelude.{Bool, false, not, cond, List, [], ◌∷◌, ℕ, ◌+◌, ◌-◌, ◌%◌, eqb, leb, ltb, ℤ, pos, neg_ℤ, length, get_or, take}
+use Rattle.prelude.specs.Finite.{◌and◌, ◌or◌, some, every, sum, those, has}
 
 -- ---- betting
 
@@ -20,7 +20,7 @@ turn n h = length h % n
 -- some action is a bet
 unfoldable pub bet-made : List ℕ → Bool
 bet-made [] = false
-bet-made (a ∷ h) = eqb a BET || bet-made h
+bet-made (a ∷ h) = eqb a BET or bet-made h
 
 -- the actions that follow the first bet
 unfoldable pub after-bet : List ℕ → List ℕ
@@ -37,17 +37,17 @@ overrun n h = some (length h) (λ k. ended n (take k h))
 
 -- seat p has bet: at a place of the history where the turn was p's
 unfoldable pub bets : ℕ → List ℕ → ℕ → Bool
-bets n h p = some (length h) (λ i. eqb (i % n) p && eqb (get_or h i PASS) BET)
+bets n h p = some (length h) (λ i. eqb (i % n) p and eqb (get_or h i PASS) BET)
 
 -- those who bet stand; all, if none did
 unfoldable pub stands : ℕ → List ℕ → ℕ → Bool
-stands n h p = not (bet-made h) || bets n h p
+stands n h p = not (bet-made h) or bets n h p
 
 -- ---- cards: 0 to n, one for each seat
 
 -- card c is left once the cards cs are dealt
 unfoldable pub left : ℕ → List ℕ → ℕ → Bool
-left n cs c = leb c n && not (has c cs)
+left n cs c = leb c n and not (has c cs)
 
 -- the cards left, in ascending order
 unfoldable pub remaining : ℕ → List ℕ → List ℕ
@@ -59,15 +59,15 @@ due n cs = ltb (length cs) n
 
 -- a seat acts once all cards are dealt and until the hand ends
 abbrev pub live : ℕ → List ℕ → List ℕ → Bool
-live n cs h = eqb (length cs) n && not (ended n h)
+live n cs h = eqb (length cs) n and not (ended n h)
 
 -- the hand is over
 abbrev pub over : ℕ → List ℕ → List ℕ → Bool
-over n cs h = eqb (length cs) n && ended n h
+over n cs h = eqb (length cs) n and ended n h
 
 -- what seat p may do: pass or bet at its turn, nothing otherwise
 unfoldable pub legal : ℕ → List ℕ → List ℕ → ℕ → List ℕ
-legal n cs h p = cond (live n cs h && eqb p (turn n h)) (PASS ∷ BET ∷ []) []
+legal n cs h p = cond (live n cs h and eqb p (turn n h)) (PASS ∷ BET ∷ []) []
 
 -- what seat p knows: its number, its card, the history
 abbrev pub key : List ℕ → List ℕ → ℕ → List ℕ
@@ -81,7 +81,7 @@ contribution ante stake n h p = ante + cond (bets n h p) stake 0
 
 -- seat p stands, and no seat that stands has a higher card
 unfoldable pub wins : ℕ → List ℕ → List ℕ → ℕ → Bool
-wins n cs h p = stands n h p && every n (λ q. not (stands n h q) || leb (get_or cs q 0) (get_or cs p 0))
+wins n cs h p = stands n h p and every n (λ q. not (stands n h q) or leb (get_or cs q 0) (get_or cs p 0))
 
 -- what the seats other than p have paid
 unfoldable pub paid_by_others : (ante stake n : ℕ) → List ℕ → ℕ → ℕ

@@ -1,1 +1,2 @@
 // Kuhn's rules on cards and histories: definitions and facts, no code.
+#![tactic(auto)]

@@ -1,6 +1,6 @@
 -- The sets of Kuhn's tree in order, by a rule on the cards: which node is the first of its set. Definitions only; nothing is assumed.
 use Rattle.std.specs.Prelude.{Bool, true, false, not, cond, List, [], ◌∷◌, ◌++◌, ℕ, zero, suc, eqb, length, get_or, take}
-use Rattle.prelude.specs.Finite.{◌&&◌, ◌||◌, some, every}
+use Rattle.prelude.specs.Finite.{◌and◌, ◌or◌, some, every}
 use Rattle.game_tree.specs.Sets.{Decision}
 use Rattle.kuhn_rules.specs.Rules.{PASS, BET, ended, turn, key, left, remaining}
 use Rattle.kuhn_tree.specs.Tree.{m}
@@ -24,12 +24,12 @@ decision_at n cs h = (turn n h, key cs h (turn n h), 2)
 
 -- seat q was dealt the lowest card then left, but for card x
 unfoldable pub lowest_but : ℕ → List ℕ → ℕ → ℕ → Bool
-lowest_but n cs x q = not (some (get_or cs q 0) (λ y. left n (take q cs) y && not (eqb y x)))
+lowest_but n cs x q = not (some (get_or cs q 0) (λ y. left n (take q cs) y and not (eqb y x)))
 
 -- every seat but j was, x being seat j's
 unfoldable pub lowest : ℕ → List ℕ → ℕ → ℕ → Bool
 unfolding lowest_but
-lowest n cs j x = every (length cs) (λ q. eqb q j || lowest_but n cs x q)
+lowest n cs j x = every (length cs) (λ q. eqb q j or lowest_but n cs x q)
 
 -- a node at which seat j acts is first of its set: every other seat was dealt the lowest card then left, but for seat j's card
 abbrev pub first : ℕ → List ℕ → ℕ → Bool

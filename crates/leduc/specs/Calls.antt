@@ -3,7 +3,7 @@
 use Rattle.std.specs.Prelude.{not, List, [], ◌∷◌, ◌++◌, ℕ, zero, suc, eqb, leb, ltb, pos, length, get_or, drop, replicate}
 use Rattle.refusals.specs.Refusals.{Check, first, ◌refuses◌}
 use Rattle.refusals.specs.Refusals as Refusals
-use Rattle.prelude.specs.Finite.{◌&&◌}
+use Rattle.prelude.specs.Finite.{◌and◌}
 use Rattle.leduc_betting.specs.Betting.{counted, ended}
 use Rattle.leduc_betting.specs.Cards.{remaining}
 use Rattle.leduc_rules.specs.Rules.{due, live, key}
@@ -40,7 +40,7 @@ started = record { refusal = Refusals.accepted; state = initial }
 -- deal: the card of an outcome is the one that stands there among those left
 abbrev pub deal_checks : LeducState → ℕ → List Check
 deal_checks s k =
-    (not (due (cards_of s) s.public (round_one s) (round_two s) && ltb k (length (remaining (seen_of s)))) refuses Refusals.unfit) ∷ []
+    (not (due (cards_of s) s.public (round_one s) (round_two s) and ltb k (length (remaining (seen_of s)))) refuses Refusals.unfit) ∷ []
 
 unfoldable pub deal-refusal : LeducState → ℕ → ℕ
 deal-refusal s k = first (position_checks s ++ deal_checks s k)

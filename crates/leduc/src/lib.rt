@@ -1,5 +1,7 @@
 // Leduc hold'em for two seats: positions by value, the rules calls and the saved-position check.
 // A call refuses by document 01's numbers, in its order, and then gives the position back as it came.
+#![tactic(auto)]
+
 mod output;
 
 ghost use Rattle.std.specs.Prelude.{◌≡◌, [], ◌∷◌, pos, length, replicate};
@@ -17,18 +19,18 @@ use leduc_positions::state::{
 };
 
 // The game.
-#[derive(Drop)]
+#[derive(Clone, Copy)]
 pub struct LeducPoker {}
 
 // A call's refusal number, 0 if it was accepted, and a position: the new one of an accepted deal or step, else the one handed in.
-#[derive(Drop)]
+#[derive(Clone, Copy)]
 pub struct Moved {
     pub refusal: u64,
     pub state: LeducState,
 }
 
 // The same for a call that writes: how many bytes it wrote.
-#[derive(Drop)]
+#[derive(Clone, Copy)]
 pub struct Written {
     pub refusal: u64,
     pub state: LeducState,
@@ -36,7 +38,7 @@ pub struct Written {
 }
 
 // The same for the payoffs: one for each of count seats, 0 past them.
-#[derive(Drop)]
+#[derive(Clone, Copy)]
 pub struct Payoffs {
     pub refusal: u64,
     pub state: LeducState,

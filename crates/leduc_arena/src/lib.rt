@@ -1,4 +1,6 @@
 // Leduc's tree, laid out in work memory: the deals, and below each the first round, the public card and the second round.
+#![tactic(auto)]
+
 mod first;
 
 ghost use Rattle.std.specs.Prelude.{not, suc, ◌+◌, ◌<◌, ◌≤◌, eqb, length};

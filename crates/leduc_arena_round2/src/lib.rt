@@ -1,4 +1,6 @@
 // The second round of Leduc's tree, laid out in work memory, and the showdown behind each history that closes it.
+#![tactic(auto)]
+
 pub mod words;
 
 ghost use Rattle.std.specs.Prelude.{◌≡◌, ◌+◌, ◌*◌, ◌<◌, ◌≤◌};

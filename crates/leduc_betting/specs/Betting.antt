@@ -2,7 +2,7 @@
 -- A history lists the actions of one round, from the first; h₁ and h₂ are those of the two rounds.
 -- `abbrev` and `unfoldable` tell the prover when it may put a definition in place of its name; a reader may pass over both.
 use Rattle.std.specs.Prelude.{Bool, true, not, cond, List, [], ◌∷◌, ◌++◌, ℕ, ◌+◌, ◌-◌, ◌%◌, eqb, leb, ltb, length, get_or}
-use Rattle.prelude.specs.Finite.{◌&&◌, ◌||◌, some, those}
+use Rattle.prelude.specs.Finite.{◌and◌, ◌or◌, some, those}
 
 -- ---- one round
 
@@ -17,7 +17,7 @@ RAISE = 2
 
 -- the round's last action is a
 unfoldable pub ends_with : ℕ → List ℕ → Bool
-ends_with a h = ltb 0 (length h) && eqb (get_or h (length h - 1) 0) a
+ends_with a h = ltb 0 (length h) and eqb (get_or h (length h - 1) 0) a
 
 -- a seat has folded
 unfoldable pub folded : List ℕ → Bool
@@ -25,11 +25,11 @@ folded h = some (length h) (λ i. eqb (get_or h i 0) FOLD)
 
 -- the round closes at a CALL that is its second or later action
 unfoldable pub closes : List ℕ → Bool
-closes h = leb 2 (length h) && ends_with CALL h
+closes h = leb 2 (length h) and ends_with CALL h
 
 -- the round goes on
 unfoldable pub open_round : List ℕ → Bool
-open_round h = not (folded h || closes h)
+open_round h = not (folded h or closes h)
 
 -- the seat to act is behind: the other has just raised
 unfoldable pub behind : List ℕ → Bool
@@ -42,7 +42,7 @@ raises (a ∷ h) = cond (eqb a RAISE) 1 0 + raises h
 
 -- FOLD is legal only when behind, CALL always, RAISE while the round has fewer than 2 raises
 unfoldable pub may : List ℕ → ℕ → Bool
-may h a = (eqb a FOLD && behind h) || (eqb a CALL || (eqb a RAISE && ltb (raises h) 2))
+may h a = (eqb a FOLD and behind h) or (eqb a CALL or (eqb a RAISE and ltb (raises h) 2))
 
 -- the legal actions, in ascending order
 unfoldable pub options : List ℕ → List ℕ
@@ -61,7 +61,7 @@ unknown h = some (length h) (λ i. ltb RAISE (get_or h i 0))
 -- after the actions before of a round come those of h, each legal when made and none after the round closed
 unfoldable pub played : (before h : List ℕ) → Bool
 played before [] = true
-played before (a ∷ h) = (open_round before && may before a) && played (before ++ (a ∷ [])) h
+played before (a ∷ h) = (open_round before and may before a) and played (before ++ (a ∷ [])) h
 
 -- ---- both rounds
 
@@ -75,4 +75,4 @@ turn h₁ h₂ = length (in_play h₁ h₂) % 2
 
 -- the hand ends when a seat folds, or round 2 closes
 unfoldable pub ended : List ℕ → List ℕ → Bool
-ended h₁ h₂ = folded h₁ || (folded h₂ || closes h₂)
+ended h₁ h₂ = folded h₁ or (folded h₂ or closes h₂)

@@ -1,6 +1,6 @@
 -- Leduc's cards (document 01, "The two games"): 0 to 5, two of each rank; one for each seat, then a public one.
 use Rattle.std.specs.Prelude.{Bool, true, false, not, List, [], ◌∷◌, ◌++◌, ℕ, ◌/◌, leb, ltb, length, get_or, take}
-use Rattle.prelude.specs.Finite.{◌&&◌, some, those, has}
+use Rattle.prelude.specs.Finite.{◌and◌, some, those, has}
 use Rattle.leduc_betting.specs.declared.Public.{Public}
 use Rattle.leduc_betting.specs.declared.Public.TheVariants.{Hidden, Card}
 
@@ -20,7 +20,7 @@ seen cs (Card c) = cs ++ (c ∷ [])
 
 -- card c is left once the cards cs are dealt
 unfoldable pub left : List ℕ → ℕ → Bool
-left cs c = ltb c 6 && not (has c cs)
+left cs c = ltb c 6 and not (has c cs)
 
 -- the cards left, in ascending order
 unfoldable pub remaining : List ℕ → List ℕ

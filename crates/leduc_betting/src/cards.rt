@@ -6,7 +6,7 @@ ghost use Rattle.leduc_betting.specs.Cards.{seen, left, remaining, strange, twic
 use crate::Public;
 
 // The cards dealt: the seats' and the public one.
-#[derive(Drop)]
+#[derive(Clone, Copy)]
 pub struct Seen {
     pub cards: [u8; 3],
     pub count: usize,

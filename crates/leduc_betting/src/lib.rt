@@ -1,4 +1,6 @@
 // Leduc hold'em on cards and histories: the betting and the cards. The deal and the checks over them are in the crate leduc_rules, the money is in leduc_money.
+#![tactic(auto)]
+
 pub mod betting;
 pub mod cards;
 pub mod options;
@@ -17,7 +19,7 @@ pub const DECK: u8 = 6;
 pub const RAISES: usize = 2;
 
 // The public card, or none.
-#[derive(Drop)]
+#[derive(Clone, Copy)]
 pub enum Public {
     Hidden,
     Card(u8),

@@ -1,12 +1,12 @@
 // What a seat may do.
 ghost use Rattle.std.specs.Prelude.{◌≡◌, cond, [], ◌≤◌, ◌%◌, eqb, length, take};
-ghost use Rattle.prelude.specs.Finite.{◌&&◌};
+ghost use Rattle.prelude.specs.Finite.{◌and◌};
 ghost use Rattle.leduc_betting.specs.Betting.{options, in_play, turn};
 
 use crate::betting::{last_is, raise_count, round_over};
 
 // The legal actions of a seat, in ascending order.
-#[derive(Drop)]
+#[derive(Clone, Copy)]
 pub struct Legal {
     pub actions: [u8; 3],
     pub count: usize,
@@ -61,7 +61,7 @@ fn options_at(h: &[u8], agent: usize) -> Legal
 pub fn legal_in(round1: &[u8], round2: &[u8], live: bool, agent: usize) -> Legal
     ensures within { result.count ≤ 3 }
     ensures whole { take result.count result.actions ≡ cond
-        (live && eqb agent (turn round1.now round2.now)) (options (in_play round1.now round2.now)) [] }
+        (live and eqb agent (turn round1.now round2.now)) (options (in_play round1.now round2.now)) [] }
 {
     if !live {
         return Legal {

@@ -1,4 +1,6 @@
 // The listing of Leduc's sets: a walk over cards and actions, which writes a record at each node that is the first of its set.
+#![tactic(auto)]
+
 ghost use Rattle.std.specs.Prelude.{◌≡◌, ◌+◌, ◌≤◌, ◌<◌, length};
 ghost use Rattle.std.proofs.lemmas.List.Edits.{sets};
 ghost use Rattle.listing_records.specs.internal.Written.{Wrote};

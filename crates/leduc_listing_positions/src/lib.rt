@@ -1,5 +1,7 @@
 // The spots of Leduc's walk: a position in arrays, what the rules say of it, and it with one card or action more. A spot is no LeducState: that has four places
 // for a round, which the rules alone say is enough; a spot has places for all moves of a hand in either round, so that counting moves is enough.
+#![tactic(auto)]
+
 ghost use Rattle.std.specs.Prelude.{◌≡◌, ◌+◌, ◌≤◌, ◌<◌, length};
 ghost use Rattle.leduc_betting.specs.Cards.{left, seen};
 ghost use Rattle.leduc_betting.specs.Betting.{may, in_play};
@@ -19,7 +21,7 @@ use prelude::wide;
 
 // A position of the walk: the seats' cards, the public card, and the actions of each round, with places for as many as a hand has moves: 11, the first card
 // and the LATER_MOVES of the crate leduc_listing.
-#[derive(Drop)]
+#[derive(Clone, Copy)]
 pub struct Spot {
     pub cards: [u8; 2],
     pub dealt: usize,

@@ -1,6 +1,8 @@
 // The money of Leduc hold'em: contributions and payoffs.
+#![tactic(auto)]
+
 ghost use Rattle.std.specs.Prelude.{◌≡◌, cond, pos, neg_ℤ, ◌+◌, ◌-◌, ◌≤◌, length};
-ghost use Rattle.prelude.specs.Finite.{◌||◌};
+ghost use Rattle.prelude.specs.Finite.{◌or◌};
 ghost use Rattle.leduc_rules.specs.Stakes.{ante, raise₁, raise₂};
 ghost use Rattle.leduc_rules.specs.Rules.{folds, pairs, beats, wins, payoff};
 ghost use Rattle.leduc_rules.specs.internal.Pots.{matched, seated, after-round, pot, BeginsLevel};
@@ -129,7 +131,7 @@ pub fn is_winner(
 
 // Whether a seat has folded in either round.
 fn folded_in(round1: &[u8], round2: &[u8], seat: usize) -> bool
-    ensures { result ≡ (folds round1.now seat || folds round2.now seat) }
+    ensures { result ≡ (folds round1.now seat or folds round2.now seat) }
 {
     if folded_by(round1, seat) {
         return true;
@@ -152,7 +154,7 @@ pub fn gain(wins: bool, loses: bool, mine: usize, theirs: usize) -> i64
 }
 
 // What each seat is paid.
-#[derive(Drop)]
+#[derive(Clone, Copy)]
 pub struct Payoffs {
     pub zero: i64,
     pub one: i64,

@@ -2,7 +2,7 @@
 use Rattle.std.specs.Prelude.{Bool, false, not, cond, List, [], ◌∷◌, ◌++◌, ℕ, ◌+◌, eqb, leb, ltb, ℤ, take, drop, set, replicate}
 use Rattle.refusals.specs.Refusals.{Check, ◌refuses◌}
 use Rattle.refusals.specs.Refusals as Refusals
-use Rattle.prelude.specs.Finite.{◌&&◌}
+use Rattle.prelude.specs.Finite.{◌and◌}
 use Rattle.leduc_betting.specs.Betting.{closes, in_play}
 use Rattle.leduc_betting.specs.Cards.{hidden, seen}
 use Rattle.leduc_betting.specs.Checks.{barred_by, card_checks, round_checks, public_checks}
@@ -90,8 +90,8 @@ payoff_of s t = payoff ante raise₁ raise₂ (cards_of s) s.public (round_one s
 -- number 19: no length is above its part of the array, and the cards and actions can be reached by legal moves
 unfoldable pub reachable : LeducState → Bool
 reachable s =
-    (leb s.dealt 2 && (leb s.acted1 4 && leb s.acted2 4))
-    && possible (cards_of s) s.public (round_one s) (round_two s)
+    (leb s.dealt 2 and (leb s.acted1 4 and leb s.acted2 4))
+    and possible (cards_of s) s.public (round_one s) (round_two s)
 
 -- the check of every rules call on a position, before its own
 abbrev pub position_checks : LeducState → List Check

@@ -1,4 +1,6 @@
 // Positions of Leduc hold'em by value: what a call asks of one, one card or action more, and the checks of a saved one. The calls are in the crate leduc.
+#![tactic(auto)]
+
 pub mod saved;
 pub mod state;
 
@@ -9,7 +11,7 @@ use leduc_betting::Public;
 
 // A position: the seats' cards, the public card, and the actions of round 1 from place 0 and of round 2 from place 4.
 // Places past a length are not part of it.
-#[derive(Drop)]
+#[derive(Clone, Copy)]
 pub struct LeducState {
     pub cards: [u8; 2],
     pub dealt: usize,

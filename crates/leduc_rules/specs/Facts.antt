@@ -2,7 +2,7 @@
 use Rattle.std.specs.Prelude.{◌≡◌, Bool, true, false, cond, List, [], ◌∷◌, ℕ, ◌+◌, ◌*◌, ◌-◌, ◌≤◌, ◌<◌, ltb, pos, ◌+ℤ◌, length, get_or, take}
 use Rattle.refusals.specs.Refusals.{first}
 use Rattle.refusals.specs.Refusals as Refusals
-use Rattle.prelude.specs.Finite.{◌&&◌, has}
+use Rattle.prelude.specs.Finite.{◌and◌, has}
 use Rattle.leduc_betting.specs.Betting.{closes, behind, may, in_play, turn, ended}
 use Rattle.leduc_betting.specs.Cards.{hidden, left, remaining}
 use Rattle.leduc_rules.specs.Rules.{due, live, legal, shown-public, key, added, contribution, payoff}
@@ -14,7 +14,7 @@ use Rattle.leduc_betting.specs.declared.Public.TheVariants.{Hidden}
 -- the legal list of the seat whose turn it is has the actions that moves make there, in round 1 or, once that has closed, in round 2
 abbrev pub LegalMoves : Type 0
 LegalMoves = (cs : List ℕ) (p : Public) (h₁ h₂ : List ℕ) (a : ℕ)
-    → has a (legal cs p h₁ h₂ (turn h₁ h₂)) ≡ (live cs p h₁ h₂ && cond (closes h₁) (may h₂ a) (may h₁ a))
+    → has a (legal cs p h₁ h₂ (turn h₁ h₂)) ≡ (live cs p h₁ h₂ and cond (closes h₁) (may h₂ a) (may h₁ a))
 
 -- payoffs add up to 0 at every end, at all stakes
 abbrev pub ZeroSum : Type 0

@@ -1,7 +1,7 @@
 -- The positions that can be reached from the start by legal moves (document 01, number 19), as a test that can be computed; Moves has them
 -- by moves.
 use Rattle.std.specs.Prelude.{Bool, not, List, [], ℕ, eqb, leb, length}
-use Rattle.prelude.specs.Finite.{◌&&◌, ◌||◌}
+use Rattle.prelude.specs.Finite.{◌and◌, ◌or◌}
 use Rattle.leduc_betting.specs.Betting.{closes, played}
 use Rattle.leduc_betting.specs.Cards.{hidden, seen, strange, twice}
 use Rattle.leduc_betting.specs.declared.Public.{Public}
@@ -11,10 +11,10 @@ use Rattle.leduc_betting.specs.declared.Public.{Public}
 unfoldable pub possible : List ℕ → Public → List ℕ → List ℕ → Bool
 possible cs p h₁ h₂ =
     leb (length cs) 2
-    && (not (strange (seen cs p))
-    && (not (twice (seen cs p))
-    && ((eqb (length cs) 2 || eqb (length h₁) 0)
-    && (played [] h₁
-    && (played [] h₂
-    && ((hidden p || closes h₁)
-    && (not (hidden p) || eqb (length h₂) 0)))))))
+    and (not (strange (seen cs p))
+    and (not (twice (seen cs p))
+    and ((eqb (length cs) 2 or eqb (length h₁) 0)
+    and (played [] h₁
+    and (played [] h₂
+    and ((hidden p or closes h₁)
+    and (not (hidden p) or eqb (length h₂) 0)))))))

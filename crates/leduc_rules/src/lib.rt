@@ -1,5 +1,7 @@
 // Leduc hold'em on cards and histories: what the rules say of them.
 // The money is computed in the crate leduc_money; positions are in the crate leduc_positions, the calls on them in the crate leduc.
+#![tactic(auto)]
+
 pub mod play;
 pub mod saved;
 
@@ -17,7 +19,7 @@ pub const RAISE_ONE: usize = 2;
 pub const RAISE_TWO: usize = 4;
 
 // What the seat to act and the other have paid.
-#[derive(Drop)]
+#[derive(Clone, Copy)]
 pub struct Pot {
     pub acting: usize,
     pub other: usize,

@@ -1,6 +1,6 @@
 // The play: which cards and actions can have come about, and when a card is due.
 ghost use Rattle.std.specs.Prelude.{◌≡◌, true, false, not, [], ◌≤◌, eqb, length, take};
-ghost use Rattle.prelude.specs.Finite.{◌&&◌, ◌||◌};
+ghost use Rattle.prelude.specs.Finite.{◌and◌, ◌or◌};
 ghost use Rattle.leduc_betting.specs.Betting.{closes, played};
 ghost use Rattle.leduc_betting.specs.Cards.{hidden, seen, strange, twice};
 ghost use Rattle.leduc_rules.specs.Rules.{public-due, due};
@@ -22,7 +22,7 @@ pub fn is_hidden(public: Public) -> bool
 // Whether the cards are of the deck and differ.
 pub fn cards_fit(cards: [u8; 2], dealt: usize, public: Public) -> bool
     requires { dealt ≤ 2 }
-    ensures { result ≡ (not (strange (seen (take dealt cards) public)) && not (twice (seen (take dealt cards) public))) }
+    ensures { result ≡ (not (strange (seen (take dealt cards) public)) and not (twice (seen (take dealt cards) public))) }
 {
     let seen = all_seen(cards, dealt, public);
     let n = seen.count;
@@ -36,9 +36,9 @@ pub fn cards_fit(cards: [u8; 2], dealt: usize, public: Public) -> bool
 
 // Whether the actions of both rounds can have been made by the rules, with both cards dealt or not and the public card there or not.
 pub fn rounds_fit(round1: &[u8], round2: &[u8], full: bool, blind: bool) -> bool
-    ensures { result ≡ ((full || eqb (length round1.now) 0)
-        && (played [] round1.now && (played [] round2.now
-        && ((blind || closes round1.now) && (not blind || eqb (length round2.now) 0))))) }
+    ensures { result ≡ ((full or eqb (length round1.now) 0)
+        and (played [] round1.now and (played [] round2.now
+        and ((blind or closes round1.now) and (not blind or eqb (length round2.now) 0))))) }
 {
     if early(full, round1.len()) {
         return false;
@@ -57,7 +57,7 @@ pub fn rounds_fit(round1: &[u8], round2: &[u8], full: bool, blind: bool) -> bool
 
 // Whether a seat has acted before both have a card.
 fn early(full: bool, acted: usize) -> bool
-    ensures { result ≡ not (full || eqb acted 0) }
+    ensures { result ≡ not (full or eqb acted 0) }
 {
     if full {
         return false;

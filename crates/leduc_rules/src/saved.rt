@@ -1,7 +1,7 @@
 // The checks of a saved position's cards and histories, in the order of document 01's list.
 ghost use Rattle.std.specs.Prelude.{◌≡◌, not, ◌++◌, ◌≤◌, length, take};
 ghost use Rattle.refusals.specs.Refusals.{first};
-ghost use Rattle.prelude.specs.Finite.{◌&&◌};
+ghost use Rattle.prelude.specs.Finite.{◌and◌};
 ghost use Rattle.leduc_betting.specs.Betting.{closes, ended};
 ghost use Rattle.leduc_betting.specs.Cards.{seen};
 ghost use Rattle.leduc_betting.specs.Checks.{barred_by, card_checks, round_checks, public_checks};
@@ -66,7 +66,7 @@ fn public_refusal(round1: &[u8], round2: &[u8], blind: bool) -> u64
 
 // Whether round 1 has closed in a hand that has not ended.
 fn is_waiting(round1: &[u8], round2: &[u8]) -> bool
-    ensures { result ≡ (closes round1.now && not (ended round1.now round2.now)) }
+    ensures { result ≡ (closes round1.now and not (ended round1.now round2.now)) }
 {
     if !round_over(round1) {
         return false;

@@ -1,4 +1,6 @@
 // The actions of Leduc's sets, in set order.
+#![tactic(auto)]
+
 ghost use Rattle.std.specs.Prelude.{◌≡◌, ◌≤◌, ◌<◌, get_or};
 ghost use Rattle.leduc_tree.specs.Turns.{actions_in_order};
 

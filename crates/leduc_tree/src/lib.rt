@@ -1,1 +1,2 @@
 // Leduc's tree as the rules give it: definitions and facts, no code.
+#![tactic(auto)]

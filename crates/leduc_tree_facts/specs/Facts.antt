@@ -3,7 +3,7 @@
 -- proofs/Facts.antt, which assumes nothing. Throughout: any ante and raises;
 -- table a table with D parts in each set, i a seat, z a rival table.
 use Rattle.std.specs.Prelude.{◌≡◌, true, [], ◌∷◌, ℕ, ◌≤◌, ◌<◌}
-use Rattle.game_tree.specs.Tree.{Key, Tree, U, chance}
+use Rattle.game_tree.specs.Tree.{Key, U, chance}
 use Rattle.game_tree.specs.Conditions.{Splits, Pays, Every}
 use Rattle.game_tree.specs.Recall.{PerfectRecall}
 use Rattle.game_tree.specs.Sets.{size}

@@ -1,4 +1,6 @@
 // The listing of a game's sets: 24 bytes per set, in set order.
+#![tactic(auto)]
+
 ghost use Rattle.std.specs.Prelude.{◌≡◌, ◌≤◌, length};
 ghost use Rattle.std.proofs.lemmas.List.Edits.{sets};
 ghost use Rattle.games.specs.Known.{Known};
@@ -9,7 +11,7 @@ use games::Game;
 
 // A call's refusal number, 0 if it was accepted, and the nodes and sets of the game's tree; these are 0 if it was refused. C has it as it is.
 #[repr(C)]
-#[derive(Drop)]
+#[derive(Clone, Copy)]
 pub struct ListingAnswer {
     pub refusal: u64,
     pub nodes: usize,

@@ -1,4 +1,6 @@
 // NashConv of a table: what the seats would gain by their best values over their worths, added up, in whole units.
+#![tactic(auto)]
+
 ghost use Rattle.std.specs.Prelude.{◌≡◌, ◌*◌, ◌^◌, ◌≤◌, ◌<◌, pos, ◌-ℤ◌, nat_abs, length, ◌≤ℤ◌};
 ghost use Rattle.game_tree.specs.Table.{table_worth, table_best, nash_conv_over};
 ghost use Rattle.games.specs.Games.{game_of, tree_of, root_units};
@@ -15,7 +17,7 @@ use games::Game;
 // A call's refusal number, 0 if it was accepted, NashConv, and the units of the root that it is measured in; every number but the first is 0 if it was refused.
 // C has it as it is.
 #[repr(C)]
-#[derive(Drop)]
+#[derive(Clone, Copy)]
 pub struct NashConvAnswer {
     pub refusal: u64,
     pub nash_conv: u64,

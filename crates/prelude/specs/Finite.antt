@@ -1,25 +1,25 @@
 -- Tests, sums and lists over the numbers below a bound.
-use Rattle.std.specs.Prelude.{Bool, true, false, not, List, [], ◌∷◌, ◌++◌, ℕ, zero, suc, ◌+◌, eqb, ℤ, pos, ◌+ℤ◌}
+use Rattle.std.specs.Prelude.{Bool, true, false, List, [], ◌∷◌, ◌++◌, ℕ, zero, suc, ◌+◌, eqb, ℤ, pos, ◌+ℤ◌}
 
-infixl 35 ◌&&◌
-infixl 30 ◌||◌
-unfoldable pub ◌&&◌ : Bool → Bool → Bool
-true && b = b
-false && b = false
+infixl 35 ◌and◌
+infixl 30 ◌or◌
+unfoldable pub ◌and◌ : Bool → Bool → Bool
+true and b = b
+false and b = false
 
-unfoldable pub ◌||◌ : Bool → Bool → Bool
-true || b = true
-false || b = b
+unfoldable pub ◌or◌ : Bool → Bool → Bool
+true or b = true
+false or b = b
 
 -- p holds of some number below n
 unfoldable pub some : ℕ → (ℕ → Bool) → Bool
 some zero p = false
-some (suc n) p = some n p || p n
+some (suc n) p = some n p or p n
 
 -- p holds of every number below n
 unfoldable pub every : ℕ → (ℕ → Bool) → Bool
 every zero p = true
-every (suc n) p = every n p && p n
+every (suc n) p = every n p and p n
 
 -- the sum of f over the numbers below n
 unfoldable pub sum : ℕ → (ℕ → ℕ) → ℕ
@@ -43,7 +43,7 @@ those (suc n) p = those n p ++ keep (p n) n
 -- x stands in the list
 unfoldable pub has : ℕ → List ℕ → Bool
 has x [] = false
-has x (y ∷ ys) = eqb y x || has x ys
+has x (y ∷ ys) = eqb y x or has x ys
 
 -- f at each of the numbers below n, in ascending order
 unfoldable pub places : {A : Type 0} → ℕ → (ℕ → A) → List A

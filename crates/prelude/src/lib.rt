@@ -1,4 +1,6 @@
 // What both games share: tests, sums and lists over the numbers below a bound (in specs/, with laws in proofs/), and the copying and testing of bytes.
+#![tactic(auto)]
+
 ghost use Rattle.std.specs.Prelude.{◌≡◌, ◌+◌, ◌≤◌, ltb, length, get_or, take};
 ghost use Rattle.std.proofs.Math.Seq.{paste};
 ghost use Rattle.prelude.specs.Finite.{some, has};

@@ -1,4 +1,6 @@
 // The numbers that a refused call answers, in the order of document 01's list; specs/Refusals.antt says what each means. 0 is an accepted call.
+#![tactic(auto)]
+
 ghost use Rattle.std.specs.Prelude.{◌≡◌, cond, eqb};
 
 pub const ACCEPTED: u64 = 0;

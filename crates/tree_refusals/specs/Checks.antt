@@ -3,7 +3,7 @@
 use Rattle.std.specs.Prelude.{not, List, [], ◌∷◌, ◌++◌, ℕ, ◌*◌, eqb, leb, ltb, length}
 use Rattle.refusals.specs.Refusals.{Check, ◌refuses◌, first}
 use Rattle.refusals.specs.Refusals as Refusals
-use Rattle.prelude.specs.Finite.{◌||◌}
+use Rattle.prelude.specs.Finite.{◌or◌}
 use Rattle.game_tree.specs.Sets.{size, set_count, set_actions, entries}
 use Rattle.game_tree.specs.Table.{Table, add_up}
 use Rattle.games.specs.declared.Game.{Game}
@@ -32,7 +32,7 @@ seat_check g seat = leb g.seats seat refuses Refusals.seat
 
 -- 6: D, the parts per set
 abbrev pub parts_check : Game → ℕ → Check
-parts_check g D = (eqb D 0 || ltb (most_parts g) D) refuses Refusals.parts
+parts_check g D = (eqb D 0 or ltb (most_parts g) D) refuses Refusals.parts
 
 -- 7: a table or a profile of n entries
 abbrev pub length_check : Game → ℕ → Check

@@ -1,5 +1,7 @@
 // What refuses a call that needs a game's tree, settled before a word of work memory is written. The checks of the tree come first; behind them each stands by
 // itself, and the earliest refusal decides.
+#![tactic(auto)]
+
 pub mod checks;
 
 ghost use Rattle.std.specs.Prelude.{◌*◌, ◌≤◌, ◌<◌, length};

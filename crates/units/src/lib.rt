@@ -1,4 +1,6 @@
 // Whole units over a tree in work memory.
+#![tactic(auto)]
+
 pub mod shares;
 pub mod sums;
 

@@ -7,7 +7,7 @@ ghost use Rattle.units.specs.internal.Readable.{UNITS};
 use arena::payoffs::lifted;
 use std::num::wrapping_add_u64;
 
-#[derive(Drop)]
+#[derive(Clone, Copy)]
 pub struct Sums {
     pub of: [u64; 6],
 }

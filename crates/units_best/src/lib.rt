@@ -1,5 +1,7 @@
 // The best value of a seat against a table, and the reply behind it, where the game's tree is stored. Behind the tree's index stand the units of each node, and
 // behind these the choices.
+#![tactic(auto)]
+
 ghost use Rattle.std.specs.Prelude.{◌≡◌, ◌*◌, ◌≤◌, ◌<◌, length};
 ghost use Rattle.std.proofs.lemmas.List.Edits.{sets};
 ghost use Rattle.game_tree.specs.Table.{table_best, reply_table};

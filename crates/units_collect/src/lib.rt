@@ -1,4 +1,6 @@
 // The units of each node, for a seat that replies to a table: stored in work memory, behind the tree.
+#![tactic(auto)]
+
 pub mod ends;
 
 ghost use Rattle.std.specs.Prelude.{◌≤◌, length};

@@ -1,4 +1,6 @@
 // The reply as a table: D parts on the choice in each set of the seat, 0 on its other actions, and the given table's parts in the other seats' sets.
+#![tactic(auto)]
+
 ghost use Rattle.std.specs.Prelude.{◌≡◌, cond, [], ◌∷◌, ◌≤◌, eqb, get_or, set, take};
 ghost use Rattle.std.proofs.lemmas.List.Edits.{sets};
 ghost use Rattle.units_values.specs.internal.Valued.{Walkable};

@@ -1,4 +1,6 @@
 // Whole units by game number: the units of a game's root, and what a table is worth.
+#![tactic(auto)]
+
 pub mod worths;
 
 ghost use Rattle.std.specs.Prelude.{◌≡◌, ◌*◌, ◌^◌, ◌≤◌, ◌<◌};

@@ -1,4 +1,6 @@
 // The worths of a table: what it is worth to each seat, in whole units.
+#![tactic(auto)]
+
 ghost use Rattle.std.specs.Prelude.{◌≡◌, ◌*◌, ◌≤◌, length};
 ghost use Rattle.games.specs.Games.{game_of};
 ghost use Rattle.games.specs.Facts.{nodes_of};
@@ -13,7 +15,7 @@ use games::Game;
 // A call's refusal number, 0 if it was accepted, and the worth of each of count seats, 0 past them; every number but the first is 0 if it was refused. C has it
 // as it is.
 #[repr(C)]
-#[derive(Drop)]
+#[derive(Clone, Copy)]
 pub struct WorthsAnswer {
     pub refusal: u64,
     pub count: usize,

@@ -1,6 +1,6 @@
 -- How a tree is indexed: each set gets its first entry, then its members are linked. Definitions only; nothing is assumed.
 use Rattle.std.specs.Prelude.{◌≡◌, Bool, not, cond, List, ℕ, suc, ◌+◌, ◌-◌, ◌%◌, eqb, get_or, set}
-use Rattle.prelude.specs.Finite.{◌&&◌}
+use Rattle.prelude.specs.Finite.{◌and◌}
 use Rattle.game_tree.specs.Tree.{Key, Tree}
 use Rattle.game_tree.specs.Conditions.{Every}
 use Rattle.game_tree.specs.Sets.{size, first_entry}
@@ -9,7 +9,7 @@ use Rattle.arena.specs.internal.Index.{Kept, Coded, Indexed}
 
 -- word x is a decision, and the word at its set's code is 0
 unfoldable pub is_new : List ℕ → ℕ → ℕ → Bool
-is_new w nodes x = eqb (kind_of x) DECISION && eqb (get_or w (nodes + set_of x) 0) 0
+is_new w nodes x = eqb (kind_of x) DECISION and eqb (get_or w (nodes + set_of x) 0) 0
 
 -- such a word has its set entered
 pub record Met (nodes x entry : ℕ) (old new : List ℕ) (r : ℕ) : Type 0 where
@@ -18,7 +18,7 @@ pub record Met (nodes x entry : ℕ) (old new : List ℕ) (r : ℕ) : Type 0 whe
 
 -- word x is a decision, and the word at its set's code is not 0
 unfoldable pub is_known : List ℕ → ℕ → ℕ → Bool
-is_known w nodes x = eqb (kind_of x) DECISION && not (eqb (get_or w (nodes + set_of x) 0) 0)
+is_known w nodes x = eqb (kind_of x) DECISION and not (eqb (get_or w (nodes + set_of x) 0) 0)
 
 -- the first entry that stands at the code of word x
 abbrev pub entry_of : List ℕ → ℕ → ℕ → ℕ
