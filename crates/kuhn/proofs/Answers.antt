@@ -10,7 +10,7 @@ use lib.IntN.{ℤ, pos}
 use lib.ListN.{length, get_or, take, drop, replicate}
 use Rattle.refusals.specs.Refusals.{Check, first, ◌refuses◌}
 use Rattle.refusals.proofs.Order.{refused, passed, fails_first, fails_rest}
-use Rattle.prelude.specs.Finite.{◌&&◌, ◌||◌}
+use Rattle.prelude.specs.Finite.{◌and◌, ◌or◌}
 use Rattle.prelude.proofs.Tests.{Tested, holds, fails, tested, both, and_left, and_right, and_left_fails, and_right_fails, or_false_left}
 use Rattle.prelude.proofs.Lists.{get_d_within}
 use Rattle.kuhn_rules.specs.Rules.{ended, overrun, live, over, due, remaining}
@@ -86,7 +86,7 @@ module _ (g : KuhnPoker) (s : KuhnState) (tens : length s.cards ≡ 10) (ninetee
 
   step-played : played g.players (history_of s) ≡ true
   step-played =
-      and_right (eqb s.acted 0 || eqb s.dealt g.players) _
+      and_right (eqb s.acted 0 or eqb s.dealt g.players) _
       (and_right (fair g.players (cards_of s)) _
       (sym (reachable_is s tens nineteen (cards-in g.players s step-position) (actions-in g.players s step-position) g.players) ∙ is-reached g.players s step-position))
 
@@ -191,8 +191,8 @@ module _ (n : ℕ) (s : KuhnState) where
   saved-tests false false false false false false cs z = (refl, refl, refl)
 
   module _ (ok : first (saved_checks n s) ≡ 0) where
-    saved-all : (cs : List Check) → (seats-out n ≡ false) × ((ltb (2 * n - 1) s.acted || unknown (history_of s)) ≡ false) × (first (saved_checks n s ++ cs) ≡ first cs)
-    saved-all cs = saved-tests (seats-out n) (not (eqb s.dealt n)) (strange n (cards_of s)) (twice (cards_of s)) (ltb (2 * n - 1) s.acted || unknown (history_of s)) (overrun n (history_of s)) cs ok
+    saved-all : (cs : List Check) → (seats-out n ≡ false) × ((ltb (2 * n - 1) s.acted or unknown (history_of s)) ≡ false) × (first (saved_checks n s ++ cs) ≡ first cs)
+    saved-all cs = saved-tests (seats-out n) (not (eqb s.dealt n)) (strange n (cards_of s)) (twice (cards_of s)) (ltb (2 * n - 1) s.acted or unknown (history_of s)) (overrun n (history_of s)) cs ok
 
     pub saved-seats : 1 ≤ n
     saved-seats = let w = seats_least n (saved-all []).0 in omega arith
@@ -286,9 +286,9 @@ module _ (g : KuhnPoker) (s : KuhnState) (tens : length s.cards ≡ 10) (ninetee
     unfolding deal-refusal
     deal-accepted = accepted-position g.players s (deal_checks g.players s k) e
 
-    deal-fit : (due g.players (cards_of s) && ltb k (length (remaining g.players (cards_of s)))) ≡ true
+    deal-fit : (due g.players (cards_of s) and ltb k (length (remaining g.players (cards_of s)))) ≡ true
     unfolding deal-refusal
-    deal-fit = not-false _ (fails_first (not (due g.players (cards_of s) && ltb k (length (remaining g.players (cards_of s))))) 19 [] (sym (own g s tens nineteen deal-accepted (deal_checks g.players s k)) ∙ e))
+    deal-fit = not-false _ (fails_first (not (due g.players (cards_of s) and ltb k (length (remaining g.players (cards_of s))))) 19 [] (sym (own g s tens nineteen deal-accepted (deal_checks g.players s k)) ∙ e))
 
     pub deal-due : s.dealt < g.players
     deal-due = let w = ltb-true (length (cards_of s)) g.players (and_left (due g.players (cards_of s)) _ deal-fit) in omega (arith, cards_long g s tens nineteen deal-accepted)

@@ -8,7 +8,7 @@ use lib.Dec.{eqb, ltb, leb}
 use borrow.Author.Tests.{le-ltb, le-leb, eq-eqb, ltb-false, eqb-true, not-false}
 use lib.ListN.{length}
 use Rattle.refusals.specs.Refusals.{first, ◌refuses◌}
-use Rattle.prelude.specs.Finite.{◌&&◌, ◌||◌}
+use Rattle.prelude.specs.Finite.{◌and◌, ◌or◌}
 use Rattle.prelude.proofs.Tests.{both, neither, and_right, or_right, or_false_left, or_false_right}
 use Rattle.kuhn_rules.specs.Rules.{ended, overrun}
 use Rattle.kuhn_rules.specs.Reached.{strange, twice, unknown, fair, played, possible}
@@ -27,7 +27,7 @@ use Rattle.kuhn_rules.proofs.Facts.{possible-fair, possible-played, fair_tests, 
 pub reachable_by_moves : ReachableByMoves
 unfolding reachable
 reachable_by_moves n s = (
-  (λ e. (reachable-dealt n s e, reachable-acted n s e, possible-reached n (cards_of s) (history_of s) (and_right (leb s.dealt 10 && leb s.acted 19) _ e))),
+  (λ e. (reachable-dealt n s e, reachable-acted n s e, possible-reached n (cards_of s) (history_of s) (and_right (leb s.dealt 10 and leb s.acted 19) _ e))),
   (λ (a, b, r). both (both (le-leb s.dealt 10 a) (le-leb s.acted 19 b)) (reached-possible n r)),
 )
 
@@ -37,7 +37,7 @@ module _ (g : KuhnPoker) (s : KuhnState) (m : ℕ) (z : Sized s) where
   n = g.players
 
   abbrev long : Bool
-  long = ltb (2 * n - 1) s.acted || unknown (history_of s)
+  long = ltb (2 * n - 1) s.acted or unknown (history_of s)
 
   abbrev marked : Bool
   marked = eqb m (mark (ended n (history_of s)))

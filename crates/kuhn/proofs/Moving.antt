@@ -1,7 +1,7 @@
 -- An accepted deal adds its card and an accepted step its action, and legal moves reach what they give. Assumes nothing.
-use mathlib.Core.Path.{◌≡◌, refl, sym, ap, subst, ◌∙◌}
+use mathlib.Core.Path.{◌≡◌, refl, sym, subst, ◌∙◌}
 use mathlib.Core.Logic.{◌≢◌}
-use mathlib.Core.Bool.{Bool, true, false, not, cond}
+use mathlib.Core.Bool.{true, cond}
 use mathlib.Core.List.{List, [], ◌∷◌, ◌++◌}
 use Prim.Native.Nat.{ℕ, zero, suc, ◌+◌, ◌≤◌, ◌<◌}
 use native.Mathlib.Numerals.{add-one}
@@ -11,15 +11,15 @@ use lib.ListN.{length, get_or, take, set, length-set}
 use lib.Seq.{take-suc-set, get_or-set_other}
 use borrow.Author.Tests.{le-leb, ltb-true, ltb-false, not-false}
 use Rattle.refusals.specs.Facts.{NoneHolds}
-use Rattle.prelude.specs.Finite.{◌&&◌}
+use Rattle.prelude.specs.Finite.{◌and◌}
 use Rattle.prelude.proofs.Tests.{Tested, holds, fails, tested, and_left, and_right}
 use Rattle.prelude.proofs.Lists.{those_below}
 use Rattle.kuhn_rules.specs.Rules.{BET, due, live, left, remaining}
 use Rattle.kuhn_rules.specs.Moves.{Reached, deal, act}
 use Rattle.kuhn_positions.specs.Positions.{cards_of, history_of, with_card, with_action, counted, reachable}
-use Rattle.kuhn_positions.proofs.Positions.{dealt_is, acted_is, reachable-dealt, reachable-acted, seats_most}
+use Rattle.kuhn_positions.proofs.Positions.{dealt_is, acted_is, seats_most}
 use Rattle.kuhn.specs.Calls.{moved, deal-refusal, dealt, step_refusal, stepped}
-use Rattle.kuhn.specs.Facts.{Sized, KeptBut, Fit, OneCardMore, OneActionMore, Deals, Steps}
+use Rattle.kuhn.specs.Facts.{Sized, KeptBut, OneCardMore, OneActionMore, Deals, Steps}
 use Rattle.kuhn.specs.declared.KuhnPoker.{KuhnPoker}
 use Rattle.kuhn_positions.specs.declared.KuhnState.{KuhnState}
 use Rattle.kuhn.proofs.Answers.{room_to_act}
@@ -59,7 +59,7 @@ module _ (g : KuhnPoker) (s : KuhnState) (z : Sized s) where
     unfolding NoneHolds
     deal_passed =
         let (a, (b, (c, d))) = ((calls-decide g s).deal-decides k).accepts.0 e in
-        let f : (due n (cards_of s) && ltb k (length (remaining n (cards_of s)))) ≡ true = not-false _ c in
+        let f : (due n (cards_of s) and ltb k (length (remaining n (cards_of s)))) ≡ true = not-false _ c in
         (seats_most n a, not-false _ b, and_left _ _ f, ltb-true _ _ (and_right (due n (cards_of s)) _ f))
 
     card_left : left n (cards_of s) card ≡ true

@@ -8,13 +8,13 @@ use native.Mathlib.Omega.{arith}
 use lib.Dec.{eqb, ltb}
 use lib.ListN.{get_or}
 use borrow.Author.Tests.{eq-eqb, ne_eqb, eqb-true, eqb-false, ltb-true, ltb-false}
-use Rattle.prelude.specs.Finite.{some, ◌&&◌}
+use Rattle.prelude.specs.Finite.{some, ◌and◌}
 use Rattle.prelude.proofs.Tests.{Tested, holds, fails, tested, none, some_here, both, and_left_fails, and_right_fails}
 
 module _ (h : List ℕ) (n p : ℕ) where
   -- the seat bets at place k
   abbrev pub bet_at : ℕ → Bool
-  bet_at k = eqb (k % n) p && eqb (get_or h k 0) 1
+  bet_at k = eqb (k % n) p and eqb (get_or h k 0) 1
 
   -- i is a turn of the seat, and it has not bet before
   abbrev pub Unbet : ℕ → Type 0

@@ -12,7 +12,7 @@ use borrow.Author.Tests.{eq-eqb, ne_eqb, ltb-true, ltb-false, leb-true, eqb-true
 use lib.IntN.{ℤ, pos, neg_ℤ, ◌+ℤ◌, +ℤ_idl, +ℤ_idr, +ℤ_assoc, +ℤ_comm, +ℤ_invl, +ℤ_invr, pos-+ℤ-pos}
 use lib.ListN.{length, get_or, take}
 use lib.Seq.{take_all}
-use Rattle.prelude.specs.Finite.{◌&&◌, ◌||◌, sum, sumℤ, has}
+use Rattle.prelude.specs.Finite.{◌and◌, ◌or◌, sum, sumℤ, has}
 use Rattle.prelude.proofs.Tests.{Tested, holds, fails, tested, true≢false, both, and_left, and_right, or_left, or_right, or_cases, none_at, some_here, every_at, below_cases}
 use Rattle.prelude.proofs.Lists.{has-take}
 use Rattle.kuhn_rules.specs.Rules.{PASS, BET, bet-made, bets, stands, wins, contribution, paid_by_others, payoff}
@@ -113,7 +113,7 @@ module _ (n : ℕ) (cs h : List ℕ) (one : 1 ≤ n) (full : length cs ≡ n) (f
   unfolding stands bets
   someone (holds m) =
       let (b, w, e) = bet-place h m in
-      (b % n, NatL.mod-lt b one, or_right (not (bet-made h)) (some_here (length h) (λ i. eqb (i % n) (b % n) && eqb (get_or h i PASS) BET) b w (both (eq-eqb (b % n) (b % n) refl) (eq-eqb (get_or h b PASS) BET e))))
+      (b % n, NatL.mod-lt b one, or_right (not (bet-made h)) (some_here (length h) (λ i. eqb (i % n) (b % n) and eqb (get_or h i PASS) BET) b w (both (eq-eqb (b % n) (b % n) refl) (eq-eqb (get_or h b PASS) BET e))))
   someone (fails m) = (0, one, or_left (bets n h 0) (ap not m))
 
   -- one that stands has the highest card, and wins
@@ -151,7 +151,7 @@ module _ (n : ℕ) (cs h : List ℕ) (one : 1 ≤ n) (full : length cs ≡ n) (f
   beats : (p q : ℕ) → p < n → q < n → wins n cs h p ≡ true → wins n cs h q ≡ true → get_or cs q 0 ≤ get_or cs p 0
   unfolding wins
   beats p q v w x y =
-      or_cases (not (stands n h q)) (leb (get_or cs q 0) (get_or cs p 0)) (every_at n (λ q. not (stands n h q) || leb (get_or cs q 0) (get_or cs p 0)) (and_right (stands n h p) _ x) q w)
+      or_cases (not (stands n h q)) (leb (get_or cs q 0) (get_or cs p 0)) (every_at n (λ q. not (stands n h q) or leb (get_or cs q 0) (get_or cs p 0)) (and_right (stands n h p) _ x) q w)
       (λ z. true≢false (not (stands n h q)) z (ap not (and_left (stands n h q) _ y)))
       (λ z. leb-true (get_or cs q 0) (get_or cs p 0) z)
 

@@ -7,7 +7,7 @@ use native.Mathlib.Omega.{arith}
 use lib.Dec.{eqb, ltb, leb}
 use borrow.Author.Tests.{lt-leb, eq-eqb, ne_eqb, ltb-false, eqb-true, not-true}
 use lib.ListN.{length}
-use Rattle.prelude.specs.Finite.{◌&&◌, ◌||◌, has}
+use Rattle.prelude.specs.Finite.{◌and◌, ◌or◌, has}
 use Rattle.prelude.proofs.Tests.{Tested, holds, fails, tested, and_left, and_right, and_left_fails, and-rest}
 use Rattle.prelude.proofs.Lists.{those-ascending, has-those}
 use Rattle.kuhn_rules.specs.Rules.{PASS, BET, turn, live, left, remaining, legal, overrun}
@@ -29,7 +29,7 @@ module _ (n : ℕ) (cs h : List ℕ) (p : possible n cs h ≡ true) where
 
   pub possible-played : played n h ≡ true
   unfolding possible
-  possible-played = and_right (eqb (length h) 0 || eqb (length cs) n) _ (and_right (fair n cs) _ p)
+  possible-played = and_right (eqb (length h) 0 or eqb (length cs) n) _ (and_right (fair n cs) _ p)
 
   pub possible-overrun : overrun n h ≡ false
   unfolding played
@@ -47,16 +47,16 @@ played_tests n h p = (not-true (unknown h) (and_left (not (unknown h)) _ p), not
 
 -- PASS and BET are the actions up to BET
 pass_or_bet : (a : ℕ) → has a (PASS ∷ BET ∷ []) ≡ leb a BET
-unfolding has ◌||◌
+unfolding has ◌or◌
 pass_or_bet zero = refl
 pass_or_bet (suc zero) = refl
 pass_or_bet (suc (suc a)) = rw (ne_eqb PASS (suc (suc a)) (λ q. omega arith), ne_eqb BET (suc (suc a)) (λ q. omega arith)) (sym (lt-leb (suc (suc a)) BET (omega arith)))
 
 pub legal-moves : LegalMoves
-unfolding legal has ◌&&◌
+unfolding legal has ◌and◌
 legal-moves n cs h a = at (live n cs h)
   where
-    at : (b : Bool) → has a (cond (b && eqb (turn n h) (turn n h)) (PASS ∷ BET ∷ []) []) ≡ (b && leb a BET)
+    at : (b : Bool) → has a (cond (b and eqb (turn n h) (turn n h)) (PASS ∷ BET ∷ []) []) ≡ (b and leb a BET)
     at true = ap (λ t. has a (cond t (PASS ∷ BET ∷ []) [])) (eq-eqb (turn n h) (turn n h) refl) ∙ pass_or_bet a
     at false = refl
 
@@ -78,7 +78,7 @@ pub all_left : AllLeft
 unfolding remaining
 all_left n cs c = has-those (left n cs) c (n + 1) ∙ below (tested (ltb c (n + 1)))
   where
-    below : Tested (ltb c (n + 1)) → (ltb c (n + 1) && left n cs c) ≡ left n cs c
+    below : Tested (ltb c (n + 1)) → (ltb c (n + 1) and left n cs c) ≡ left n cs c
     below (holds t) = and-rest (left n cs c) t
     below (fails t) = and_left_fails (left n cs c) t ∙ sym (past_deck n cs c (let w = ltb-false c (n + 1) t in omega arith))
 

@@ -8,7 +8,7 @@ use lib.Dec.{eqb, ltb}
 use borrow.Author.Tests.{lt-ltb, ltb-true, ltb-false, eq-eqb, ne_eqb, eqb-true, eqb-false}
 use lib.ListN.{length, get_or, take}
 use lib.Seq.{length-take-le, get_or-take, take-take, take-length}
-use Rattle.prelude.specs.Finite.{◌&&◌, ◌||◌, some}
+use Rattle.prelude.specs.Finite.{◌and◌, ◌or◌, some}
 use Rattle.prelude.proofs.Tests.{Tested, holds, fails, tested, true≢false, iff, eqb-iff, some_here, some_at, some_same}
 use Rattle.prelude.proofs.Lists.{some_take}
 use Rattle.kuhn_rules.specs.Rules.{PASS, BET, bet-made, after-bet, ended, overrun, bets, stands}
@@ -18,9 +18,9 @@ pub unknown-take : (a : ℕ) (l : List ℕ) → a ≤ length l → unknown (take
 unfolding unknown
 unknown-take a l h = some_take (λ i x. ltb BET x) a l 0 h
 
-pub bets-take : (n a : ℕ) (l : List ℕ) (p : ℕ) → a ≤ length l → bets n (take a l) p ≡ some a (λ i. eqb (i % n) p && eqb (get_or l i PASS) BET)
+pub bets-take : (n a : ℕ) (l : List ℕ) (p : ℕ) → a ≤ length l → bets n (take a l) p ≡ some a (λ i. eqb (i % n) p and eqb (get_or l i PASS) BET)
 unfolding bets
-bets-take n a l p h = some_take (λ i x. eqb (i % n) p && eqb x BET) a l PASS h
+bets-take n a l p h = some_take (λ i x. eqb (i % n) p and eqb x BET) a l PASS h
 
 -- ---- the end of a hand, by the place b of its first bet
 
@@ -32,12 +32,12 @@ quiet-rest : (x : ℕ) (h : List ℕ) (b : ℕ) → Quiet (x ∷ h) (suc b) → 
 quiet-rest x h b q k l e = q (suc k) (omega arith) e
 
 no_bet : (h : List ℕ) → Quiet h (length h) → bet-made h ≡ false
-unfolding bet-made ◌||◌
+unfolding bet-made ◌or◌
 no_bet [] q = refl
 no_bet (x ∷ h) q = rw (ne_eqb x BET (q 0 (omega arith))) (no_bet h (quiet-rest x h (length h) q))
 
 bet_at : (h : List ℕ) (b : ℕ) → Quiet h b → b < length h → get_or h b 0 ≡ BET → (bet-made h ≡ true) × (length (after-bet h) + (b + 1) ≡ length h)
-unfolding bet-made after-bet ◌||◌
+unfolding bet-made after-bet ◌or◌
 bet_at [] b q l e = absurd (omega arith)
 bet_at (x ∷ h) zero q l e = rw (eq-eqb x BET e) (refl, omega arith)
 bet_at (x ∷ h) (suc b) q l e = rw (ne_eqb x BET (q 0 (omega arith))) (let (m, r) = bet_at h b (quiet-rest x h b q) (omega arith) e in (m, omega arith))
@@ -172,9 +172,9 @@ unbet_is k b l h m q f = at (tested (eqb b k))
     at (fails t) = let w : b < k = omega (arith, m, eqb-false b k t) in rw (t, bet-made_in k b l h q w (f w)) refl
 
 pub stands-quiet : (n : ℕ) (h : List ℕ) (p : ℕ) → true ≡ not (bet-made h) → stands n h p ≡ true
-unfolding stands ◌||◌
+unfolding stands ◌or◌
 stands-quiet n h p e = rw (← e) refl
 
 pub stands-bet : (n : ℕ) (h : List ℕ) (p : ℕ) → false ≡ not (bet-made h) → stands n h p ≡ bets n h p
-unfolding stands ◌||◌
+unfolding stands ◌or◌
 stands-bet n h p e = rw (← e) refl

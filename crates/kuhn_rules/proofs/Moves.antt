@@ -8,7 +8,7 @@ use lib.Dec.{eqb, leb, ltb, leb-zero}
 use borrow.Author.Tests.{lt-ltb, le-ltb, le-leb, eq-eqb, ltb-true, ltb-false, leb-true, eqb-true, not-true}
 use lib.ListN.{length, get_or, take, length-append}
 use lib.Seq.{take-append_seam, take_all, take-suc, take-length, length-take-le, get_or_at}
-use Rattle.prelude.specs.Finite.{◌&&◌, ◌||◌, some, has}
+use Rattle.prelude.specs.Finite.{◌and◌, ◌or◌, some, has}
 use Rattle.prelude.proofs.Tests.{both, neither, and_left, and_right, or_left, or_right, or_cases, none_at}
 use Rattle.kuhn_rules.specs.Rules.{BET, due, left, live, ended, overrun}
 use Rattle.kuhn_rules.specs.Moves.{Reached, start, deal, act}
@@ -32,29 +32,29 @@ module _ (xs : List ℕ) (x : ℕ) where
   last_of = get_or_at xs x [] 0 (length xs) refl
 
   -- a test of a list that is a test of some place, at one element more
-  by_place : (P : List ℕ → Bool) (Q : List ℕ → ℕ → Bool) → ((a : ℕ) (l : List ℕ) → a ≤ length l → P (take a l) ≡ some a (Q l)) → P (xs ++ (x ∷ [])) ≡ (P xs || Q (xs ++ (x ∷ [])) (length xs))
+  by_place : (P : List ℕ → Bool) (Q : List ℕ → ℕ → Bool) → ((a : ℕ) (l : List ℕ) → a ≤ length l → P (take a l) ≡ some a (Q l)) → P (xs ++ (x ∷ [])) ≡ (P xs or Q (xs ++ (x ∷ [])) (length xs))
   unfolding some
   by_place P Q f =
       sym (ap P all_of) ∙ f (suc (length xs)) (xs ++ (x ∷ [])) (rw long (omega arith))
-      ∙ ap (λ b. b || Q (xs ++ (x ∷ [])) (length xs)) (sym (f (length xs) (xs ++ (x ∷ [])) (rw long (omega arith))) ∙ ap P front_of)
+      ∙ ap (λ b. b or Q (xs ++ (x ∷ [])) (length xs)) (sym (f (length xs) (xs ++ (x ∷ [])) (rw long (omega arith))) ∙ ap P front_of)
 
-  strange_more : (n : ℕ) → strange n (xs ++ (x ∷ [])) ≡ (strange n xs || ltb n x)
-  strange_more n = by_place (strange n) (λ l i. ltb n (get_or l i 0)) (strange-take n) ∙ ap (λ c. strange n xs || ltb n c) last_of
+  strange_more : (n : ℕ) → strange n (xs ++ (x ∷ [])) ≡ (strange n xs or ltb n x)
+  strange_more n = by_place (strange n) (λ l i. ltb n (get_or l i 0)) (strange-take n) ∙ ap (λ c. strange n xs or ltb n c) last_of
 
-  twice_more : twice (xs ++ (x ∷ [])) ≡ (twice xs || has x xs)
-  twice_more = by_place twice (λ l i. has (get_or l i 0) (take i l)) twice-take ∙ ap₂ (λ c l. twice xs || has c l) last_of front_of
+  twice_more : twice (xs ++ (x ∷ [])) ≡ (twice xs or has x xs)
+  twice_more = by_place twice (λ l i. has (get_or l i 0) (take i l)) twice-take ∙ ap₂ (λ c l. twice xs or has c l) last_of front_of
 
-  unknown_more : unknown (xs ++ (x ∷ [])) ≡ (unknown xs || ltb BET x)
-  unknown_more = by_place unknown (λ l i. ltb BET (get_or l i 0)) unknown-take ∙ ap (λ a. unknown xs || ltb BET a) last_of
+  unknown_more : unknown (xs ++ (x ∷ [])) ≡ (unknown xs or ltb BET x)
+  unknown_more = by_place unknown (λ l i. ltb BET (get_or l i 0)) unknown-take ∙ ap (λ a. unknown xs or ltb BET a) last_of
 
-  overrun_more : (n : ℕ) → overrun n (xs ++ (x ∷ [])) ≡ (overrun n xs || ended n xs)
-  overrun_more n = by_place (overrun n) (λ l k. ended n (take k l)) (overrun-take n) ∙ ap (λ l. overrun n xs || ended n l) front_of
+  overrun_more : (n : ℕ) → overrun n (xs ++ (x ∷ [])) ≡ (overrun n xs or ended n xs)
+  overrun_more n = by_place (overrun n) (λ l k. ended n (take k l)) (overrun-take n) ∙ ap (λ l. overrun n xs or ended n l) front_of
 
 -- ---- what moves reach passes the test
 
 module _ (n : ℕ) where
   start-possible : possible n [] [] ≡ true
-  unfolding possible fair played strange twice unknown overrun some ◌&&◌ ◌||◌
+  unfolding possible fair played strange twice unknown overrun some ◌and◌ ◌or◌
   start-possible = rw (leb-zero n)
 
   deal-possible : (cs h : List ℕ) (c : ℕ) → possible n cs h ≡ true → due n cs ≡ true → left n cs c ≡ true → possible n (cs ++ (c ∷ [])) h ≡ true
@@ -67,16 +67,16 @@ module _ (n : ℕ) where
       (both (le-leb (length (cs ++ (c ∷ []))) n (rw (long cs c) w))
       (both (ap not (strange_more cs c n ∙ neither (not-true _ (and_left (not (strange n cs)) _ g)) (le-ltb n c (leb-true c n (and_left (leb c n) _ l)))))
       (ap not (twice_more cs c ∙ neither (not-true _ (and_right (not (strange n cs)) _ g)) (not-true _ (and_right (leb c n) _ l))))))
-      (both (or_left _ (no_action w (and_left (eqb (length h) 0 || eqb (length cs) n) _ (and_right (fair n cs) _ p))))
-      (and_right (eqb (length h) 0 || eqb (length cs) n) _ (and_right (fair n cs) _ p)))
+      (both (or_left _ (no_action w (and_left (eqb (length h) 0 or eqb (length cs) n) _ (and_right (fair n cs) _ p))))
+      (and_right (eqb (length h) 0 or eqb (length cs) n) _ (and_right (fair n cs) _ p)))
     where
-      no_action : length cs < n → (eqb (length h) 0 || eqb (length cs) n) ≡ true → eqb (length h) 0 ≡ true
+      no_action : length cs < n → (eqb (length h) 0 or eqb (length cs) n) ≡ true → eqb (length h) 0 ≡ true
       no_action w e = or_cases (eqb (length h) 0) (eqb (length cs) n) e (λ q. q) (λ q. absurd (let z = eqb-true (length cs) n q in omega arith))
 
   act-possible : (cs h : List ℕ) (a : ℕ) → possible n cs h ≡ true → live n cs h ≡ true → leb a BET ≡ true → possible n cs (h ++ (a ∷ [])) ≡ true
   unfolding possible played
   act-possible cs h a p l b =
-      let q = and_right (eqb (length h) 0 || eqb (length cs) n) _ (and_right (fair n cs) _ p) in
+      let q = and_right (eqb (length h) 0 or eqb (length cs) n) _ (and_right (fair n cs) _ p) in
       both (and_left (fair n cs) _ p)
       (both (or_right _ (and_left (eqb (length cs) n) _ l))
       (both (ap not (unknown_more h a ∙ neither (not-true _ (and_left (not (unknown h)) _ q)) (le-ltb BET a (leb-true a BET b))))
@@ -130,6 +130,6 @@ module _ (n : ℕ) where
   possible-reached cs h p =
       let f = and_left (fair n cs) _ p in
       let q = and_right (fair n cs) _ p in
-      or_cases (eqb (length h) 0) (eqb (length cs) n) (and_left (eqb (length h) 0 || eqb (length cs) n) _ q)
+      or_cases (eqb (length h) 0) (eqb (length cs) n) (and_left (eqb (length h) 0 or eqb (length cs) n) _ q)
       (λ e. subst (Reached n cs) (empty h (eqb-true (length h) 0 e)) (deal-reached cs f))
-      (λ e. subst (Reached n cs) (take-length h) (actions-reached cs h f (eqb-true (length cs) n e) (and_right (eqb (length h) 0 || eqb (length cs) n) _ q) (length h) (omega arith)))
+      (λ e. subst (Reached n cs) (take-length h) (actions-reached cs h f (eqb-true (length cs) n e) (and_right (eqb (length h) 0 or eqb (length cs) n) _ q) (length h) (omega arith)))

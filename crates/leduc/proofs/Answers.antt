@@ -1,14 +1,14 @@
 -- Which number each call answers, check by check. Assumes nothing.
-use mathlib.Core.Path.{◌≡◌, refl, sym, ap, ◌∙◌}
+use mathlib.Core.Path.{◌≡◌, sym, ap, ◌∙◌}
 use mathlib.Core.Bool.{true, false, not}
-use mathlib.Core.List.{List, [], ◌∷◌}
-use Prim.Native.Nat.{ℕ, zero, suc, ◌%◌, ◌≤◌, ◌<◌}
+use mathlib.Core.List.{[], ◌∷◌}
+use Prim.Native.Nat.{ℕ, ◌%◌, ◌≤◌, ◌<◌}
 use native.Mathlib.Omega.{arith}
 use lib.Dec.{eqb, ltb}
 use lib.ListN.{length, get_or}
 use borrow.Author.Tests.{eqb-true, not-false, ltb-true, lt-ltb, le-ltb, le-leb, lt-leb, eq-eqb, ne_eqb}
 use Rattle.refusals.specs.Refusals.{first, ◌refuses◌}
-use Rattle.prelude.specs.Finite.{◌&&◌}
+use Rattle.prelude.specs.Finite.{◌and◌}
 use Rattle.prelude.proofs.Lists.{get_d_within}
 use Rattle.leduc_betting.specs.Betting.{ended}
 use Rattle.leduc_rules.specs.Rules.{due, live}
@@ -46,15 +46,15 @@ module _ (s : LeducState) where
   module _ (e : reachable s ≡ true) where
     -- then what the call asks of the position
     pub deal-idle : (k : ℕ) → due (cards_of s) s.public (round_one s) (round_two s) ≡ false → deal-refusal s k ≡ 20
-    unfolding deal-refusal ◌&&◌
+    unfolding deal-refusal ◌and◌
     deal-idle k f = rw (e, f)
 
     pub deal-past : (k : ℕ) → due (cards_of s) s.public (round_one s) (round_two s) ≡ true → ltb k (length (remaining (seen_of s))) ≡ false → deal-refusal s k ≡ 20
-    unfolding deal-refusal ◌&&◌
+    unfolding deal-refusal ◌and◌
     deal-past k f g = rw (e, f, g)
 
     pub deal-accepted : (k : ℕ) → due (cards_of s) s.public (round_one s) (round_two s) ≡ true → ltb k (length (remaining (seen_of s))) ≡ true → deal-refusal s k ≡ 0
-    unfolding deal-refusal ◌&&◌
+    unfolding deal-refusal ◌and◌
     deal-accepted k f g = rw (e, f, g)
 
     pub step-idle : live (cards_of s) s.public (round_one s) (round_two s) ≡ false → step_refusal s ≡ 20

@@ -10,7 +10,7 @@ use lib.Seq.{length-take-le}
 use borrow.Author.Tests.{eq-eqb, le-leb, le-ltb}
 use Rattle.refusals.specs.Refusals.{first, ◌refuses◌}
 use Rattle.refusals.proofs.Order.{fails_first, fails_rest}
-use Rattle.prelude.specs.Finite.{◌&&◌, ◌||◌}
+use Rattle.prelude.specs.Finite.{◌and◌, ◌or◌}
 use Rattle.prelude.proofs.Tests.{both, neither, or_left, or_false_right, true≢false}
 use Rattle.leduc_betting.specs.Betting.{closes, ended}
 use Rattle.leduc_betting.specs.Cards.{hidden, seen, strange, twice}
@@ -63,14 +63,14 @@ module _ (s : LeducState) (z : Sized s) where
 
     saved_due : public-due s.public h₁ h₂ ≡ false
     unfolding public-due
-    saved_due = fails_first (hidden s.public && (closes h₁ && not (ended h₁ h₂))) 15 (((not (hidden s.public) && not (closes h₁)) refuses 17) ∷ []) public_passed
+    saved_due = fails_first (hidden s.public and (closes h₁ and not (ended h₁ h₂))) 15 (((not (hidden s.public) and not (closes h₁)) refuses 17) ∷ []) public_passed
 
-    saved_late : (hidden s.public || closes h₁) ≡ true
-    unfolding ◌&&◌ ◌||◌
-    saved_late = go (hidden s.public) (closes h₁) (fails_first (not (hidden s.public) && not (closes h₁)) 16 [] (fails_rest ((hidden
-        s.public) && (closes h₁ && not (ended h₁ h₂))) 15 (((not (hidden s.public) && not (closes h₁)) refuses 17) ∷ []) public_passed))
+    saved_late : (hidden s.public or closes h₁) ≡ true
+    unfolding ◌and◌ ◌or◌
+    saved_late = go (hidden s.public) (closes h₁) (fails_first (not (hidden s.public) and not (closes h₁)) 16 [] (fails_rest ((hidden
+        s.public) and (closes h₁ and not (ended h₁ h₂))) 15 (((not (hidden s.public) and not (closes h₁)) refuses 17) ∷ []) public_passed))
       where
-        go : (a b : Bool) → (not a && not b) ≡ false → (a || b) ≡ true
+        go : (a b : Bool) → (not a and not b) ≡ false → (a or b) ≡ true
         go true b q = refl
         go false true q = refl
         go false false q = true≢false true refl q
@@ -124,11 +124,11 @@ module _ (s : LeducState) (z : Sized s) where
         ∙ round_pass false false s.acted1 h₁ (second_checks (hidden s.public) s.acted2 h₁ h₂) (first_passes s.acted1 h₁ (reachable-short s r).first_short parts.first_played)
         ∙ round_pass (barred_by h₁) (hidden s.public) s.acted2 h₂ (public_checks (hidden s.public) h₁ h₂) (second-passes parts s.acted2 (reachable-short s r).second_short)
 
-    not_early : (not (hidden s.public) && not (closes h₁)) ≡ false
-    unfolding ◌&&◌ ◌||◌
+    not_early : (not (hidden s.public) and not (closes h₁)) ≡ false
+    unfolding ◌and◌ ◌or◌
     not_early = go (hidden s.public) (closes h₁) parts.shown-late
       where
-        go : (a b : Bool) → (a || b) ≡ true → (not a && not b) ≡ false
+        go : (a b : Bool) → (a or b) ≡ true → (not a and not b) ≡ false
         go true b q = refl
         go false true q = refl
         go false false q = true≢false false q refl
@@ -141,7 +141,7 @@ module _ (s : LeducState) (z : Sized s) where
     unfolding public-due
     public_stops q = rw q
 
-no_card-due : (cs : List ℕ) (b : Bool) → (ltb (length cs) 2 || b) ≡ false → b ≡ false
+no_card-due : (cs : List ℕ) (b : Bool) → (ltb (length cs) 2 or b) ≡ false → b ≡ false
 no_card-due cs b e = or_false_right (ltb (length cs) 2) b e
 
 pub saved_accepts : SavedAccepts

@@ -1,7 +1,7 @@
 -- An accepted deal adds its card and an accepted step its action, and legal moves reach what they give. Assumes nothing.
-use mathlib.Core.Path.{◌≡◌, refl, sym, ap, ap₂, subst, ◌∙◌}
+use mathlib.Core.Path.{◌≡◌, refl, sym, ap, subst, ◌∙◌}
 use mathlib.Core.Logic.{◌≢◌}
-use mathlib.Core.Bool.{Bool, true, false, not, cond}
+use mathlib.Core.Bool.{true, false, cond}
 use mathlib.Core.List.{List, [], ◌∷◌, ◌++◌}
 use Prim.Native.Nat.{ℕ, zero, suc, ◌+◌, ◌≤◌, ◌<◌}
 use native.Mathlib.Numerals.{add-one}
@@ -9,14 +9,13 @@ use native.Mathlib.Omega.{arith}
 use lib.Dec.{ltb}
 use lib.ListN.{length, get_or, take, drop, set, length-set, length-drop}
 use lib.Seq.{take-suc-set, take-set-le, drop-set-lt, drop-set-add, get_or-set_other}
-use borrow.Author.Tests.{lt-ltb, le-ltb, ltb-true, ltb-false, not-false}
+use borrow.Author.Tests.{lt-ltb, ltb-true, ltb-false, not-false}
 use Rattle.refusals.specs.Facts.{NoneHolds}
-use Rattle.prelude.specs.Finite.{◌&&◌, ◌||◌}
+use Rattle.prelude.specs.Finite.{◌and◌}
 use Rattle.prelude.proofs.Tests.{Tested, holds, fails, tested, true≢false, and_left, and_right, neither, or_cases}
 use Rattle.prelude.proofs.Lists.{those_below}
 use Rattle.leduc_betting.specs.Betting.{FOLD, CALL, closes, may, counted, in_play}
 use Rattle.leduc_betting.specs.Cards.{left, remaining}
-use Rattle.leduc_betting.specs.declared.Public.TheVariants.{Card}
 use Rattle.leduc_betting.proofs.Histories.{may_call}
 use Rattle.leduc_betting.proofs.Rounds.{open_short}
 use Rattle.leduc_rules.specs.Rules.{public-due, due, live}
@@ -27,7 +26,7 @@ use Rattle.leduc_positions.specs.Positions.{cards_of, seen_of, round_one, round_
 use Rattle.leduc_positions.specs.declared.LeducState.{LeducState}
 use Rattle.leduc_positions.proofs.Positions.{cards-counted, first_counted, second-counted, room_to_act}
 use Rattle.leduc.specs.Calls.{moved, deal-refusal, dealt, step_refusal, stepped}
-use Rattle.leduc.specs.Facts.{Sized, KeptBut, Fit, OneCardMore, RoundLonger, OneActionMore, Deals, Steps}
+use Rattle.leduc.specs.Facts.{Sized, KeptBut, OneCardMore, OneActionMore, Deals, Steps}
 use Rattle.leduc.proofs.Decides.{calls-decide}
 use Rattle.leduc.proofs.Facts.{reachable_by_moves}
 
@@ -104,7 +103,7 @@ module _ (s : LeducState) (k : ℕ) (e : (dealt s k).refusal ≡ 0) where
   unfolding NoneHolds
   deal_passed =
       let (b, (c, d)) = ((calls-decide s).deal-decides k).accepts.0 e in
-      let f : (due (cards_of s) s.public (round_one s) (round_two s) && ltb k (length (remaining (seen_of s)))) ≡ true = not-false _ c in
+      let f : (due (cards_of s) s.public (round_one s) (round_two s) and ltb k (length (remaining (seen_of s)))) ≡ true = not-false _ c in
       (not-false _ b, and_left _ _ f, ltb-true _ _ (and_right (due (cards_of s) s.public (round_one s) (round_two s)) _ f))
 
   card_left : left (seen_of s) (get_or (remaining (seen_of s)) k 0) ≡ true

@@ -2,7 +2,7 @@
 use mathlib.Core.Path.{◌≡◌, refl, sym, ap, ◌∙◌}
 use mathlib.Core.Bool.{Bool, true, false, not, cond}
 use mathlib.Core.List.{List, [], ◌∷◌, ◌++◌}
-use Prim.Native.Nat.{ℕ, ◌+◌, ◌-◌, ◌≤◌, ◌<◌}
+use Prim.Native.Nat.{ℕ, ◌+◌, ◌≤◌, ◌<◌}
 use native.Mathlib.Omega.{arith}
 use native.Mathlib.Numerals.{add-one}
 use borrow.Author.Tests.{lt-ltb, le-ltb}
@@ -10,7 +10,7 @@ use lib.Dec.{eqb}
 use lib.ListN.{length, get_or, take, drop, drop_of_length-le}
 use lib.Seq.{drop-cons, take-suc}
 use Rattle.refusals.specs.Refusals.{Check, first, ◌refuses◌}
-use Rattle.prelude.specs.Finite.{◌&&◌, ◌||◌}
+use Rattle.prelude.specs.Finite.{◌and◌, ◌or◌}
 use Rattle.leduc_betting.specs.Betting.{open_round, may, closes, ended, played, unknown}
 use Rattle.leduc_betting.specs.Checks.{action_checks, barred_by, malformed, card_checks, round_checks, public_checks}
 
@@ -37,14 +37,14 @@ module _ (barred blind : Bool) (h : List ℕ) (i : ℕ) (w : i < length h) where
   unfolding action_checks
   action-passes e =
       from_here
-      ∙ two_pass (barred || not (open_round (take i h))) (blind || not (may (take i h) (get_or h i 0))) (action_checks barred blind (take i h ++ (get_or h i 0 ∷ [])) (drop (i + 1) h)) e
+      ∙ two_pass (barred or not (open_round (take i h))) (blind or not (may (take i h) (get_or h i 0))) (action_checks barred blind (take i h ++ (get_or h i 0 ∷ [])) (drop (i + 1) h)) e
       ∙ ap (λ l. first (action_checks barred blind l (drop (i + 1) h))) (sym (take-suc h i 0 w) ∙ ap (λ k. take k h) (sym (add-one i)))
 
   pub action_stops : (first here ≡ 0 → ⊥) → first (action_checks barred blind (take i h) (drop i h)) ≡ first here
   unfolding action_checks
   action_stops e =
       from_here
-      ∙ two_stop (barred || not (open_round (take i h))) (blind || not (may (take i h) (get_or h i 0))) (action_checks barred blind (take i h ++ (get_or h i 0 ∷ [])) (drop (i + 1) h)) e
+      ∙ two_stop (barred or not (open_round (take i h))) (blind or not (may (take i h) (get_or h i 0))) (action_checks barred blind (take i h ++ (get_or h i 0 ∷ [])) (drop (i + 1) h)) e
 
 pub actions_end : (barred blind : Bool) (h : List ℕ) (i : ℕ) → length h ≤ i → first (action_checks barred blind (take i h) (drop i h)) ≡ 0
 unfolding action_checks
@@ -53,10 +53,10 @@ actions_end barred blind h i w = ap (λ l. first (action_checks barred blind (ta
 -- the number of one action
 module _ (barred blind : Bool) (before : List ℕ) (a : ℕ) where
   abbrev late : Bool
-  late = barred || not (open_round before)
+  late = barred or not (open_round before)
 
   abbrev unlawful : Bool
-  unlawful = blind || not (may before a)
+  unlawful = blind or not (may before a)
 
   pub late_first : late ≡ true → 14 ≡ first (action_checks barred blind before (a ∷ []))
   unfolding action_checks
@@ -72,13 +72,13 @@ module _ (barred blind : Bool) (before : List ℕ) (a : ℕ) where
 
 -- the actions of a round were played by the rules exactly if none of them is refused
 pub played_first : (before h : List ℕ) → eqb (first (action_checks false false before h)) 0 ≡ played before h
-unfolding action_checks played ◌||◌ ◌&&◌
+unfolding action_checks played ◌or◌ ◌and◌
 played_first before [] = refl
 played_first before (a ∷ h) =
     go (open_round before) (may before a) (action_checks false false (before ++ (a ∷ [])) h)
-    ∙ ap (◌&&◌ (open_round before && may before a)) (played_first (before ++ (a ∷ [])) h)
+    ∙ ap (◌and◌ (open_round before and may before a)) (played_first (before ++ (a ∷ [])) h)
   where
-    go : (x y : Bool) (cs : List Check) → eqb (first ((not x refuses 14) ∷ (not y refuses 15) ∷ cs)) 0 ≡ ((x && y) && eqb (first cs) 0)
+    go : (x y : Bool) (cs : List Check) → eqb (first ((not x refuses 14) ∷ (not y refuses 15) ∷ cs)) 0 ≡ ((x and y) and eqb (first cs) 0)
     go true true cs = refl
     go true false cs = refl
     go false y cs = refl
@@ -114,17 +114,17 @@ round_firm barred blind n h = (omega arith, actions_firm barred blind [] h)
 
 -- a round is refused with 13 if it is too long
 pub too_long : (barred blind : Bool) (n : ℕ) (h : List ℕ) (ds : List Check) → 4 < n → 13 ≡ first (round_checks barred blind n h ++ ds)
-unfolding malformed ◌||◌
+unfolding malformed ◌or◌
 too_long barred blind n h ds w = rw (lt-ltb 4 n w)
 
 -- or else by its actions
 pub not_too_long : (n : ℕ) (h : List ℕ) → n ≤ 4 → malformed n h ≡ unknown h
-unfolding malformed ◌||◌
+unfolding malformed ◌or◌
 not_too_long n h w = rw (le-ltb 4 n w)
 
 -- the public card: missing, or there
-pub public_missing : (h₁ h₂ : List ℕ) (blind x : Bool) → blind ≡ true → (closes h₁ && not (ended h₁ h₂)) ≡ x → first (public_checks blind h₁ h₂) ≡ cond x 16 0
-unfolding ◌&&◌
+pub public_missing : (h₁ h₂ : List ℕ) (blind x : Bool) → blind ≡ true → (closes h₁ and not (ended h₁ h₂)) ≡ x → first (public_checks blind h₁ h₂) ≡ cond x 16 0
+unfolding ◌and◌
 public_missing h₁ h₂ blind x b e =
     ap (λ y. first (public_checks y h₁ h₂)) b ∙ ap (λ y. first ((y refuses 16) ∷ (false refuses 17) ∷ [])) e ∙ go x
   where
@@ -133,7 +133,7 @@ public_missing h₁ h₂ blind x b e =
     go false = refl
 
 pub public_there : (h₁ h₂ : List ℕ) (blind x : Bool) → blind ≡ false → closes h₁ ≡ x → first (public_checks blind h₁ h₂) ≡ cond x 0 17
-unfolding ◌&&◌
+unfolding ◌and◌
 public_there h₁ h₂ blind x b e =
     ap (λ y. first (public_checks y h₁ h₂)) b ∙ ap (λ y. first ((false refuses 16) ∷ (not y refuses 17) ∷ [])) e ∙ go x
   where

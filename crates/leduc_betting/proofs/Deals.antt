@@ -2,17 +2,17 @@
 use mathlib.Core.Path.{◌≡◌, refl, sym, ap, ◌∙◌}
 use mathlib.Core.Bool.{Bool, true, false, cond}
 use mathlib.Core.List.{List, [], ◌∷◌, ◌++◌}
-use Prim.Native.Nat.{ℕ, ◌+◌, ◌-◌, ◌≤◌, ◌<◌}
+use Prim.Native.Nat.{ℕ, ◌+◌, ◌≤◌, ◌<◌}
 use native.Mathlib.Nat as NatL
 use native.Mathlib.Omega.{arith}
 use native.Mathlib.Numerals.{add-one}
-use lib.Dec.{eqb, ltb}
+use lib.Dec.{ltb}
 use lib.ListN.{length, get_or, take, set, get_or-eq_default}
-use lib.Seq.{length-take-le, take-length, take-append-le, take-suc-set}
+use lib.Seq.{length-take-le, take-append-le, take-suc-set}
 use borrow.Author.Tests.{ltb-true, ltb-false, lt-ltb, le-ltb}
-use Rattle.prelude.specs.Finite.{some, those, has}
+use Rattle.prelude.specs.Finite.{those}
 use Rattle.prelude.proofs.Tests.{Tested, holds, fails, tested}
-use Rattle.prelude.proofs.Lists.{has-take, length-those_kept, length-those_passed, those_at, those_below}
+use Rattle.prelude.proofs.Lists.{length-those_kept, length-those_passed, those_at, those_below}
 
 -- a front part of two cards, and with one card more behind it
 pub two_of : (l : List ℕ) → length l ≡ 2 → l ≡ get_or l 0 0 ∷ get_or l 1 0 ∷ []

@@ -2,13 +2,13 @@
 use mathlib.Core.Path.{◌≡◌, refl, sym, ap, ◌∙◌}
 use mathlib.Core.Bool.{Bool, true, false, not, cond}
 use mathlib.Core.List.{List, [], ◌∷◌, ◌++◌, append-nil}
-use Prim.Native.Nat.{ℕ, zero, suc, ◌+◌, ◌-◌, ◌≤◌, ◌<◌}
+use Prim.Native.Nat.{ℕ, zero, suc, ◌+◌, ◌≤◌, ◌<◌}
 use native.Mathlib.Omega.{arith}
 use native.Mathlib.Numerals.{add-one}
 use lib.Dec.{eqb, ltb}
 use lib.ListN.{length, get_or, drop, drop_of_length-le}
 use lib.Seq.{drop-cons}
-use Rattle.prelude.specs.Finite.{◌&&◌, ◌||◌, those}
+use Rattle.prelude.specs.Finite.{◌and◌, ◌or◌, those}
 use Rattle.prelude.proofs.Lists.{those_kept, those_passed}
 use borrow.Author.Tests.{ne_eqb, ltb-true, ltb-false, lt-ltb}
 use Rattle.prelude.proofs.Tests.{Tested, holds, fails, tested, or_none, true≢false}
@@ -30,19 +30,19 @@ raise_at_most_one a = at_most_one (eqb a RAISE)
 -- ---- what is legal, action by action
 
 pub may_fold : (h : List ℕ) → may h FOLD ≡ ends_with RAISE h
-unfolding may behind ◌&&◌ ◌||◌
+unfolding may behind ◌and◌ ◌or◌
 may_fold h = or_none (ends_with RAISE h)
 
 pub may_call : (h : List ℕ) → may h CALL ≡ true
-unfolding may ◌&&◌ ◌||◌
+unfolding may ◌and◌ ◌or◌
 may_call h = refl
 
 pub may_raise : (h : List ℕ) → may h RAISE ≡ ltb (raises h) 2
-unfolding may ◌&&◌ ◌||◌
+unfolding may ◌and◌ ◌or◌
 may_raise h = refl
 
 pub may-other : (h : List ℕ) (a : ℕ) → (a ≡ FOLD → ⊥) → (a ≡ RAISE → ⊥) → may h a ≡ eqb a CALL
-unfolding may ◌&&◌ ◌||◌
+unfolding may ◌and◌ ◌or◌
 may-other h a f r = rw (ne_eqb a 0 f, ne_eqb a 2 r) (or_none (eqb a 1))
 
 -- a legal action is one of the three

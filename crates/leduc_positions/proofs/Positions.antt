@@ -8,7 +8,7 @@ use lib.Dec.{eqb, leb}
 use lib.ListN.{length, take, drop, length-drop}
 use lib.Seq.{length-take-le}
 use borrow.Author.Tests.{le-leb, lt-leb, leb-true}
-use Rattle.prelude.specs.Finite.{◌&&◌, ◌||◌}
+use Rattle.prelude.specs.Finite.{◌and◌, ◌or◌}
 use Rattle.prelude.proofs.Tests.{and_left, and_right, and_left_fails, and_right_fails}
 use Rattle.leduc_betting.specs.Betting.{closes, ended, played}
 use Rattle.leduc_rules.specs.Rules.{live}
@@ -20,8 +20,8 @@ use Rattle.leduc_rules.specs.Reached.{possible}
 use Rattle.leduc_positions.specs.Positions.{cards_of, seen_of, round_one, round_two, reachable}
 use Rattle.leduc_positions.specs.declared.LeducState.{LeducState}
 
-and_assoc : (a b c : Bool) → (a && (b && c)) ≡ ((a && b) && c)
-unfolding ◌&&◌
+and_assoc : (a b c : Bool) → (a and (b and c)) ≡ ((a and b) and c)
+unfolding ◌and◌
 and_assoc true b c = refl
 and_assoc false b c = refl
 
@@ -34,7 +34,7 @@ pub record Short (s : LeducState) : Type 0 where
 pub reachable-short : (s : LeducState) → reachable s ≡ true → Short s
 unfolding reachable
 reachable-short s e =
-    let l : (leb s.dealt 2 && (leb s.acted1 4 && leb s.acted2 4)) ≡ true = and_left _ _ e in
+    let l : (leb s.dealt 2 and (leb s.acted1 4 and leb s.acted2 4)) ≡ true = and_left _ _ e in
     record {
       dealt-short = leb-true _ _ (and_left _ _ l);
       first_short = leb-true _ _ (and_left _ _ (and_right _ _ l));
@@ -59,13 +59,13 @@ second_too_long s h = and_left_fails _ (and_right_fails _ (and_right_fails _ (lt
 
 -- where no length is too great, the test is one of the cards and one of the rounds
 abbrev pub cards-test : LeducState → Bool
-cards-test s = not (strange (seen_of s)) && not (twice (seen_of s))
+cards-test s = not (strange (seen_of s)) and not (twice (seen_of s))
 
 abbrev pub rounds-test : Bool → Bool → List ℕ → List ℕ → Bool
-rounds-test full closed h₁ h₂ = (full || eqb (length h₁) 0) && (played [] h₁ && (played [] h₂ && ((closed || closes h₁) && (not closed || eqb (length h₂) 0))))
+rounds-test full closed h₁ h₂ = (full or eqb (length h₁) 0) and (played [] h₁ and (played [] h₂ and ((closed or closes h₁) and (not closed or eqb (length h₂) 0))))
 
-pub reachable_tests : (s : LeducState) → Short s → length s.cards ≡ 2 → reachable s ≡ (cards-test s && rounds-test (eqb s.dealt 2) (hidden s.public) (round_one s) (round_two s))
-unfolding reachable possible ◌&&◌
+pub reachable_tests : (s : LeducState) → Short s → length s.cards ≡ 2 → reachable s ≡ (cards-test s and rounds-test (eqb s.dealt 2) (hidden s.public) (round_one s) (round_two s))
+unfolding reachable possible ◌and◌
 reachable_tests s h two =
     let d : s.dealt ≤ 2 = h.dealt-short in
     let n : length (take s.dealt s.cards) ≡ s.dealt = length-take-le s.dealt s.cards (omega arith) in

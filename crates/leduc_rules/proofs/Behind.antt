@@ -1,14 +1,14 @@
 -- The seat to act has never paid more than the other, and less exactly when it is behind. Assumes nothing.
-use mathlib.Core.Path.{◌≡◌, refl, sym, ap, ap₂, subst, ◌∙◌}
+use mathlib.Core.Path.{◌≡◌, refl, sym, ap, subst, ◌∙◌}
 use mathlib.Core.Bool.{Bool, true, false, cond}
 use mathlib.Core.List.{List, []}
-use Prim.Native.Nat.{ℕ, zero, suc, ◌+◌, ◌-◌, ◌%◌, ◌≤◌, ◌<◌}
+use Prim.Native.Nat.{ℕ, suc, ◌+◌, ◌-◌, ◌%◌, ◌≤◌, ◌<◌}
 use native.Mathlib.Nat as NatL
 use native.Mathlib.Omega.{arith}
 use lib.Dec.{eqb, ltb}
 use lib.ListN.{length, get_or}
 use borrow.Author.Tests.{eqb-true, eqb-false, ltb-true, lt-ltb, le-ltb}
-use Rattle.prelude.specs.Finite.{◌&&◌, ◌||◌, some}
+use Rattle.prelude.specs.Finite.{◌and◌, ◌or◌, some}
 use Rattle.prelude.proofs.Tests.{Tested, holds, fails, tested, iff, true≢false, and_left, and_right, and_right_fails, or_cases}
 use Rattle.leduc_betting.specs.Betting.{CALL, RAISE, ends_with, folded, closes, behind, in_play, turn, played}
 use Rattle.leduc_betting.specs.declared.Public.{Public}
@@ -46,10 +46,10 @@ shifted u {b} {x} {y} {x'} {y'} f v p q =
 
 -- the last action is CALL or RAISE, unless a seat has folded
 last_known : List ℕ → Bool
-last_known h = eqb (length h) 0 || (ends_with CALL h || (ends_with RAISE h || folded h))
+last_known h = eqb (length h) 0 or (ends_with CALL h or (ends_with RAISE h or folded h))
 
 all_known : all_of last_known rounds ≡ true
-unfolding all_of last_known rounds ◌&&◌ ◌||◌ some ends_with folded
+unfolding all_of last_known rounds ◌and◌ ◌or◌ some ends_with folded
 all_known = refl
 
 last_is : (h : List ℕ) (a : ℕ) → ends_with a h ≡ true → (length h ≡ suc (length h - 1)) × (get_or h (length h - 1) 0 ≡ a)
@@ -61,7 +61,7 @@ module _ (size : ℕ) (h : List ℕ) where
   Now = Level (0 < size) (behind h) (acting size h (length h)) (other size h (length h))
 
   at_start : length h ≡ 0 → Now
-  unfolding behind ends_with ◌&&◌ put_in
+  unfolding behind ends_with ◌and◌ put_in
   at_start e = even (behind h) _ _ (rw e refl) (rw e refl)
 
   after_call : ends_with CALL h ≡ true → Now

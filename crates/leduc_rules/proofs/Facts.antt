@@ -2,14 +2,14 @@
 use mathlib.Core.Path.{◌≡◌, refl, sym, ap, ap₂, ◌∙◌}
 use mathlib.Core.Bool.{Bool, true, false, not, cond}
 use mathlib.Core.List.{List, [], ◌∷◌, ◌++◌}
-use Prim.Native.Nat.{ℕ, zero, suc, ◌+◌, ◌-◌, ◌≤◌, ◌<◌}
+use Prim.Native.Nat.{ℕ, zero, suc, ◌≤◌, ◌<◌}
 use native.Mathlib.Omega.{arith}
 use lib.Dec.{eqb, leb, ltb}
 use lib.IntN.{pos, ◌+ℤ◌, +ℤ_invr, +ℤ_invl}
 use lib.ListN.{length, get_or, take, drop}
 use lib.Seq.{take-append_seam, drop-append_seam}
 use borrow.Author.Tests.{eq-eqb, lt-ltb, ltb-true, leb-true, leb-false, not-true}
-use Rattle.prelude.specs.Finite.{◌&&◌, ◌||◌, some, has}
+use Rattle.prelude.specs.Finite.{◌and◌, ◌or◌, some, has}
 use Rattle.prelude.proofs.Tests.{Tested, holds, fails, tested, both, and_left, and_right, and_left_fails, and_right_fails, and-rest, or_left, or_right, or_cases, or_false_right, true≢false}
 use Rattle.prelude.proofs.Lists.{those-ascending, has-those}
 use Rattle.leduc_betting.specs.Cards.{rank, left, remaining, strange}
@@ -29,10 +29,10 @@ use Rattle.leduc_rules.proofs.Moves.{reached_parts, still_hidden, hidden_none, s
 
 -- only one seat folds in a round, and none where none has folded
 lone_folder : List ℕ → Bool
-lone_folder h = not (folds h 0 && folds h 1) && (folded h || (not (folds h 0) && not (folds h 1)))
+lone_folder h = not (folds h 0 and folds h 1) and (folded h or (not (folds h 0) and not (folds h 1)))
 
 all_lone : all_of lone_folder rounds ≡ true
-unfolding all_of lone_folder rounds ◌&&◌ ◌||◌ some folds folded
+unfolding all_of lone_folder rounds ◌and◌ ◌or◌ some folds folded
 all_lone = refl
 
 -- not both seats win
@@ -56,12 +56,12 @@ nobody_folds s = refl
 module _ {cs : List ℕ} {p : Public} {h₁ h₂ : List ℕ} (w : Possible cs p h₁ h₂) where
   lone : (h : List ℕ) → lone_folder h ≡ true → folds h 0 ≡ true → folds h 1 ≡ true → ⊥
   unfolding lone_folder
-  lone h e a b = true≢false (folds h 0 && folds h 1) (both a b) (not-true (folds h 0 && folds h 1) (and_left (not (folds h 0 && folds h 1)) _ e))
+  lone h e a b = true≢false (folds h 0 and folds h 1) (both a b) (not-true (folds h 0 and folds h 1) (and_left (not (folds h 0 and folds h 1)) _ e))
 
   none_folds : (h : List ℕ) → lone_folder h ≡ true → folded h ≡ false → (s : ℕ) → s ≤ 1 → folds h s ≡ false
   unfolding lone_folder
   none_folds h e f s l =
-      or_cases (folded h) (not (folds h 0) && not (folds h 1)) (and_right (not (folds h 0 && folds h 1)) _ e)
+      or_cases (folded h) (not (folds h 0) and not (folds h 1)) (and_right (not (folds h 0 and folds h 1)) _ e)
       (λ q. true≢false (folded h) q f)
       (λ q. pick s l (not-true (folds h 0) (and_left (not (folds h 0)) (not (folds h 1)) q)) (not-true (folds h 1) (and_right (not (folds h 0)) (not (folds h 1)) q)))
     where
@@ -84,7 +84,7 @@ module _ {cs : List ℕ} {p : Public} {h₁ h₂ : List ℕ} (w : Possible cs p 
       go (holds c) = true≢false (folded h₁) f (closed-unfolded h₁ w.first_played c)
       go (fails c) = hidden_none w (still_hidden w c)
 
-  one_folds : (folds h₁ 0 || folds h₂ 0) ≡ true → (folds h₁ 1 || folds h₂ 1) ≡ true → ⊥
+  one_folds : (folds h₁ 0 or folds h₂ 0) ≡ true → (folds h₁ 1 or folds h₂ 1) ≡ true → ⊥
   one_folds a b = go (tested (folded h₁))
     where
       go : Tested (folded h₁) → ⊥
@@ -100,9 +100,9 @@ module _ {cs : List ℕ} {p : Public} {h₁ h₂ : List ℕ} (w : Possible cs p 
 
   one_wins : wins cs p h₁ h₂ 0 1 ≡ true → wins cs p h₁ h₂ 1 0 ≡ true → ⊥
   unfolding wins
-  one_wins e f = go (folded h₁ || folded h₂) e f
+  one_wins e f = go (folded h₁ or folded h₂) e f
     where
-      go : (b : Bool) → cond b (folds h₁ 1 || folds h₂ 1) (beats cs p 0 1) ≡ true → cond b (folds h₁ 0 || folds h₂ 0) (beats cs p 1 0) ≡ true → ⊥
+      go : (b : Bool) → cond b (folds h₁ 1 or folds h₂ 1) (beats cs p 0 1) ≡ true → cond b (folds h₁ 0 or folds h₂ 0) (beats cs p 1 0) ≡ true → ⊥
       go true x y = one_folds y x
       go false x y = one_beats cs p x y
 
@@ -131,7 +131,7 @@ pub all_left : AllLeft
 unfolding remaining
 all_left cs c = has-those (left cs) c 6 ∙ below (tested (ltb c 6))
   where
-    below : Tested (ltb c 6) → (ltb c 6 && left cs c) ≡ left cs c
+    below : Tested (ltb c 6) → (ltb c 6 and left cs c) ≡ left cs c
     below (holds t) = and-rest (left cs c) t
     below (fails t) = and_left_fails (left cs c) t ∙ sym (past_deck cs c t)
 
@@ -141,7 +141,7 @@ at_most_four : List ℕ → Bool
 at_most_four h = leb (length h) 4
 
 all_short : all_of at_most_four rounds ≡ true
-unfolding all_of at_most_four rounds ◌&&◌
+unfolding all_of at_most_four rounds ◌and◌
 all_short = refl
 
 pub longest-round : LongestRound
@@ -155,19 +155,19 @@ options-may : (h : List ℕ) (a : ℕ) → has a (options h) ≡ may h a
 unfolding options
 options-may h a = has-those (may h) a 3 ∙ go (tested (may h a))
   where
-    go : Tested (may h a) → (ltb a 3 && may h a) ≡ may h a
+    go : Tested (may h a) → (ltb a 3 and may h a) ≡ may h a
     go (holds t) = and-rest (may h a) (lt-ltb a 3 (let l = may-small h a t in omega arith))
     go (fails t) = and_right_fails (ltb a 3) t ∙ sym t
 
 pub legal-moves : LegalMoves
-unfolding legal in_play has ◌&&◌
+unfolding legal in_play has ◌and◌
 legal-moves cs p h₁ h₂ a = at (live cs p h₁ h₂)
   where
     round : (b : Bool) → may (cond b h₂ h₁) a ≡ cond b (may h₂ a) (may h₁ a)
     round true = refl
     round false = refl
 
-    at : (b : Bool) → has a (cond (b && eqb (turn h₁ h₂) (turn h₁ h₂)) (options (in_play h₁ h₂)) []) ≡ (b && cond (closes h₁) (may h₂ a) (may h₁ a))
+    at : (b : Bool) → has a (cond (b and eqb (turn h₁ h₂) (turn h₁ h₂)) (options (in_play h₁ h₂)) []) ≡ (b and cond (closes h₁) (may h₂ a) (may h₁ a))
     at true = ap (λ t. has a (cond t (options (in_play h₁ h₂)) [])) (eq-eqb (turn h₁ h₂) (turn h₁ h₂) refl) ∙ options-may (in_play h₁ h₂) a ∙ round (closes h₁)
     at false = refl
 

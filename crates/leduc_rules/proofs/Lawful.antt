@@ -3,13 +3,12 @@ use mathlib.Core.Path.{◌≡◌, refl, ap, ap₂, ◌∙◌}
 use mathlib.Core.Bool.{Bool, true, false, not}
 use mathlib.Core.List.{List, [], ◌∷◌, ◌++◌}
 use Prim.Native.Nat.{ℕ, ◌≤◌}
-use native.Mathlib.Omega.{arith}
 use lib.Dec.{eqb, ltb}
 use lib.ListN.{length}
 use borrow.Author.Tests.{eqb-true, ltb-false, le-ltb, not-true, not-false}
 use Rattle.refusals.specs.Refusals.{first, ◌refuses◌}
 use Rattle.refusals.proofs.Order.{fails_first, fails_rest}
-use Rattle.prelude.specs.Finite.{◌&&◌, ◌||◌, some}
+use Rattle.prelude.specs.Finite.{◌and◌, ◌or◌, some}
 use Rattle.prelude.proofs.Tests.{Tested, holds, fails, tested, both, neither, or_cases, or_false_left, or_false_right, true≢false}
 use Rattle.leduc_betting.specs.Betting.{closes, open_round, may, played, unknown}
 use Rattle.leduc_betting.specs.Cards.{hidden}
@@ -26,19 +25,19 @@ pub actions-played : (barred blind : Bool) (before h : List ℕ) → first (acti
 unfolding action_checks played
 actions-played barred blind before [] e = refl
 actions-played barred blind before (a ∷ h) e =
-    let e₁ = fails_rest (barred || not (open_round before)) 13 (((blind || not (may before a)) refuses 15) ∷ action_checks barred blind (before ++ (a ∷ [])) h) e in
+    let e₁ = fails_rest (barred or not (open_round before)) 13 (((blind or not (may before a)) refuses 15) ∷ action_checks barred blind (before ++ (a ∷ [])) h) e in
     both
     (both
-    (not-false (open_round before) (or_false_right barred (not (open_round before)) (fails_first (barred || not (open_round before)) 13 (((blind || not (may before a)) refuses 15) ∷ action_checks barred blind (before ++ (a ∷ [])) h) e)))
-    (not-false (may before a) (or_false_right blind (not (may before a)) (fails_first (blind || not (may before a)) 14 (action_checks barred blind (before ++ (a ∷ [])) h) e₁))))
-    (actions-played barred blind (before ++ (a ∷ [])) h (fails_rest (blind || not (may before a)) 14 (action_checks barred blind (before ++ (a ∷ [])) h) e₁))
+    (not-false (open_round before) (or_false_right barred (not (open_round before)) (fails_first (barred or not (open_round before)) 13 (((blind or not (may before a)) refuses 15) ∷ action_checks barred blind (before ++ (a ∷ [])) h) e)))
+    (not-false (may before a) (or_false_right blind (not (may before a)) (fails_first (blind or not (may before a)) 14 (action_checks barred blind (before ++ (a ∷ [])) h) e₁))))
+    (actions-played barred blind (before ++ (a ∷ [])) h (fails_rest (blind or not (may before a)) 14 (action_checks barred blind (before ++ (a ∷ [])) h) e₁))
 
 -- a round that is blind holds no action
-pub blind_empty : (barred blind : Bool) (h : List ℕ) → first (action_checks barred blind [] h) ≡ 0 → (not blind || eqb (length h) 0) ≡ true
-unfolding action_checks ◌||◌
+pub blind_empty : (barred blind : Bool) (h : List ℕ) → first (action_checks barred blind [] h) ≡ 0 → (not blind or eqb (length h) 0) ≡ true
+unfolding action_checks ◌or◌
 blind_empty barred false h e = refl
 blind_empty barred true [] e = refl
-blind_empty barred true (a ∷ h) e = true≢false true refl (fails_first true 14 (action_checks barred true (a ∷ []) h) (fails_rest (barred || not (open_round [])) 13 ((true refuses 15) ∷ action_checks barred true (a ∷ []) h) e))
+blind_empty barred true (a ∷ h) e = true≢false true refl (fails_first true 14 (action_checks barred true (a ∷ []) h) (fails_rest (barred or not (open_round [])) 13 ((true refuses 15) ∷ action_checks barred true (a ∷ []) h) e))
 
 pub fits_length : (n : ℕ) (h : List ℕ) → malformed n h ≡ false → n ≤ 4
 unfolding malformed
@@ -50,7 +49,7 @@ known : List ℕ → Bool
 known h = not (unknown h)
 
 all_known : all_of known rounds ≡ true
-unfolding all_of known rounds ◌&&◌ ◌||◌ some unknown
+unfolding all_of known rounds ◌and◌ ◌or◌ some unknown
 all_known = refl
 
 pub played-known : (n : ℕ) (h : List ℕ) → n ≤ 4 → played [] h ≡ true → malformed n h ≡ false

@@ -1,15 +1,14 @@
 -- What a seat puts in in a round, turn by turn: linear in the raise, and equal for both seats once the round has closed. Assumes nothing.
 use mathlib.Core.Path.{◌≡◌, refl, sym, ap, ap₂, ◌∙◌}
 use mathlib.Core.Bool.{Bool, true, false, cond}
-use mathlib.Core.List.{List, []}
-use Prim.Native.Nat.{ℕ, zero, suc, ◌+◌, ◌*◌, ◌-◌, ◌%◌, ◌≤◌}
+use mathlib.Core.List.{List}
+use Prim.Native.Nat.{ℕ, zero, suc, ◌+◌, ◌*◌, ◌-◌, ◌%◌}
 use native.Mathlib.Nat as NatL
 use native.Mathlib.Numerals.{add-one}
 use native.Mathlib.Omega.{arith}
 use lib.Dec.{eqb, leb, ltb}
 use lib.ListN.{length, get_or}
 use borrow.Author.Tests.{eq-eqb, ne_eqb, eqb-true, eqb-false, leb-true}
-use Rattle.prelude.specs.Finite.{◌&&◌}
 use Rattle.prelude.proofs.Tests.{Tested, holds, fails, tested, and_left, and_right}
 use Rattle.leduc_betting.specs.Betting.{CALL, RAISE, ends_with, closes}
 use Rattle.leduc_rules.specs.Rules.{after-action, put_in, added, contribution}

@@ -9,7 +9,7 @@ use lib.Dec.{eqb, leb, ltb}
 use lib.ListN.{length, get_or, take, length-append, get_or-append}
 use lib.Seq.{take-append-le, take-append_seam, get_or_at}
 use borrow.Author.Tests.{eqb-true, eq-eqb, leb-false, le-leb, lt-leb, lt-ltb, le-ltb, ltb-true, ltb-false, not-true}
-use Rattle.prelude.specs.Finite.{◌&&◌, ◌||◌, some, has}
+use Rattle.prelude.specs.Finite.{◌and◌, ◌or◌, some, has}
 use Rattle.prelude.proofs.Tests.{some_same, both, and_left, and_right, and_left_fails, and_right_fails, or_left, or_right, or_cases, or_false_left, or_false_right, neither, true≢false}
 use Rattle.leduc_betting.specs.Betting.{folded, closes, open_round, may, ended, played}
 use Rattle.leduc_betting.specs.Cards.{hidden, seen, left, strange, twice}
@@ -27,23 +27,23 @@ module _ (xs : List ℕ) (x : ℕ) where
   long : length (xs ++ (x ∷ [])) ≡ suc (length xs)
   long = length-append xs (x ∷ []) ∙ (let e : length xs + 1 ≡ suc (length xs) = omega arith in e)
 
-  some_more : (Q : List ℕ → ℕ → Bool) → ((i : ℕ) → i < length xs → Q (xs ++ (x ∷ [])) i ≡ Q xs i) → some (length (xs ++ (x ∷ []))) (Q (xs ++ (x ∷ []))) ≡ (some (length xs) (Q xs) || Q (xs ++ (x ∷ [])) (length xs))
+  some_more : (Q : List ℕ → ℕ → Bool) → ((i : ℕ) → i < length xs → Q (xs ++ (x ∷ [])) i ≡ Q xs i) → some (length (xs ++ (x ∷ []))) (Q (xs ++ (x ∷ []))) ≡ (some (length xs) (Q xs) or Q (xs ++ (x ∷ [])) (length xs))
   unfolding some
   some_more Q f =
       ap (λ n. some n (Q (xs ++ (x ∷ [])))) long
-      ∙ ap (λ b. b || Q (xs ++ (x ∷ [])) (length xs)) (some_same (length xs) (Q (xs ++ (x ∷ []))) (Q xs) f)
+      ∙ ap (λ b. b or Q (xs ++ (x ∷ [])) (length xs)) (some_same (length xs) (Q (xs ++ (x ∷ []))) (Q xs) f)
 
-  pub strange_more : strange (xs ++ (x ∷ [])) ≡ (strange xs || leb 6 x)
+  pub strange_more : strange (xs ++ (x ∷ [])) ≡ (strange xs or leb 6 x)
   unfolding strange
   strange_more =
       some_more (λ l i. leb 6 (get_or l i 0)) (λ i w. ap (leb 6) (get_or-append xs (x ∷ []) 0 i w))
-      ∙ ap (λ y. some (length xs) (λ i. leb 6 (get_or xs i 0)) || leb 6 y) (get_or_at xs x [] 0 (length xs) refl)
+      ∙ ap (λ y. some (length xs) (λ i. leb 6 (get_or xs i 0)) or leb 6 y) (get_or_at xs x [] 0 (length xs) refl)
 
-  pub twice_more : twice (xs ++ (x ∷ [])) ≡ (twice xs || has x xs)
+  pub twice_more : twice (xs ++ (x ∷ [])) ≡ (twice xs or has x xs)
   unfolding twice
   twice_more =
       some_more (λ l i. has (get_or l i 0) (take i l)) (λ i w. ap₂ has (get_or-append xs (x ∷ []) 0 i w) (take-append-le i xs (x ∷ []) (omega arith)))
-      ∙ ap₂ (λ y l. some (length xs) (λ i. has (get_or xs i 0) (take i xs)) || has y l) (get_or_at xs x [] 0 (length xs) refl) (take-append_seam xs (x ∷ []))
+      ∙ ap₂ (λ y l. some (length xs) (λ i. has (get_or xs i 0) (take i xs)) or has y l) (get_or_at xs x [] 0 (length xs) refl) (take-append_seam xs (x ∷ []))
 
   -- a card that is left may be added, and only such
   pub added : strange xs ≡ false → twice xs ≡ false → left xs x ≡ true → (strange (xs ++ (x ∷ [])) ≡ false) × (twice (xs ++ (x ∷ [])) ≡ false)
@@ -61,11 +61,11 @@ module _ (xs : List ℕ) (x : ℕ) where
 
 -- one action more of a round
 pub played_more : (before h : List ℕ) (a : ℕ) → played before h ≡ true → open_round (before ++ h) ≡ true → may (before ++ h) a ≡ true → played before (h ++ (a ∷ [])) ≡ true
-unfolding played ◌&&◌
+unfolding played ◌and◌
 played_more before [] a e o m = both (both (ap open_round (sym (append-nil before)) ∙ o) (ap (λ t. may t a) (sym (append-nil before)) ∙ m)) refl
 played_more before (b ∷ h) a e o m =
-    both (and_left (open_round before && may before b) (played (before ++ (b ∷ [])) h) e)
-    (played_more (before ++ (b ∷ [])) h a (and_right (open_round before && may before b) (played (before ++ (b ∷ [])) h) e)
+    both (and_left (open_round before and may before b) (played (before ++ (b ∷ [])) h) e)
+    (played_more (before ++ (b ∷ [])) h a (and_right (open_round before and may before b) (played (before ++ (b ∷ [])) h) e)
     (ap open_round (append_assoc before (b ∷ []) h) ∙ o)
     (ap (λ t. may t a) (append_assoc before (b ∷ []) h) ∙ m))
 
@@ -84,7 +84,7 @@ module _ (cs : List ℕ) (p : Public) (h₁ h₂ : List ℕ) where
       (both w.shown-late w.blind_early))))))
 
 start-possible : Possible [] Hidden [] []
-unfolding strange twice some played ◌||◌
+unfolding strange twice some played ◌or◌
 start-possible =
     record { few = omega arith; in_deck = refl; once = refl; dealt_first = refl; first_played = refl; second-played = refl; shown-late = refl; blind_early = refl }
 
@@ -123,7 +123,7 @@ deal-possible cs Hidden h₁ h₂ c w l e =
 
 reveal-possible : (cs : List ℕ) (p : Public) (h₁ h₂ : List ℕ) (c : ℕ) → Possible cs p h₁ h₂ → public-due p h₁ h₂ ≡ true → left (seen cs p) c ≡ true → Possible cs (Card c) h₁ h₂
 unfolding public-due
-reveal-possible cs (Card x) h₁ h₂ c w d e = true≢false false (and_left false (closes h₁ && not (ended h₁ h₂)) d) refl
+reveal-possible cs (Card x) h₁ h₂ c w d e = true≢false false (and_left false (closes h₁ and not (ended h₁ h₂)) d) refl
 reveal-possible cs Hidden h₁ h₂ c w d e =
     let (s, t) = added cs c w.in_deck w.once e in
     record {
@@ -133,7 +133,7 @@ reveal-possible cs Hidden h₁ h₂ c w d e =
       dealt_first = w.dealt_first;
       first_played = w.first_played;
       second-played = w.second-played;
-      shown-late = or_right false (and_left (closes h₁) (not (ended h₁ h₂)) (and_right true (closes h₁ && not (ended h₁ h₂)) d));
+      shown-late = or_right false (and_left (closes h₁) (not (ended h₁ h₂)) (and_right true (closes h₁ and not (ended h₁ h₂)) d));
       blind_early = or_left (eqb (length h₂) 0) refl;
     }
 
@@ -148,15 +148,15 @@ pub record Acting (cs : List ℕ) (p : Public) (h₁ h₂ : List ℕ) : Type 0 w
 pub acting : (cs : List ℕ) (p : Public) (h₁ h₂ : List ℕ) → live cs p h₁ h₂ ≡ true → Acting cs p h₁ h₂
 unfolding live due ended
 acting cs p h₁ h₂ e =
-    let n : ((ltb (length cs) 2 || public-due p h₁ h₂) || (folded h₁ || (folded h₂ || closes h₂))) ≡ false = not-true _ e in
-    let d = or_false_left (ltb (length cs) 2 || public-due p h₁ h₂) _ n in
-    let o = or_false_right (ltb (length cs) 2 || public-due p h₁ h₂) _ n in
+    let n : ((ltb (length cs) 2 or public-due p h₁ h₂) or (folded h₁ or (folded h₂ or closes h₂))) ≡ false = not-true _ e in
+    let d = or_false_left (ltb (length cs) 2 or public-due p h₁ h₂) _ n in
+    let o = or_false_right (ltb (length cs) 2 or public-due p h₁ h₂) _ n in
     record {
       two_cards = ltb-false (length cs) 2 (or_false_left (ltb (length cs) 2) (public-due p h₁ h₂) d);
       none_due = or_false_right (ltb (length cs) 2) (public-due p h₁ h₂) d;
       not_ended = o;
-      first_unfolded = or_false_left (folded h₁) (folded h₂ || closes h₂) o;
-      second_open = still_open h₂ (or_false_right (folded h₁) (folded h₂ || closes h₂) o);
+      first_unfolded = or_false_left (folded h₁) (folded h₂ or closes h₂) o;
+      second_open = still_open h₂ (or_false_right (folded h₁) (folded h₂ or closes h₂) o);
     }
 
 act₁-possible : (cs : List ℕ) (p : Public) (h₁ h₂ : List ℕ) (a : ℕ) → Possible cs p h₁ h₂ → live cs p h₁ h₂ ≡ true → closes h₁ ≡ false → may h₁ a ≡ true → Possible cs p (h₁ ++ (a ∷ [])) h₂
@@ -176,9 +176,9 @@ act₁-possible cs p h₁ h₂ a w l c m =
 
 -- the public card lies there once round 1 has closed and a seat acts
 shown_by_then : (p : Public) (h₁ h₂ : List ℕ) → public-due p h₁ h₂ ≡ false → ended h₁ h₂ ≡ false → closes h₁ ≡ true → hidden p ≡ false
-unfolding public-due ◌&&◌
+unfolding public-due ◌and◌
 shown_by_then (Card x) h₁ h₂ d n c = refl
-shown_by_then Hidden h₁ h₂ d n c = true≢false (closes h₁ && not (ended h₁ h₂)) (both c (ap not n)) d
+shown_by_then Hidden h₁ h₂ d n c = true≢false (closes h₁ and not (ended h₁ h₂)) (both c (ap not n)) d
 
 act₂-possible : (cs : List ℕ) (p : Public) (h₁ h₂ : List ℕ) (a : ℕ) → Possible cs p h₁ h₂ → live cs p h₁ h₂ ≡ true → closes h₁ ≡ true → may h₂ a ≡ true → Possible cs p h₁ (h₂ ++ (a ∷ []))
 act₂-possible cs p h₁ h₂ a w l c m =
@@ -207,7 +207,7 @@ reached_parts (act₂ {cs = cs} {h₁ = h₁} {h₂ = h₂} {p = p} a r l c m) =
 pub goes_on : (h : List ℕ) → open_round h ≡ true → (folded h ≡ false) × (closes h ≡ false)
 unfolding open_round
 goes_on h o =
-    let q : (folded h || closes h) ≡ false = not-true (folded h || closes h) o in
+    let q : (folded h or closes h) ≡ false = not-true (folded h or closes h) o in
     (or_false_left (folded h) (closes h) q, or_false_right (folded h) (closes h) q)
 
 nothing-folded : folded [] ≡ false
@@ -231,20 +231,20 @@ play_first : (cs : List ℕ) → length cs ≡ 2 → (before h : List ℕ) → p
 unfolding played
 play_first cs two before [] e r = subst (λ t. Reached cs Hidden t []) (sym (append-nil before)) r
 play_first cs two before (a ∷ h) e r =
-    let now = and_left (open_round before && may before a) (played (before ++ (a ∷ [])) h) e in
+    let now = and_left (open_round before and may before a) (played (before ++ (a ∷ [])) h) e in
     let o = and_left (open_round before) (may before a) now in
     subst (λ t. Reached cs Hidden t []) (append_assoc before (a ∷ []) h)
-    (play_first cs two (before ++ (a ∷ [])) h (and_right (open_round before && may before a) (played (before ++ (a ∷ [])) h) e)
+    (play_first cs two (before ++ (a ∷ [])) h (and_right (open_round before and may before a) (played (before ++ (a ∷ [])) h) e)
     (act₁ a r (live_first cs before two o) (goes_on before o).1 (and_right (open_round before) (may before a) now)))
 
 play_second : (cs : List ℕ) (x : ℕ) (h₁ : List ℕ) → length cs ≡ 2 → closes h₁ ≡ true → folded h₁ ≡ false → (before h : List ℕ) → played before h ≡ true → Reached cs (Card x) h₁ before → Reached cs (Card x) h₁ (before ++ h)
 unfolding played
 play_second cs x h₁ two c f before [] e r = subst (λ t. Reached cs (Card x) h₁ t) (sym (append-nil before)) r
 play_second cs x h₁ two c f before (a ∷ h) e r =
-    let now = and_left (open_round before && may before a) (played (before ++ (a ∷ [])) h) e in
+    let now = and_left (open_round before and may before a) (played (before ++ (a ∷ [])) h) e in
     let o = and_left (open_round before) (may before a) now in
     subst (λ t. Reached cs (Card x) h₁ t) (append_assoc before (a ∷ []) h)
-    (play_second cs x h₁ two c f (before ++ (a ∷ [])) h (and_right (open_round before && may before a) (played (before ++ (a ∷ [])) h) e)
+    (play_second cs x h₁ two c f (before ++ (a ∷ [])) h (and_right (open_round before and may before a) (played (before ++ (a ∷ [])) h) e)
     (act₂ a r (live-second cs h₁ before x two f o) c (and_right (open_round before) (may before a) now)))
 
 -- the cards of both seats

@@ -7,7 +7,7 @@ use native.Mathlib.Omega.{arith}
 use lib.Dec.{eqb}
 use lib.ListN.{length}
 use borrow.Author.Tests.{eqb-true, leb-true, not-true}
-use Rattle.prelude.specs.Finite.{◌&&◌, ◌||◌, some}
+use Rattle.prelude.specs.Finite.{◌and◌, ◌or◌, some}
 use Rattle.prelude.proofs.Tests.{and_left, and_right, or_cases, or_false_right, true≢false}
 use Rattle.leduc_betting.specs.Betting.{folded, closes, open_round, ended, played}
 use Rattle.leduc_rules.specs.Rules.{due, live}
@@ -20,11 +20,11 @@ pub record Possible (cs : List ℕ) (p : Public) (h₁ h₂ : List ℕ) : Type 0
   pub few : length cs ≤ 2
   pub in_deck : strange (seen cs p) ≡ false
   pub once : twice (seen cs p) ≡ false
-  pub dealt_first : (eqb (length cs) 2 || eqb (length h₁) 0) ≡ true
+  pub dealt_first : (eqb (length cs) 2 or eqb (length h₁) 0) ≡ true
   pub first_played : played [] h₁ ≡ true
   pub second-played : played [] h₂ ≡ true
-  pub shown-late : (hidden p || closes h₁) ≡ true
-  pub blind_early : (not (hidden p) || eqb (length h₂) 0) ≡ true
+  pub shown-late : (hidden p or closes h₁) ≡ true
+  pub blind_early : (not (hidden p) or eqb (length h₂) 0) ≡ true
 
 module _ (cs : List ℕ) (p : Public) (h₁ h₂ : List ℕ) where
   pub possible_parts : possible cs p h₁ h₂ ≡ true → Possible cs p h₁ h₂
@@ -52,14 +52,14 @@ no_actions [] e = refl
 no_actions (a ∷ h) e = let q = eqb-true (length (a ∷ h)) 0 e in absurd (omega arith)
 
 pub nothing-closed : closes [] ≡ false
-unfolding closes ◌&&◌
+unfolding closes ◌and◌
 nothing-closed = refl
 
 pub nothing-ended : ended [] [] ≡ false
-unfolding ended folded closes some ◌&&◌ ◌||◌
+unfolding ended folded closes some ◌and◌ ◌or◌
 nothing-ended = refl
 
-pub still_open : (h : List ℕ) → (folded h || closes h) ≡ false → open_round h ≡ true
+pub still_open : (h : List ℕ) → (folded h or closes h) ≡ false → open_round h ≡ true
 unfolding open_round
 still_open h q = rw q
 
@@ -85,5 +85,5 @@ module _ {cs : List ℕ} {p : Public} {h₁ h₂ : List ℕ} (w : Possible cs p 
   pub live_open : live cs p h₁ h₂ ≡ true → length h₂ ≤ 3
   unfolding live ended
   live_open e =
-      let o : (folded h₁ || (folded h₂ || closes h₂)) ≡ false = or_false_right (due cs p h₁ h₂) _ (not-true _ e) in
+      let o : (folded h₁ or (folded h₂ or closes h₂)) ≡ false = or_false_right (due cs p h₁ h₂) _ (not-true _ e) in
       open_short h₂ w.second-played (still_open h₂ (or_false_right (folded h₁) _ o))

@@ -10,7 +10,7 @@ use lib.Dec.{eqb, ltb}
 use lib.ListN.{length, get_or, take, set, replicate, length-append, length-set, length-replicate, get_or-replicate, get_or-append}
 use lib.Seq.{length-take-le, get_or-take, take-suc, get_or_at, get_or-set_same, get_or-set_other, ext_get_or}
 use borrow.Author.Tests.{eq-eqb, ne_eqb, eqb-true, eqb-false, lt-ltb, le-ltb, ltb-true}
-use Rattle.prelude.specs.Finite.{◌&&◌, ◌||◌, some, sum, those, has, places}
+use Rattle.prelude.specs.Finite.{◌and◌, ◌or◌, some, sum, those, has, places}
 use Rattle.prelude.proofs.Tests.{Tested, holds, fails, tested, iff, both, and_left_fails, and_right_fails, or_left, or_right, or_none, or_assoc, below_cases, some_same}
 
 -- ---- a front part
@@ -27,16 +27,16 @@ get_d_within (x ∷ l) (suc i) d e h = get_d_within l i d e (omega arith)
 
 -- ---- what stands in a list
 
-pub has_append : (c : ℕ) (xs ys : List ℕ) → has c (xs ++ ys) ≡ (has c xs || has c ys)
-unfolding has ◌||◌
+pub has_append : (c : ℕ) (xs ys : List ℕ) → has c (xs ++ ys) ≡ (has c xs or has c ys)
+unfolding has ◌or◌
 has_append c [] ys = refl
-has_append c (x ∷ xs) ys = ap (◌||◌ (eqb x c)) (has_append c xs ys) ∙ or_assoc (eqb x c) (has c xs) (has c ys)
+has_append c (x ∷ xs) ys = ap (◌or◌ (eqb x c)) (has_append c xs ys) ∙ or_assoc (eqb x c) (has c xs) (has c ys)
 
 -- c stands in a front part if it stands at one of its places
 pub has-take : (c a : ℕ) (l : List ℕ) → a ≤ length l → has c (take a l) ≡ some a (λ i. eqb (get_or l i 0) c)
 unfolding has some
 has-take c zero l h = refl
-has-take c (suc a) l h = ap (has c) (take-suc l a 0 h) ∙ has_append c (take a l) (get_or l a 0 ∷ []) ∙ ap₂ ◌||◌ (has-take c a l (omega arith)) (or_none (eqb (get_or l a 0) c))
+has-take c (suc a) l h = ap (has c) (take-suc l a 0 h) ∙ has_append c (take a l) (get_or l a 0 ∷ []) ∙ ap₂ ◌or◌ (has-take c a l (omega arith)) (or_none (eqb (get_or l a 0) c))
 
 -- ---- the numbers below a bound of which a test holds
 
@@ -130,7 +130,7 @@ module _ (p : ℕ → Bool) where
       go (fails e) f = rw (those_passed n e) (f (rw (those_passed n e) at w))
 
   -- c stands there just if it is below the bound and the test holds of it
-  pub has-those : (c n : ℕ) → has c (those n p) ≡ (ltb c n && p c)
+  pub has-those : (c n : ℕ) → has c (those n p) ≡ (ltb c n and p c)
   unfolding those has
   has-those c zero = rw (le-ltb c 0 (omega arith)) (sym (and_left_fails (p c) refl))
   has-those c (suc n) = go (tested (p n)) (has-those c n)
@@ -138,16 +138,16 @@ module _ (p : ℕ → Bool) where
       wider : (c ≡ n → ⊥) → ltb c n ≡ ltb c (suc n)
       wider f = iff (λ t. let v = ltb-true c n t in lt-ltb c (suc n) (omega arith)) (λ t. let v = ltb-true c (suc n) t in lt-ltb c n (omega arith))
 
-      here : p n ≡ true → Tested (eqb c n) → ((ltb c n && p c) || (eqb n c || false)) ≡ (ltb c (suc n) && p c)
-      here e (holds t) = let q = eqb-true c n t in or_right (ltb c n && p c) (or_left false (eq-eqb n c (sym q))) ∙ sym (both (lt-ltb c (suc n) (omega arith)) (ap p q ∙ e))
-      here e (fails t) = let q = eqb-false c n t in ap (◌||◌ (ltb c n && p c)) (or_none (eqb n c) ∙ ne_eqb n c (λ z. q (sym z))) ∙ or_none (ltb c n && p c) ∙ ap (λ b. b && p c) (wider q)
+      here : p n ≡ true → Tested (eqb c n) → ((ltb c n and p c) or (eqb n c or false)) ≡ (ltb c (suc n) and p c)
+      here e (holds t) = let q = eqb-true c n t in or_right (ltb c n and p c) (or_left false (eq-eqb n c (sym q))) ∙ sym (both (lt-ltb c (suc n) (omega arith)) (ap p q ∙ e))
+      here e (fails t) = let q = eqb-false c n t in ap (◌or◌ (ltb c n and p c)) (or_none (eqb n c) ∙ ne_eqb n c (λ z. q (sym z))) ∙ or_none (ltb c n and p c) ∙ ap (λ b. b and p c) (wider q)
 
-      gone : p n ≡ false → Tested (eqb c n) → (ltb c n && p c) ≡ (ltb c (suc n) && p c)
+      gone : p n ≡ false → Tested (eqb c n) → (ltb c n and p c) ≡ (ltb c (suc n) and p c)
       gone e (holds t) = let q = eqb-true c n t in and_right_fails (ltb c n) (ap p q ∙ e) ∙ sym (and_right_fails (ltb c (suc n)) (ap p q ∙ e))
-      gone e (fails t) = ap (λ b. b && p c) (wider (eqb-false c n t))
+      gone e (fails t) = ap (λ b. b and p c) (wider (eqb-false c n t))
 
-      go : Tested (p n) → has c (those n p) ≡ (ltb c n && p c) → has c (those (suc n) p) ≡ (ltb c (suc n) && p c)
-      go (holds e) f = ap (has c) (those_kept n e) ∙ has_append c (those n p) (n ∷ []) ∙ ap (λ b. b || (eqb n c || false)) f ∙ here e (tested (eqb c n))
+      go : Tested (p n) → has c (those n p) ≡ (ltb c n and p c) → has c (those (suc n) p) ≡ (ltb c (suc n) and p c)
+      go (holds e) f = ap (has c) (those_kept n e) ∙ has_append c (those n p) (n ∷ []) ∙ ap (λ b. b or (eqb n c or false)) f ∙ here e (tested (eqb c n))
       go (fails e) f = ap (has c) (those_passed n e) ∙ f ∙ gone e (tested (eqb c n))
 
 -- ---- sums

@@ -6,7 +6,7 @@ use native.Mathlib.Numerals.{add-one}
 use native.Mathlib.Omega.{arith}
 use lib.Dec.{ltb, eqb}
 use borrow.Author.Tests.{ltb-true, ltb-false, eq-eqb, eqb-true}
-use Rattle.prelude.specs.Finite.{◌&&◌, ◌||◌, some, every}
+use Rattle.prelude.specs.Finite.{◌and◌, ◌or◌, some, every}
 
 -- ---- a test and its value
 
@@ -36,78 +36,78 @@ eqb-iff a b c d f g = iff (λ p. eq-eqb c d (f (eqb-true a b p))) (λ p. eq-eqb 
 
 -- ---- and, or
 
-pub both : {a b : Bool} → a ≡ true → b ≡ true → (a && b) ≡ true
-unfolding ◌&&◌
+pub both : {a b : Bool} → a ≡ true → b ≡ true → (a and b) ≡ true
+unfolding ◌and◌
 both p q = rw (p, q)
 
-pub and_left : (a b : Bool) → (a && b) ≡ true → a ≡ true
-unfolding ◌&&◌
+pub and_left : (a b : Bool) → (a and b) ≡ true → a ≡ true
+unfolding ◌and◌
 and_left true b e = refl
 and_left false b e = e
 
-pub and_right : (a b : Bool) → (a && b) ≡ true → b ≡ true
-unfolding ◌&&◌
+pub and_right : (a b : Bool) → (a and b) ≡ true → b ≡ true
+unfolding ◌and◌
 and_right true b e = e
 and_right false b e = true≢false false e refl
 
-pub and_left_fails : {a : Bool} (b : Bool) → a ≡ false → (a && b) ≡ false
-unfolding ◌&&◌
+pub and_left_fails : {a : Bool} (b : Bool) → a ≡ false → (a and b) ≡ false
+unfolding ◌and◌
 and_left_fails b p = rw p
 
-pub and_right_fails : (a : Bool) {b : Bool} → b ≡ false → (a && b) ≡ false
-unfolding ◌&&◌
+pub and_right_fails : (a : Bool) {b : Bool} → b ≡ false → (a and b) ≡ false
+unfolding ◌and◌
 and_right_fails true q = q
 and_right_fails false q = refl
 
-pub and_all : (b : Bool) → (b && true) ≡ b
-unfolding ◌&&◌
+pub and_all : (b : Bool) → (b and true) ≡ b
+unfolding ◌and◌
 and_all true = refl
 and_all false = refl
 
 -- the first test is settled, and the second decides
-pub and-rest : {a : Bool} (b : Bool) → a ≡ true → (a && b) ≡ b
-unfolding ◌&&◌
+pub and-rest : {a : Bool} (b : Bool) → a ≡ true → (a and b) ≡ b
+unfolding ◌and◌
 and-rest b p = rw p
 
-pub or_rest : {a : Bool} (b : Bool) → a ≡ false → (a || b) ≡ b
-unfolding ◌||◌
+pub or_rest : {a : Bool} (b : Bool) → a ≡ false → (a or b) ≡ b
+unfolding ◌or◌
 or_rest b p = rw p
 
-pub or_left : {a : Bool} (b : Bool) → a ≡ true → (a || b) ≡ true
-unfolding ◌||◌
+pub or_left : {a : Bool} (b : Bool) → a ≡ true → (a or b) ≡ true
+unfolding ◌or◌
 or_left b p = rw p
 
-pub or_right : (a : Bool) {b : Bool} → b ≡ true → (a || b) ≡ true
-unfolding ◌||◌
+pub or_right : (a : Bool) {b : Bool} → b ≡ true → (a or b) ≡ true
+unfolding ◌or◌
 or_right true q = refl
 or_right false q = q
 
-pub or_none : (b : Bool) → (b || false) ≡ b
-unfolding ◌||◌
+pub or_none : (b : Bool) → (b or false) ≡ b
+unfolding ◌or◌
 or_none true = refl
 or_none false = refl
 
-pub or_assoc : (a b c : Bool) → (a || (b || c)) ≡ ((a || b) || c)
-unfolding ◌||◌
+pub or_assoc : (a b c : Bool) → (a or (b or c)) ≡ ((a or b) or c)
+unfolding ◌or◌
 or_assoc true b c = refl
 or_assoc false b c = refl
 
-pub neither : {a b : Bool} → a ≡ false → b ≡ false → (a || b) ≡ false
-unfolding ◌||◌
+pub neither : {a b : Bool} → a ≡ false → b ≡ false → (a or b) ≡ false
+unfolding ◌or◌
 neither p q = rw (p, q)
 
-pub or_false_left : (a b : Bool) → (a || b) ≡ false → a ≡ false
-unfolding ◌||◌
+pub or_false_left : (a b : Bool) → (a or b) ≡ false → a ≡ false
+unfolding ◌or◌
 or_false_left true b e = e
 or_false_left false b e = refl
 
-pub or_false_right : (a b : Bool) → (a || b) ≡ false → b ≡ false
-unfolding ◌||◌
+pub or_false_right : (a b : Bool) → (a or b) ≡ false → b ≡ false
+unfolding ◌or◌
 or_false_right true b e = true≢false true refl e
 or_false_right false b e = e
 
-pub or_cases : {A : Type 0} (a b : Bool) → (a || b) ≡ true → (a ≡ true → A) → (b ≡ true → A) → A
-unfolding ◌||◌
+pub or_cases : {A : Type 0} (a b : Bool) → (a or b) ≡ true → (a ≡ true → A) → (b ≡ true → A) → A
+unfolding ◌or◌
 or_cases true b e f g = f refl
 or_cases false b e f g = g e
 
@@ -157,7 +157,7 @@ none_passed i n p h k e = let q : n ≡ i = omega arith in rw q e
 pub some_same : (n : ℕ) (p q : ℕ → Bool) → ((i : ℕ) → i < n → p i ≡ q i) → some n p ≡ some n q
 unfolding some
 some_same zero p q f = refl
-some_same (suc n) p q f = ap₂ ◌||◌ (some_same n p q (λ i h. f i (omega arith))) (f n (omega arith))
+some_same (suc n) p q f = ap₂ ◌or◌ (some_same n p q (λ i h. f i (omega arith))) (f n (omega arith))
 
 pub every_at : (n : ℕ) (p : ℕ → Bool) → every n p ≡ true → (i : ℕ) → i < n → p i ≡ true
 unfolding every
