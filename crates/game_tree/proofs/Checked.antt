@@ -5,7 +5,7 @@ use mathlib.Core.List.{[], ◌∷◌}
 use Prim.Native.Nat.{ℕ, suc, pred, ◌*◌, ◌/◌}
 use lib.Dec.{eqb, ltb}
 use borrow.Author.Tests.{ltb-true}
-use Rattle.prelude.specs.Finite.{◌&&◌}
+use Rattle.prelude.specs.Finite.{◌and◌}
 use Rattle.prelude.proofs.Tests.{and_left, and_right}
 use Rattle.game_tree.specs.Tree.{Key, Tree, end, chance, decide, Trees, nil, cons, fan}
 use Rattle.game_tree.specs.Conditions.{Splits, SplitsAll, Every, EveryAll}
@@ -22,12 +22,12 @@ unfoldable mutual
 
   pub splits : ℕ → ℕ → Tree → Bool
   splits C m (end p) = true
-  splits C m (chance f) = eqb C (fan f * (C / fan f)) && (ltb 0 (fan f) && splits_all (C / fan f) m f)
-  splits C m (decide j k f) = ltb 0 m && splits_all C (pred m) f
+  splits C m (chance f) = eqb C (fan f * (C / fan f)) and (ltb 0 (fan f) and splits_all (C / fan f) m f)
+  splits C m (decide j k f) = ltb 0 m and splits_all C (pred m) f
 
   pub splits_all : ℕ → ℕ → Trees → Bool
   splits_all C m nil = true
-  splits_all C m (cons t f) = splits C m t && splits_all C m f
+  splits_all C m (cons t f) = splits C m t and splits_all C m f
 
 mutual
   unfolding splits Splits
@@ -51,11 +51,11 @@ module _ (p : ℕ → Key → ℕ → Bool) where
     pub every : Tree → Bool
     every (end v) = true
     every (chance f) = every_all f
-    every (decide j k f) = p j k (fan f) && every_all f
+    every (decide j k f) = p j k (fan f) and every_all f
 
     pub every_all : Trees → Bool
     every_all nil = true
-    every_all (cons t f) = every t && every_all f
+    every_all (cons t f) = every t and every_all f
 
   module _ (P : ℕ → Key → ℕ → Type 0) (g : (j : ℕ) (k : Key) (n : ℕ) → p j k n ≡ true → P j k n) where
     mutual
@@ -78,11 +78,11 @@ module _ (d : ℕ → Key → ℕ) where
     pub heights : Tree → Bool
     heights (end v) = true
     heights (chance f) = heights_all f
-    heights (decide j k f) = eqb (height (decide j k f)) (d j k) && heights_all f
+    heights (decide j k f) = eqb (height (decide j k f)) (d j k) and heights_all f
 
     pub heights_all : Trees → Bool
     heights_all nil = true
-    heights_all (cons t f) = heights t && heights_all f
+    heights_all (cons t f) = heights t and heights_all f
 
   mutual
     unfolding heights Heights
@@ -101,12 +101,12 @@ module _ (v : ℕ → Key → ℕ) where
   unfoldable mutual
     pub levels : ℕ → Tree → Bool
     levels d (end p) = ltb 0 d
-    levels d (chance f) = ltb 0 d && levels_all (pred d) f
-    levels d (decide j k f) = ltb 0 d && (eqb (v j k) (pred d) && levels_all (pred d) f)
+    levels d (chance f) = ltb 0 d and levels_all (pred d) f
+    levels d (decide j k f) = ltb 0 d and (eqb (v j k) (pred d) and levels_all (pred d) f)
 
     pub levels_all : ℕ → Trees → Bool
     levels_all d nil = true
-    levels_all d (cons t f) = levels d t && levels_all d f
+    levels_all d (cons t f) = levels d t and levels_all d f
 
   mutual
     unfolding levels Levels
@@ -126,7 +126,7 @@ unfolding same
 same_path [] [] = true
 same_path [] (y ∷ ρ) = false
 same_path (x ∷ π) [] = false
-same_path (x ∷ π) (y ∷ ρ) = (same x.0 y.0 && eqb x.1 y.1) && same_path π ρ
+same_path (x ∷ π) (y ∷ ρ) = (same x.0 y.0 and eqb x.1 y.1) and same_path π ρ
 
 same_path_lem : (π ρ : Path) → same_path π ρ ≡ true → π ≡ ρ
 unfolding same_path
@@ -144,19 +144,19 @@ module _ (i : ℕ) (H : Key → Path) (n : Key → ℕ) where
     pub recall : Path → Tree → Bool
     recall π (end v) = true
     recall π (chance f) = recall_all π f
-    recall π (decide j k f) = let own : Bool = (same_path π (H k) && eqb (fan f) (n k)) in (cond (eqb j i) own true && recall_kids (eqb j i) π k 0 f)
+    recall π (decide j k f) = let own : Bool = (same_path π (H k) and eqb (fan f) (n k)) in (cond (eqb j i) own true and recall_kids (eqb j i) π k 0 f)
 
     pub recall_all : Path → Trees → Bool
     recall_all π nil = true
-    recall_all π (cons t f) = recall π t && recall_all π f
+    recall_all π (cons t f) = recall π t and recall_all π f
 
     pub recall_kids : Bool → Path → Key → ℕ → Trees → Bool
     recall_kids b π k a nil = true
-    recall_kids b π k a (cons t f) = recall (moved b k a π) t && recall_kids b π k (suc a) f
+    recall_kids b π k a (cons t f) = recall (moved b k a π) t and recall_kids b π k (suc a) f
 
-  at_own : (j : ℕ) (π : Path) (k : Key) (f : Trees) → cond (eqb j i) (same_path π (H k) && eqb (fan f) (n k)) true ≡ true → j ≡ i → (π ≡ H k) × (fan f ≡ n k)
+  at_own : (j : ℕ) (π : Path) (k : Key) (f : Trees) → cond (eqb j i) (same_path π (H k) and eqb (fan f) (n k)) true ≡ true → j ≡ i → (π ≡ H k) × (fan f ≡ n k)
   at_own j π k f e q =
-      let d : (same_path π (H k) && eqb (fan f) (n k)) ≡ true = rw (q, eqb_self i) at e in
+      let d : (same_path π (H k) and eqb (fan f) (n k)) ≡ true = rw (q, eqb_self i) at e in
       (same_path_lem π (H k) (and_left _ _ d), eqb_is _ _ (and_right _ _ d))
 
   mutual

@@ -8,7 +8,7 @@ use native.Mathlib.Omega.{arith}
 use lib.Dec.{eqb, ltb}
 use borrow.Author.Tests.{eq-eqb, ne_eqb, eqb-true, eqb-false, ltb-false}
 use lib.ListN.{length, get_or, take, replicate, length-replicate, get_or-replicate}
-use Rattle.prelude.specs.Finite.{◌||◌, places}
+use Rattle.prelude.specs.Finite.{◌or◌, places}
 use Rattle.prelude.proofs.Tests.{Tested, holds, fails, tested, or_false_left, or_false_right}
 use Rattle.kuhn_tree.specs.Tree as Kuhn
 use Rattle.kuhn_tree.specs.Counts.{deal_nodes, kuhn_nodes, kuhn_sets, kuhn_entries}
@@ -63,7 +63,7 @@ six-seats = each_seats (λ n. get_or nodes-table n 0 ≤ 4000000 → n ≤ 6) (�
 
 -- the seats of Kuhn, once number 2 is settled
 module _ (g : Game) (k : g.number ≡ 0) where
-  seats-kuhn : seats-out g ≡ false → (ltb g.seats 2 || ltb 10 g.seats) ≡ false
+  seats-kuhn : seats-out g ≡ false → (ltb g.seats 2 or ltb 10 g.seats) ≡ false
   seats-kuhn e = rw (eq-eqb g.number 0 k) at e
 
   pub kuhn_least : seats-out g ≡ false → 2 ≤ g.seats

@@ -7,7 +7,7 @@ use native.Mathlib.Omega.{arith}
 use lib.Dec.{eqb, ltb, leb}
 use borrow.Author.Tests.{eq-eqb, ne_eqb, eqb-true, eqb-false, not-false}
 use lib.ListN.{length, replicate, length-map}
-use Rattle.prelude.specs.Finite.{◌||◌}
+use Rattle.prelude.specs.Finite.{◌or◌}
 use Rattle.prelude.proofs.Tests.{Tested, holds, fails, tested}
 use Rattle.game_tree.specs.Conditions.{Splits, Pays}
 use Rattle.game_tree.specs.Recall.{PerfectRecall}
@@ -55,11 +55,11 @@ kuhn-set-actions : (n : ℕ) → 1 ≤ n → set_actions (tree_of_kuhn 1 1 n) �
 kuhn-set-actions n w = all_two (sets (tree_of_kuhn 1 1 n)) (every→sets (λ j k a. a ≡ 2) (tree_of_kuhn 1 1 n) (kuhn-every 1 1 n (λ j k a. a ≡ 2) (λ j c h. refl))) ∙ ap (λ k. replicate k 2) (counted 1 1 n w).1
 
 module _ (g : Game) where
-  pub kuhn-out : g.number ≡ 0 → seats-out g ≡ (ltb g.seats 2 || ltb 10 g.seats)
-  kuhn-out k = ap (λ t. cond t (ltb g.seats 2 || ltb 10 g.seats) (not (eqb g.seats 2))) (eq-eqb g.number 0 k)
+  pub kuhn-out : g.number ≡ 0 → seats-out g ≡ (ltb g.seats 2 or ltb 10 g.seats)
+  kuhn-out k = ap (λ t. cond t (ltb g.seats 2 or ltb 10 g.seats) (not (eqb g.seats 2))) (eq-eqb g.number 0 k)
 
   pub leduc-out : (g.number ≡ 0 → ⊥) → seats-out g ≡ not (eqb g.seats 2)
-  leduc-out k = ap (λ t. cond t (ltb g.seats 2 || ltb 10 g.seats) (not (eqb g.seats 2))) (ne_eqb g.number 0 k)
+  leduc-out k = ap (λ t. cond t (ltb g.seats 2 or ltb 10 g.seats) (not (eqb g.seats 2))) (ne_eqb g.number 0 k)
 
   -- Leduc has two seats, once number 2 is settled
   pub leduc_two : (g.number ≡ 0 → ⊥) → seats-out g ≡ false → g.seats ≡ 2
@@ -116,7 +116,7 @@ pub actions-listed : ActionsListed
 actions-listed g out = actions_are g out
 
 pub table_of_counts : TableOfCounts
-unfolding deal_nodes ◌||◌
+unfolding deal_nodes ◌or◌
 table_of_counts = (counted_games (kuhn 2) refl, counted_games (kuhn 3) refl, counted_games (kuhn 4) refl, counted_games (kuhn 5) refl, counted_games (kuhn 6) refl, counted_games leduc refl)
 
 -- ---- what the reply theorem asks

@@ -3,14 +3,14 @@ use mathlib.Core.Path.{◌≡◌, refl, sym, ap, ap₂, subst, ◌∙◌}
 use mathlib.Core.Logic.{inl, inr}
 use mathlib.Core.Bool.{Bool, true, false, cond}
 use mathlib.Core.List.{List, [], ◌∷◌, ◌++◌}
-use Prim.Native.Nat.{ℕ, zero, suc, pred, ◌+◌, ◌*◌, ◌-◌, ◌≤◌, ◌<◌, max, zero-le, suc-le-suc}
+use Prim.Native.Nat.{ℕ, zero, suc, pred, ◌*◌, ◌-◌, ◌≤◌, ◌<◌, max, zero-le, suc-le-suc}
 use native.Mathlib.Nat as NatL
 use native.Mathlib.Numerals.{add-one}
 use native.Mathlib.Omega.{arith}
 use lib.Dec.{eqb}
 use lib.ListN.{length, replicate}
 use borrow.Author.Tests.{eqb-true, eqb-false}
-use Rattle.prelude.specs.Finite.{◌&&◌, ◌||◌, some, every, those, has}
+use Rattle.prelude.specs.Finite.{◌and◌, ◌or◌, some, every, those, has}
 use Rattle.prelude.proofs.Tests.{Tested, holds, fails, tested}
 use Rattle.game_tree.specs.Tree.{Tree, end, chance, decide, Trees, nil, cons, fan}
 use Rattle.game_tree.specs.Conditions.{Splits, SplitsAll}
@@ -28,9 +28,7 @@ use Rattle.leduc_rules.specs.Rules as Rules
 use Rattle.leduc_tree.specs.Tree as Leduc
 use Rattle.leduc_tree.specs.Tree.{tree_of_leduc}
 use Rattle.games.specs.Games.{tree_of, C, m}
-use Rattle.games.specs.Seats.{seats-out}
-use Rattle.games.specs.Paths.{widest, widest_all, EachPath, EachPathAll, largest_fan, largest_fan_all, Measured, GamesMeasured}
-use Rattle.games.specs.declared.Game.{Game}
+use Rattle.games.specs.Paths.{widest, widest_all, EachPath, EachPathAll, largest_fan, largest_fan_all, GamesMeasured}
 use Rattle.games.proofs.Counts.{each_seats, kuhn_least, kuhn_most}
 use Rattle.games.proofs.Facts.{kuhn-tree_is, leduc-tree_is, games_fit}
 
@@ -101,7 +99,7 @@ abbrev longest : ℕ → List Bool
 longest n = replicate (n - 1) false ++ (true ∷ replicate (n - 1) false)
 
 longest-played : (n : ℕ) → 2 ≤ n → n ≤ 10 → (plays n [] (longest n) ≡ true) × (length (longest n) ≡ Kuhn.m n)
-unfolding plays ◌&&◌ ◌||◌ some every has those bet-made after-bet ended
+unfolding plays ◌and◌ ◌or◌ some every has those bet-made after-bet ended
 longest-played = each_seats (λ n. (plays n [] (longest n) ≡ true) × (length (longest n) ≡ Kuhn.m n))
     (refl, refl) (refl, refl) (refl, refl) (refl, refl) (refl, refl) (refl, refl) (refl, refl) (refl, refl) (refl, refl)
 
@@ -177,7 +175,7 @@ module _ (n : ℕ) where
 -- ---- Leduc
 
 leduc-measures : (height (tree_of_leduc 1 2 4) ≡ 8) × (widest (tree_of_leduc 1 2 4) ≡ 120) × (largest_fan (tree_of_leduc 1 2 4) ≡ 6)
-unfolding height widest largest_fan tree_of_leduc Leduc.below Leduc.next Leduc.each ◌&&◌ ◌||◌ some those has Betting.ends_with Betting.folded Betting.closes
+unfolding height widest largest_fan tree_of_leduc Leduc.below Leduc.next Leduc.each ◌and◌ ◌or◌ some those has Betting.ends_with Betting.folded Betting.closes
     Betting.behind Betting.raises Betting.may Betting.options Betting.in_play Betting.turn Betting.ended Cards.left Cards.remaining Rules.public-due
     Rules.due
 leduc-measures = (refl, refl, refl)

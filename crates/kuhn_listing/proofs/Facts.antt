@@ -1,6 +1,6 @@
 -- The statements of specs/Facts.antt, each by its proof. Assumes nothing.
 use mathlib.Core.Path.{refl}
-use Rattle.prelude.specs.Finite.{◌&&◌, ◌||◌, some, every, those, has}
+use Rattle.prelude.specs.Finite.{◌and◌, ◌or◌, some, every, those, has}
 use Rattle.game_tree.specs.Tree.{fan}
 use Rattle.game_tree.specs.Reply.{same}
 use Rattle.game_tree.specs.Sets.{preorder, decisions, is_of, met, firsts, sets, decides, numbers}
@@ -27,5 +27,5 @@ unfolding listing_of_kuhn
 long n = length-listing (tree n) (λ a. cards_of (position_of (tree n) n a))
 
 pub two_seats : TwoSeats
-unfolding listing_of_kuhn listing flat bytes_of padded positions dealt acted tree_of_kuhn below next each preorder decisions fan same is_of met firsts sets decides numbers bet-made after-bet ended left remaining legal ◌&&◌ ◌||◌ some every those has
+unfolding listing_of_kuhn listing flat bytes_of padded positions dealt acted tree_of_kuhn below next each preorder decisions fan same is_of met firsts sets decides numbers bet-made after-bet ended left remaining legal ◌and◌ ◌or◌ some every those has
 two_seats = refl

@@ -1,19 +1,17 @@
 -- The cards left: which they are, and how many. Assumes nothing.
 use mathlib.Core.Path.{◌≡◌, refl, sym, ap, ◌∙◌}
-use mathlib.Core.Logic.{◌⊎◌, inl, inr}
 use mathlib.Core.Bool.{Bool, true, false, not}
 use mathlib.Core.List.{List, [], ◌∷◌, ◌++◌}
 use Prim.Native.Nat.{ℕ, zero, suc, ◌+◌, ◌≤◌, ◌<◌}
-use native.Mathlib.Nat as NatL
 use native.Mathlib.Numerals.{add-one}
 use native.Mathlib.Omega.{arith}
 use lib.Dec.{eqb, leb}
 use lib.ListN.{length, length-append}
 use borrow.Author.Tests.{eqb-true, eqb-false, eq-eqb, ne_eqb, leb-true, le-leb}
-use Rattle.prelude.specs.Finite.{◌&&◌, ◌||◌, those, has}
-use Rattle.prelude.proofs.Tests.{Tested, holds, fails, tested, true≢false, both, and_left, and_right_fails, or_right, or_none}
+use Rattle.prelude.specs.Finite.{◌and◌, ◌or◌, those, has}
+use Rattle.prelude.proofs.Tests.{Tested, holds, fails, tested, both, and_left, and_right_fails, or_right, or_none}
 use Rattle.prelude.proofs.Lists.{has_append, those_kept, those_passed}
-use Rattle.game_tree.proofs.Counting.{In, in_left, in_right, in_append, Once, once_append}
+use Rattle.game_tree.proofs.Counting.{In}
 use Rattle.game_tree.proofs.Numbers.{in_those, those_in}
 use Rattle.kuhn_rules.specs.Rules.{left, remaining}
 
@@ -53,18 +51,18 @@ unfolding remaining left
 in_of_left n cs c e = those_in (left n cs) (n + 1) c (let l : c ≤ n = leb-true c n (and_left (leb c n) (not (has c cs)) e) in omega arith) e
 
 has_self : (c : ℕ) → has c (c ∷ []) ≡ true
-unfolding has ◌||◌
+unfolding has ◌or◌
 has_self c = rw (eq-eqb c c refl)
 
 has_other : (c x : ℕ) → (x ≡ c → ⊥) → has x (c ∷ []) ≡ false
-unfolding has ◌||◌
+unfolding has ◌or◌
 has_other c x d = rw (ne_eqb c x (λ e. d (sym e)))
 
 module _ (n : ℕ) (cs : List ℕ) (c : ℕ) where
   -- once c is dealt, every other card is left as before, and c is not
   pub left_other : (x : ℕ) → (x ≡ c → ⊥) → left n (cs ++ (c ∷ [])) x ≡ left n cs x
   unfolding left
-  left_other x d = ap (λ b. leb x n && not b) (has_append x cs (c ∷ []) ∙ ap (◌||◌ (has x cs)) (has_other c x d) ∙ or_none (has x cs))
+  left_other x d = ap (λ b. leb x n and not b) (has_append x cs (c ∷ []) ∙ ap (◌or◌ (has x cs)) (has_other c x d) ∙ or_none (has x cs))
 
   pub left_itself : left n (cs ++ (c ∷ [])) c ≡ false
   unfolding left

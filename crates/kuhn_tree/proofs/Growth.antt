@@ -11,7 +11,7 @@ use lib.Dec.{eqb, leb}
 use lib.ListN.{length, take, length-append}
 use lib.Seq.{take-append-le, take-length}
 use borrow.Author.Tests.{ltb-true, ltb-false, eqb-true, eq-eqb, not-true}
-use Rattle.prelude.specs.Finite.{◌&&◌, ◌||◌, some}
+use Rattle.prelude.specs.Finite.{◌and◌, ◌or◌, some}
 use Rattle.prelude.proofs.Tests.{Tested, holds, fails, tested, both, and_left, and_right, neither, some_same}
 use Rattle.game_tree.proofs.Counting.{In}
 use Rattle.game_tree.specs.Tree.{Tree, chance, decide, cons}
@@ -24,10 +24,10 @@ use Rattle.kuhn_tree.specs.Follows.{Follows, FollowsAll}
 use Rattle.kuhn_tree.proofs.Cards.{left_of_in}
 
 -- ---- what is known of a reachable position
-overrun_more : (n : ℕ) (h : List ℕ) (a : ℕ) → overrun n (h ++ (a ∷ [])) ≡ (overrun n h || ended n h)
+overrun_more : (n : ℕ) (h : List ℕ) (a : ℕ) → overrun n (h ++ (a ∷ [])) ≡ (overrun n h or ended n h)
 unfolding overrun some
 overrun_more n h a = ap (λ l. some l after) (length-append h (a ∷ []) ∙ add-one (length h))
-    ∙ ap₂ ◌||◌ (some_same (length h) after (λ k. ended n (take k h)) (λ k w. ap (ended n) (take-append-le k h (a ∷ []) (omega arith))))
+    ∙ ap₂ ◌or◌ (some_same (length h) after (λ k. ended n (take k h)) (λ k w. ap (ended n) (take-append-le k h (a ∷ []) (omega arith))))
     (ap (ended n) (take-append-le (length h) h (a ∷ []) (NatL.le_refl (length h)) ∙ take-length h))
   where
     after : ℕ → Bool
@@ -67,7 +67,7 @@ module _ (n : ℕ) where
     is_over : over n cs h ≡ true → Case cs h nothing
 
   pub case : (cs h : List ℕ) → length cs ≤ n → Case cs h (next n cs h)
-  unfolding next ◌&&◌
+  unfolding next ◌and◌
   case cs h l = at (tested (due n cs)) (tested (ended n h))
     where
       full : due n cs ≡ false → eqb (length cs) n ≡ true

@@ -11,7 +11,7 @@ use lib.Dec.{eqb, ltb}
 use lib.ListN.{length, get_or, take, length-append, get_or-append}
 use lib.Seq.{get_or-append_seam, take-append-le, take-append_seam}
 use borrow.Author.Tests.{eqb-false, eq-eqb, ne_eqb, ltb-true, ltb-false, not-true}
-use Rattle.prelude.specs.Finite.{◌&&◌, ◌||◌, some, every, those, has}
+use Rattle.prelude.specs.Finite.{◌and◌, ◌or◌, some, every, those, has}
 use Rattle.prelude.proofs.Tests.{Tested, holds, fails, tested, true≢false, iff, both, and_left, and_right, or_left, or_right, some_here, some_at}
 use Rattle.prelude.proofs.Lists.{those_kept, those_passed}
 use Rattle.game_tree.specs.Tree.{Tree, fan}
@@ -67,7 +67,7 @@ firsts_of_hand n cs front (h ∷ hs) o f = rw (f h (inl refl)) (at (first n cs (
 every_same : (n : ℕ) (p q : ℕ → Bool) → ((i : ℕ) → i < n → p i ≡ q i) → every n p ≡ every n q
 unfolding every
 every_same zero p q f = refl
-every_same (suc n) p q f = ap₂ ◌&&◌ (every_same n p q (λ i l. f i (omega arith))) (f n (omega arith))
+every_same (suc n) p q f = ap₂ ◌and◌ (every_same n p q (λ i l. f i (omega arith))) (f n (omega arith))
 
 has_at : (cs : List ℕ) (j : ℕ) → j < length cs → has (get_or cs j 0) cs ≡ true
 unfolding has
@@ -78,21 +78,21 @@ has_at (x ∷ cs) (suc j) l = or_right (eqb x (get_or cs j 0)) (has_at cs j (ome
 module _ (n : ℕ) (cs : List ℕ) (c : ℕ) where
   -- a card below c was left, other than x
   lower : ℕ → Bool
-  lower x = some c (λ y. left n cs y && not (eqb y x))
+  lower x = some c (λ y. left n cs y and not (eqb y x))
 
-  lowest_more : (j x : ℕ) → lowest n (cs ++ (c ∷ [])) j x ≡ (lowest n cs j x && (eqb (length cs) j || not (lower x)))
+  lowest_more : (j x : ℕ) → lowest n (cs ++ (c ∷ [])) j x ≡ (lowest n cs j x and (eqb (length cs) j or not (lower x)))
   unfolding lowest lowest_but every lower
   lowest_more j x = ap (λ l. every l after) (length-append cs (c ∷ []) ∙ add-one (length cs))
-      ∙ ap₂ ◌&&◌ (every_same (length cs) after before' (λ q l. ap (◌||◌ (eqb q j)) (same q l))) (ap (◌||◌ (eqb (length cs) j)) last)
+      ∙ ap₂ ◌and◌ (every_same (length cs) after before' (λ q l. ap (◌or◌ (eqb q j)) (same q l))) (ap (◌or◌ (eqb (length cs) j)) last)
     where
       after : ℕ → Bool
-      after q = eqb q j || lowest_but n (cs ++ (c ∷ [])) x q
+      after q = eqb q j or lowest_but n (cs ++ (c ∷ [])) x q
 
       before' : ℕ → Bool
-      before' q = eqb q j || lowest_but n cs x q
+      before' q = eqb q j or lowest_but n cs x q
 
       low : ℕ → List ℕ → Bool
-      low y ds = not (some y (λ y. left n ds y && not (eqb y x)))
+      low y ds = not (some y (λ y. left n ds y and not (eqb y x)))
 
       same : (q : ℕ) → q < length cs → low (get_or (cs ++ (c ∷ [])) q 0) (take q (cs ++ (c ∷ []))) ≡ low (get_or cs q 0) (take q cs)
       same q l = ap₂ low (get_or-append cs (c ∷ []) 0 q l) (take-append-le q cs (c ∷ []) (omega arith))
@@ -139,8 +139,8 @@ may-other n cs c y j x d f (inr (l, v)) = inr (
   in_of_left n (cs ++ (y ∷ [])) x (left_other n cs y x (λ e. f (sym e)) ∙ left_of_in n cs x (still_left n cs c x v).1),
 )
 
-turned : (a b d : Bool) → cond (not a && b) true (not d) ≡ not (d && (a || not b))
-unfolding ◌&&◌ ◌||◌
+turned : (a b d : Bool) → cond (not a and b) true (not d) ≡ not (d and (a or not b))
+unfolding ◌and◌ ◌or◌
 turned true b true = refl
 turned true b false = refl
 turned false true true = refl
@@ -182,7 +182,7 @@ module _ (ante bet n : ℕ) (one : 1 ≤ n) where
       j = turn n h
 
       abbrev earlier : Bool
-      earlier = not (eqb (length cs) j) && lower n cs c x
+      earlier = not (eqb (length cs) j) and lower n cs c x
 
       in_remaining : (y : ℕ) → In y (those c (left n cs)) → In y (remaining n cs)
       in_remaining y v = in_of_left n cs y (in_those (left n cs) c y v).1
@@ -196,7 +196,7 @@ module _ (ante bet n : ℕ) (one : 1 ≤ n) where
               (deals-may k (cs ++ (y ∷ [])) d (omega (arith, length-append cs (y ∷ []))) b)
 
           at : (y : ℕ) → In y (those c (left n cs)) → May n (cs ++ (y ∷ [])) j x → earlier ≡ true
-          at y a q = both (ap not (ne_eqb (length cs) j elsewhere)) (some_here c (λ y. left n cs y && not (eqb y x)) y (in_those (left n cs) c y a).0
+          at y a q = both (ap not (ne_eqb (length cs) j elsewhere)) (some_here c (λ y. left n cs y and not (eqb y x)) y (in_those (left n cs) c y a).0
               (both (in_those (left n cs) c y a).1 (ap not (ne_eqb y x (may_not n cs y j x elsewhere (in_remaining y a) q)))))
             where
               elsewhere : length cs ≡ j → ⊥
@@ -204,12 +204,12 @@ module _ (ante bet n : ℕ) (one : 1 ≤ n) where
 
       lies : earlier ≡ true → met j (j ∷ x ∷ h) (under c) ≡ true
       unfolding lower under
-      lies e = some_at c (λ y. left n cs y && not (eqb y x)) (and_right (not (eqb (length cs) j)) (lower n cs c x) e) at
+      lies e = some_at c (λ y. left n cs y and not (eqb y x)) (and_right (not (eqb (length cs) j)) (lower n cs c x) e) at
         where
           elsewhere : length cs ≡ j → ⊥
           elsewhere = eqb-false (length cs) j (not-true (eqb (length cs) j) (and_left (not (eqb (length cs) j)) (lower n cs c x) e))
 
-          at : (y : ℕ) → y < c → (left n cs y && not (eqb y x)) ≡ true → met j (j ∷ x ∷ h) (under c) ≡ true
+          at : (y : ℕ) → y < c → (left n cs y and not (eqb y x)) ≡ true → met j (j ∷ x ∷ h) (under c) ≡ true
           at y l q =
               let u : left n cs y ≡ true = and_left (left n cs y) (not (eqb y x)) q in
               let v : y ≡ x → ⊥ = eqb-false y x (not-true (eqb y x) (and_right (left n cs y) (not (eqb y x)) q)) in

@@ -8,7 +8,7 @@ use native.Mathlib.Omega.{arith}
 use lib.Dec.{eqb, leb}
 use lib.ListN.{length}
 use borrow.Author.Tests.{ltb-true, eqb-true, leb-true, not-true}
-use Rattle.prelude.specs.Finite.{◌&&◌}
+use Rattle.prelude.specs.Finite.{◌and◌}
 use Rattle.prelude.proofs.Tests.{true≢false, and_left, and_right}
 use Rattle.game_tree.specs.Tree.{Tree, end, chance, decide, Trees, nil, cons}
 use Rattle.game_tree.specs.Sets.{size}
@@ -69,7 +69,7 @@ module _ (ante bet n : ℕ) where
   child_in (cons t f) (q ∷ qs) g z (inl e) = in_left z (positions n t q.0 q.1) (positions_all n f qs) (rw (← e) (root_in t q.0 q.1))
   child_in (cons t f) (q ∷ qs) g z (inr w) = in_right z (positions n t q.0 q.1) (positions_all n f qs) (child_in f qs g.1 z w)
 
-  not_due : (cs h : List ℕ) (b : Bool) → (eqb (length cs) n && b) ≡ true → due n cs ≡ true → ⊥
+  not_due : (cs h : List ℕ) (b : Bool) → (eqb (length cs) n and b) ≡ true → due n cs ≡ true → ⊥
   not_due cs h b e d = let l : length cs < n = ltb-true (length cs) n d in omega (arith, eqb-true (length cs) n (and_left (eqb (length cs) n) b e))
 
   not_both : (cs h : List ℕ) → over n cs h ≡ true → live n cs h ≡ true → ⊥

@@ -10,7 +10,7 @@ use lib.Dec.{eqb, leb}
 use lib.ListN.{length, get_or, length-append, get_or-append}
 use lib.Seq.{get_or-append_seam}
 use borrow.Author.Tests.{eqb-true, eqb-false, le-leb}
-use Rattle.prelude.specs.Finite.{◌&&◌, has}
+use Rattle.prelude.specs.Finite.{has}
 use Rattle.prelude.proofs.Tests.{Tested, holds, fails, tested, true≢false, both, and_left}
 use Rattle.game_tree.specs.Tree.{Tree, fan}
 use Rattle.game_tree.specs.Sets.{Decision, decisions, decisions_all, sets, set_count, entries, entries_of}

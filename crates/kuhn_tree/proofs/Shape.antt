@@ -7,7 +7,7 @@ use native.Mathlib.Nat as NatL
 use native.Mathlib.Omega.{arith}
 use lib.ListN.{length, length-append}
 use borrow.Author.Tests.{eq-eqb, lt-ltb, le-ltb}
-use Rattle.prelude.specs.Finite.{◌&&◌}
+use Rattle.prelude.specs.Finite.{◌and◌}
 use Rattle.prelude.proofs.Tests.{Tested, holds, fails, tested, both}
 use Rattle.game_tree.specs.Tree.{Tree, end, chance, decide, cons, nil}
 use Rattle.kuhn_rules.specs.Rules.{PASS, BET, ended, turn, live, remaining, key, payoff}
@@ -31,14 +31,14 @@ module _ (ante bet n : ℕ) where
 
   module _ (cs : List ℕ) (full : length cs ≡ n) where
     next_over : (h : List ℕ) → ended n h ≡ true → next n cs h ≡ nothing
-    unfolding next ◌&&◌
+    unfolding next ◌and◌
     next_over h e = rw (le-ltb (length cs) n (omega arith), eq-eqb (length cs) n full, e)
 
     acts : (h : List ℕ) → ended n h ≡ false → live n cs h ≡ true
     acts h e = both (eq-eqb (length cs) n full) (ap not e)
 
     next_action : (h : List ℕ) → ended n h ≡ false → next n cs h ≡ action
-    unfolding next ◌&&◌
+    unfolding next ◌and◌
     next_action h e = rw (le-ltb (length cs) n (omega arith), eq-eqb (length cs) n full, e)
 
     below_hand : (r : ℕ) (h : List ℕ) → below ante bet n r (next n cs h) cs h ≡ hand cs r (ended n h) h

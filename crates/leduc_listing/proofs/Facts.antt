@@ -4,7 +4,7 @@ use mathlib.Core.Bool.{true}
 use lib.Dec.{leb}
 use lib.ListN.{length}
 use borrow.Author.Tests.{leb-true}
-use Rattle.prelude.specs.Finite.{◌&&◌, ◌||◌, some, those, has}
+use Rattle.prelude.specs.Finite.{◌and◌, ◌or◌, some, those, has}
 use Rattle.game_tree.proofs.Checked.{every, every-sound}
 use Rattle.leduc_betting.specs.Betting.{ends_with, folded, closes, behind, raises, may, options, in_play, turn, ended}
 use Rattle.leduc_betting.specs.Cards.{left, remaining}
@@ -22,7 +22,7 @@ walked = Walk.walked
 
 -- computed over the whole tree
 all_short : every (λ j k a. leb (length k) 13) tree ≡ true
-unfolding every tree_of_leduc below next each ◌&&◌ ◌||◌ some those has ends_with folded closes behind raises may options in_play turn ended left remaining public-due due key
+unfolding every tree_of_leduc below next each ◌and◌ ◌or◌ some those has ends_with folded closes behind raises may options in_play turn ended left remaining public-due due key
 all_short = refl
 
 pub keys_fit : KeysFit

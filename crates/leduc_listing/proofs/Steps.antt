@@ -6,7 +6,7 @@ use Prim.Native.Nat.{ℕ, zero, suc, ◌+◌, ◌-◌, ◌≤◌}
 use native.Mathlib.Omega.{arith}
 use lib.ListN.{length, length-append}
 use lib.Seq.{sets}
-use Rattle.prelude.specs.Finite.{◌||◌, those}
+use Rattle.prelude.specs.Finite.{◌or◌, those}
 use Rattle.prelude.proofs.Tests.{Tested, holds, fails, tested}
 use Rattle.prelude.proofs.Lists.{those_kept, those_passed}
 use Rattle.leduc_betting.specs.Cards.{seen, left, remaining}
@@ -81,11 +81,11 @@ module _ (r : ℕ) (q : Position) where
   by b d = joined (those (cond b 6 (cond d 0 3)) (λ a. cond b (left (seen q.cards q.public) a) (may (in_play q.first q.second) a))) (λ a. records_of (T (cond b (dealt q a) (acted q a))))
 
   pub from_node : records_of (turns (suc r) (next q) q) ≡ node_records q ++ next_records r q (move_bound q)
-  unfolding next turns node_records next_records is_move move_bound moved live ◌||◌ remaining options by records_of those joined
+  unfolding next turns node_records next_records is_move move_bound moved live ◌or◌ remaining options by records_of those joined
   from_node = at (tested (due q)) (tested (ended q))
     where
       at : Tested (due q) → Tested (ended q)
-          → records_of (turns (suc r) (cond (due q) card (cond (ended q) nothing action)) q) ≡ cond (not (due q || ended q)) (records_of (q ∷ [])) [] ++ by (due q) (ended q)
+          → records_of (turns (suc r) (cond (due q) card (cond (ended q) nothing action)) q) ≡ cond (not (due q or ended q)) (records_of (q ∷ [])) [] ++ by (due q) (ended q)
       at (holds e) w = rw e (records_joined (dealt q) (remaining (seen q.cards q.public)) T)
       at (fails e) (holds w) = rw (e, w) refl
       at (fails e) (fails w) = rw (e, w) (records_append (q ∷ []) (Turns.joined (map (acted q) (choices q)) T) ∙ ap (λ l. records_of (q ∷ []) ++ l) (records_joined (acted q) (choices q) T))
@@ -138,5 +138,5 @@ module _ (r : ℕ) (q s : Position) (b m : ℕ) (more : r ≡ 0 → ⊥) (some-b
 
 -- ---- from the start: its moves alone
 pub from_start : listing_of_leduc ≡ next_records 10 start 6
-unfolding node_records live ◌||◌ Rattle.leduc_rules.specs.Rules.due move_bound
+unfolding node_records live ◌or◌ Rattle.leduc_rules.specs.Rules.due move_bound
 from_start = walked ∙ from_node 10 start

@@ -8,7 +8,7 @@ use lib.Dec.{eqb, ltb}
 use lib.ListN.{length, get_or, take, set, length-append}
 use lib.Seq.{length-take-le, get_or-take, paste}
 use borrow.Author.Tests.{eq-eqb, ne_eqb, lt-ltb, le-ltb, ltb-false, not-true}
-use Rattle.prelude.specs.Finite.{◌&&◌, has}
+use Rattle.prelude.specs.Finite.{◌and◌, has}
 use Rattle.prelude.proofs.Tests.{both, neither, or_false_left}
 use Rattle.prelude.proofs.Lists.{get_d_within}
 use Rattle.game_tree.proofs.Counting.{In}
@@ -37,8 +37,8 @@ turn_in_first h₁ h₂ k e l = ap (λ n. n % 2) (sym l) ∙ ap (λ b. length (c
 
 -- ---- the legal count
 pub legal-counted : (h₁ h₂ actions : List ℕ) (count seat : ℕ) → seat ≡ turn h₁ h₂ → count ≤ length actions
-    → take count actions ≡ cond (true && eqb seat (turn h₁ h₂)) (options (in_play h₁ h₂)) [] → count ≡ length (options (in_play h₁ h₂))
-unfolding ◌&&◌
+    → take count actions ≡ cond (true and eqb seat (turn h₁ h₂)) (options (in_play h₁ h₂)) [] → count ≡ length (options (in_play h₁ h₂))
+unfolding ◌and◌
 legal-counted h₁ h₂ actions count seat e l w = sym (length-take-le count actions l) ∙ ap length (w ∙ ap (λ b. cond b (options (in_play h₁ h₂)) []) (eq-eqb seat (turn h₁ h₂) e))
 
 -- ---- the rule for the first node: of six cards one is neither of two

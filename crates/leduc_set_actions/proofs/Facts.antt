@@ -3,7 +3,7 @@ use mathlib.Core.Path.{◌≡◌, refl, sym, ap, ◌∙◌}
 use mathlib.Core.List.{List, [], ◌∷◌}
 use Prim.Native.Nat.{ℕ, ◌+◌, ◌/◌, ◌%◌, ◌^◌, ◌<◌}
 use lib.ListN.{length, get_or}
-use Rattle.prelude.specs.Finite.{◌&&◌, ◌||◌, some, those, has, places}
+use Rattle.prelude.specs.Finite.{◌and◌, ◌or◌, some, those, has, places}
 use Rattle.prelude.proofs.Lists.{length-places, get_d_places}
 use Rattle.leduc_betting.specs.Betting.{ends_with, folded, closes, behind, raises, may, options, in_play, turn, ended}
 use Rattle.leduc_betting.specs.Cards.{left, remaining}
@@ -22,7 +22,7 @@ unfolding threes
 actions_at s = 2 + get_or threes (s / 64) 0 / 2 ^ (s % 64) % 2
 
 pub in_words : actions_in_order ≡ places 936 actions_at
-unfolding actions_at threes places actions_in_order first_turns first_ones is_first turns joined next ◌&&◌ ◌||◌ some those has ends_with folded closes behind raises may options in_play turn ended left remaining public-due due
+unfolding actions_at threes places actions_in_order first_turns first_ones is_first turns joined next ◌and◌ ◌or◌ some those has ends_with folded closes behind raises may options in_play turn ended left remaining public-due due
 in_words = refl
 
 pub actions_in_all : length actions_in_order ≡ 936

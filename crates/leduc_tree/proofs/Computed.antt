@@ -6,7 +6,7 @@ use Prim.Native.Nat.{ℕ}
 use lib.Dec.{eqb}
 use lib.ListN.{length}
 use borrow.Author.Tests.{eqb-true}
-use Rattle.prelude.specs.Finite.{◌&&◌, ◌||◌, some, those, has}
+use Rattle.prelude.specs.Finite.{◌and◌, ◌or◌, some, those, has}
 use Rattle.prelude.proofs.Tests.{and_left, and_right}
 use Rattle.game_tree.specs.Sets.{Decision, met, firsts, sets, set_count, entries, entries_of}
 use Rattle.game_tree.proofs.Tries.{none, finds}
@@ -19,14 +19,14 @@ use Rattle.leduc_tree.proofs.Firsts.{below_decisions, Tells, tells-firsts, told,
 
 -- so many are the sets and their entries
 unfoldable many : List Decision → Bool
-many xs = eqb (length xs) 936 && eqb (entries_of xs) 2184
+many xs = eqb (length xs) 936 and eqb (entries_of xs) 2184
 
 -- the rule tells of the turns qs which are the first of their set, and so many are those
 unfoldable checked : List Position → Bool
-checked qs = told none qs && many (map decision_at (first_ones qs))
+checked qs = told none qs and many (map decision_at (first_ones qs))
 
 is_checked : checked (turns fuel (next start) start) ≡ true
-unfolding checked many told turns first_ones entries_of next ◌&&◌ ◌||◌ some those has ends_with folded closes behind raises may options in_play turn ended left remaining public-due due key
+unfolding checked many told turns first_ones entries_of next ◌and◌ ◌or◌ some those has ends_with folded closes behind raises may options in_play turn ended left remaining public-due due key
 is_checked = refl
 
 pub turns-told : Tells [] (turns fuel (next start) start)

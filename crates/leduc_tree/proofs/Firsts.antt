@@ -5,7 +5,7 @@ use mathlib.Core.List.{List, [], ◌∷◌, ◌++◌, map, map-append}
 use Prim.Native.Nat.{ℕ, zero, suc}
 use lib.IntN.{ℤ}
 use lib.ListN.{length}
-use Rattle.prelude.specs.Finite.{◌&&◌}
+use Rattle.prelude.specs.Finite.{◌and◌}
 use Rattle.prelude.proofs.Tests.{Tested, holds, fails, tested, true≢false, and_left, and_right}
 use Rattle.game_tree.specs.Tree.{Key, Tree, fan}
 use Rattle.game_tree.specs.Reply.{same}
@@ -63,7 +63,7 @@ differ-sound false false e = true≢false false e refl
 unfoldable pub told : Trie → List Position → Bool
 unfolding differ finds add is_first
 told t [] = true
-told t (q ∷ qs) = let k : Key = actor q ∷ key q in (differ (finds t k) (is_first q) && told (cond (is_first q) (add t k) t) qs)
+told t (q ∷ qs) = let k : Key = actor q ∷ key q in (differ (finds t k) (is_first q) and told (cond (is_first q) (add t k) t) qs)
 
 -- a key that is stored need not be stored again
 kept : (b : Bool) (t : Trie) (l k : Key) → finds t l ≡ not b → finds (cond b (add t l) t) k ≡ cond (same l k) true (finds t k)

@@ -9,7 +9,7 @@ use lib.Dec.{ltb}
 use lib.IntN.{ℤ}
 use lib.ListN.{length}
 use borrow.Author.Tests.{eq-eqb}
-use Rattle.prelude.specs.Finite.{◌&&◌, ◌||◌, some, those, has}
+use Rattle.prelude.specs.Finite.{◌and◌, ◌or◌, some, those, has}
 use Rattle.prelude.proofs.Tests.{Tested, holds, fails, tested, true≢false, both, and_left, and_right, or_cases}
 use Rattle.game_tree.specs.Tree.{Tree, end, chance, decide, cons}
 use Rattle.game_tree.proofs.Counting.{In}
@@ -33,7 +33,7 @@ pub data Case (q : Position) : Next → Type 0 where
   is_action : acts q ≡ true → Case q action
 
 pub case : (q : Position) → Case q (next q)
-unfolding next live ◌||◌
+unfolding next live ◌or◌
 case q = at (tested (due q)) (tested (ended q))
   where
     at : Tested (due q) → Tested (ended q) → Case q (cond (due q) card (cond (ended q) nothing action))
@@ -72,7 +72,7 @@ reach-action q a r e w = at (tested (closes q.first))
 -- ---- the fuel lasts below a position: computed
 unfoldable pub all_of : List Position → (Position → Bool) → Bool
 all_of [] p = true
-all_of (q ∷ qs) p = p q && all_of qs p
+all_of (q ∷ qs) p = p q and all_of qs p
 
 unfoldable pub lasts : ℕ → Next → Position → Bool
 unfolding all_of next
@@ -84,7 +84,7 @@ lasts (suc r) card q = all_of (after_deal q) (λ s. lasts r (next s) s)
 lasts (suc r) action q = all_of (after_action q) (λ s. lasts r (next s) s)
 
 pub fuel-lasts : lasts fuel (next start) start ≡ true
-unfolding lasts next ◌&&◌ ◌||◌ some those has ends_with folded closes behind raises may options in_play Betting.ended left remaining public-due Rules.due
+unfolding lasts next ◌and◌ ◌or◌ some those has ends_with folded closes behind raises may options in_play Betting.ended left remaining public-due Rules.due
 fuel-lasts = refl
 
 module _ (ante raise₁ raise₂ : ℕ) where

@@ -1,15 +1,15 @@
 -- The nodes of Leduc's tree stand for the reachable positions, and each of these has its node; payoffs add up to 0 at every end. Assumes nothing.
 use mathlib.Core.Path.{◌≡◌, refl, ap, ◌∙◌}
 use mathlib.Core.Logic.{◌⊎◌, inl, inr}
-use mathlib.Core.Bool.{true, false, not, cond}
+use mathlib.Core.Bool.{true, false, cond}
 use mathlib.Core.List.{List, [], ◌∷◌, ◌++◌}
 use Prim.Native.Nat.{ℕ, ◌<◌}
 use native.Mathlib.Omega.{arith}
-use lib.Dec.{eqb, ltb}
+use lib.Dec.{ltb}
 use lib.IntN.{ℤ, pos, ◌+ℤ◌, +ℤ_idl}
 use lib.ListN.{length}
 use borrow.Author.Tests.{eq-eqb, ltb-true, not-true}
-use Rattle.prelude.specs.Finite.{◌&&◌, ◌||◌, sumℤ}
+use Rattle.prelude.specs.Finite.{sumℤ}
 use Rattle.prelude.proofs.Tests.{Tested, holds, fails, tested, true≢false, both, and_left, and_right, or_left, or_right, or_cases, or_false_left}
 use Rattle.game_tree.specs.Tree.{Tree, end, chance, decide, Trees, nil, cons}
 use Rattle.game_tree.specs.Sets.{size}
@@ -23,7 +23,7 @@ use Rattle.leduc_betting.specs.declared.Public.TheVariants.{Hidden, Card}
 use Rattle.leduc_betting.specs.Betting.{closes, may, options, in_play, turn, ended}
 use Rattle.leduc_betting.specs.Cards.{hidden, seen, left, remaining}
 use Rattle.leduc_betting.proofs.Histories.{may-small}
-use Rattle.leduc_rules.specs.Rules.{public-due, due, live, legal, payoff}
+use Rattle.leduc_rules.specs.Rules.{public-due, due, live, legal}
 use Rattle.leduc_rules.specs.Moves.{Reached, start, deal, reveal, act₁, act₂}
 use Rattle.leduc_rules.proofs.Reaching.{nothing-closed, ended-dealt}
 use Rattle.leduc_rules.proofs.Moves.{none_acted, reached_parts, acting}

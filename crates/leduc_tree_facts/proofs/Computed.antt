@@ -6,7 +6,7 @@ use Prim.Native.Nat.{ℕ, ◌≤◌}
 use lib.Dec.{eqb, leb}
 use lib.ListN.{get_or}
 use borrow.Author.Tests.{eqb-true, leb-true}
-use Rattle.prelude.specs.Finite.{◌&&◌, ◌||◌, some, those, has}
+use Rattle.prelude.specs.Finite.{◌and◌, ◌or◌, some, those, has}
 use Rattle.prelude.proofs.Tests.{and_left, and_right}
 use Rattle.game_tree.specs.Tree.{Key, Tree}
 use Rattle.game_tree.specs.Conditions.{Splits, Every}
@@ -25,24 +25,24 @@ use Rattle.leduc_tree_facts.proofs.Shape.{shaped, hands_fit}
 
 -- the key tells who acts and with how many actions, and those are two or three
 unfoldable keyed : ℕ → Key → ℕ → Bool
-keyed j k n = (eqb j (get_or k 0 0) && eqb n (actions_of k)) && (leb 2 n && leb n 3)
+keyed j k n = (eqb j (get_or k 0 0) and eqb n (actions_of k)) and (leb 2 n and leb n 3)
 
 -- the fans and the most decisions on a path; what a key tells, the decisions to come, and the nodes that may follow
 unfoldable regular : Tree → Bool
-regular t = (splits C m t && every keyed t) && (heights (λ j k. depth_of k) t && levels (λ j k. level_of k) 12 t)
+regular t = (splits C m t and every keyed t) and (heights (λ j k. depth_of k) t and levels (λ j k. level_of k) 12 t)
 
 -- the own moves before each decision are those that its key tells
 unfoldable recalled : Tree → Bool
-recalled t = recall 0 past actions_of [] t && recall 1 past actions_of [] t
+recalled t = recall 0 past actions_of [] t and recall 1 past actions_of [] t
 
 -- all of it, so that the tree is worked out once: the nodes too, and that the hands of t have the shape of u
 unfoldable checked : Tree → Tree → Bool
-checked u t = eqb (size t) leduc_nodes && (hands_fit u t && (regular t && recalled t))
+checked u t = eqb (size t) leduc_nodes and (hands_fit u t and (regular t and recalled t))
 
 module _ (ante raise₁ raise₂ : ℕ) where
   is_checked : checked (hand ante raise₁ raise₂ (with_cards 0 1)) (tree_of_leduc ante raise₁ raise₂) ≡ true
   unfolding checked size hands_fit shaped hand regular keyed recalled splits every heights levels recall actions_of depth_of level_of past tree_of_leduc
-      below next each ◌&&◌ ◌||◌ some those has ends_with folded closes behind raises may options in_play turn ended left remaining public-due due key
+      below next each ◌and◌ ◌or◌ some those has ends_with folded closes behind raises may options in_play turn ended left remaining public-due due key
   is_checked = refl
 
   pub node-count : size (tree_of_leduc ante raise₁ raise₂) ≡ leduc_nodes

@@ -5,7 +5,7 @@ use lib.ListN.{get_or}
 use Rattle.game_tree.proofs.TableTheorem.{reply-table-best}
 use Rattle.leduc_tree.specs.Tree.{tree_of_leduc, C, m}
 use Rattle.leduc_tree.proofs.Computed.{set-count, entry-count}
-use Rattle.leduc_tree_facts.specs.Facts.{Counts, units, SeatByKey, ActionsByKey, DepthByKey, LevelsByKey, TwoOrThreeActions, Recalls, FansDivide, PayoffsBounded, ReplyBest, DealsFirst, OneShape}
+use Rattle.leduc_tree_facts.specs.Facts.{Counts, SeatByKey, ActionsByKey, DepthByKey, LevelsByKey, TwoOrThreeActions, Recalls, FansDivide, PayoffsBounded, ReplyBest, DealsFirst, OneShape}
 use Rattle.leduc_tree_facts.proofs.Keys.{actions_of, depth_of, level_of, past}
 use Rattle.leduc_tree_facts.proofs.Computed.{node-count, splitting, seats, actions, depths, leveling, few-actions, first_recalls, second-recalls}
 use Rattle.leduc_tree_facts.proofs.Payoffs.{leduc-pays}

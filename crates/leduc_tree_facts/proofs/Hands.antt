@@ -4,7 +4,7 @@ use mathlib.Core.Logic.{inl, inr}
 use mathlib.Core.Bool.{Bool, true}
 use mathlib.Core.List.{List, [], ◌∷◌, map}
 use Prim.Native.Nat.{ℕ, ◌+◌}
-use Rattle.prelude.specs.Finite.{◌||◌}
+use Rattle.prelude.specs.Finite.{◌or◌}
 use Rattle.prelude.proofs.Tests.{and_left, and_right}
 use Rattle.game_tree.specs.Tree.{Tree, chance, cons}
 use Rattle.game_tree.specs.Sets.{size}
@@ -32,7 +32,7 @@ module _ (ante raise₁ raise₂ : ℕ) where
   each_same (c ∷ l) move g k h = ap₂ cons (h c) (each_same l move g k h)
 
   pub deals_first : tree_of_leduc ante raise₁ raise₂ ≡ chance (each (after_deal start) (λ s. chance (each (after_deal s) (hand ante raise₁ raise₂))))
-  unfolding tree_of_leduc below next hand due ◌||◌
+  unfolding tree_of_leduc below next hand due ◌or◌
   deals_first = ap chance (each_same (remaining []) (dealt start) (λ s. below (payoff ante raise₁ raise₂) (2 + m) (next s) s) (λ s. chance (each (after_deal s) (hand ante raise₁ raise₂))) (λ c. refl))
 
   -- ---- the shape behind each deal is that behind the first

@@ -9,7 +9,7 @@ use lib.Dec.{leb}
 use lib.IntN.{pos, neg_ℤ, nat_abs}
 use lib.ListN.{length}
 use borrow.Author.Tests.{ne_eqb, leb-true}
-use Rattle.prelude.specs.Finite.{◌&&◌}
+use Rattle.prelude.specs.Finite.{◌and◌}
 use Rattle.prelude.proofs.Tests.{and_left, and_right}
 use Rattle.game_tree.specs.Tree.{Tree, end, chance, decide, Trees, nil, cons}
 use Rattle.game_tree.specs.Conditions.{Pays, PaysAll}
@@ -28,10 +28,10 @@ use Rattle.leduc_tree.proofs.Growth.{Stands, leduc-follows}
 
 -- ---- a seat pays at most two raises of a round
 few-raises : List ℕ → Bool
-few-raises h = leb (raises-paid h 0) 2 && leb (raises-paid h 1) 2
+few-raises h = leb (raises-paid h 0) 2 and leb (raises-paid h 1) 2
 
 all_few : all_of few-raises rounds ≡ true
-unfolding all_of few-raises rounds ◌&&◌ put_in after-action
+unfolding all_of few-raises rounds ◌and◌ put_in after-action
 all_few = refl
 
 -- a seat that never acts pays none

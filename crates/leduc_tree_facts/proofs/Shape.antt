@@ -4,7 +4,7 @@ use mathlib.Core.Bool.{Bool, true, false}
 use mathlib.Core.List.{[]}
 use lib.Dec.{eqb}
 use borrow.Author.Tests.{eqb-true}
-use Rattle.prelude.specs.Finite.{◌&&◌}
+use Rattle.prelude.specs.Finite.{◌and◌}
 use Rattle.prelude.proofs.Tests.{true≢false, and_left, and_right}
 use Rattle.game_tree.specs.Tree.{Tree, end, chance, decide, Trees, nil, cons}
 use Rattle.game_tree.specs.Sets.{size}
@@ -21,13 +21,13 @@ unfoldable mutual
   shaped (chance f) (decide i l g) = false
   shaped (decide j k f) (end q) = false
   shaped (decide j k f) (chance g) = false
-  shaped (decide j k f) (decide i l g) = eqb j i && shaped_all f g
+  shaped (decide j k f) (decide i l g) = eqb j i and shaped_all f g
 
   pub shaped_all : Trees → Trees → Bool
   shaped_all nil nil = true
   shaped_all nil (cons u g) = false
   shaped_all (cons t f) nil = false
-  shaped_all (cons t f) (cons u g) = shaped t u && shaped_all f g
+  shaped_all (cons t f) (cons u g) = shaped t u and shaped_all f g
 
 mutual
   unfolding shaped bare
@@ -52,7 +52,7 @@ mutual
 -- ---- every hand of a tree has one shape
 -- the tree below a deal has the shape of u and 315 nodes
 unfoldable pub fits : Tree → Tree → Bool
-fits u t = shaped t u && eqb (size t) 315
+fits u t = shaped t u and eqb (size t) 315
 
 pub fits_sound : (u t : Tree) → fits u t ≡ true → (bare t ≡ bare u) × (size t ≡ 315)
 unfolding fits
@@ -61,7 +61,7 @@ fits_sound u t e = (shaped-sound t u (and_left _ _ e), eqb-true _ _ (and_right _
 -- a test of every tree of a row
 unfoldable pub every-tree : (Tree → Bool) → Trees → Bool
 every-tree p nil = true
-every-tree p (cons t f) = p t && every-tree p f
+every-tree p (cons t f) = p t and every-tree p f
 
 unfoldable pub children : Tree → Trees
 children (end p) = nil

@@ -3,13 +3,13 @@ use mathlib.Core.Path.{◌≡◌, refl, sym, ap, subst, subst₂, ◌∙◌}
 use mathlib.Core.Logic.{◌≢◌, inl, inr}
 use mathlib.Core.Bool.{true, false, cond}
 use mathlib.Core.List.{List, [], ◌∷◌, ◌++◌, map}
-use Prim.Native.Nat.{ℕ, zero, suc, ◌≤◌, ◌<◌}
+use Prim.Native.Nat.{ℕ, suc, ◌≤◌, ◌<◌}
 use native.Mathlib.Omega.{arith}
 use lib.Dec.{ltb}
 use lib.IntN.{ℤ, pos}
 use lib.ListN.{length, drop}
 use borrow.Author.Tests.{le-ltb, lt-ltb, ne_eqb}
-use Rattle.prelude.specs.Finite.{◌&&◌, places}
+use Rattle.prelude.specs.Finite.{◌and◌, places}
 use Rattle.prelude.proofs.Tests.{neither, and_right_fails}
 use Rattle.game_tree.specs.Tree.{Tree, end, chance, decide, Trees, nil, cons}
 use Rattle.game_tree.specs.Nodes.{node_of}
@@ -45,7 +45,7 @@ module _ (g : KuhnPoker) (least : 2 ≤ g.players) (most : g.players ≤ 10) whe
     passes = (reachable_by_moves n s).1 (z.within.0, z.within.1, z.reached)
 
     deal-accepted : (k : ℕ) → due n (cards_of s) ≡ true → k < length (remaining n (cards_of s)) → (dealt g s k).refusal ≡ 0
-    unfolding deal-refusal ◌&&◌
+    unfolding deal-refusal ◌and◌
     deal-accepted k d l = moved_number (deal-refusal g s k) s _ ∙ rw (seats_in, passes, d, lt-ltb k (length (remaining n (cards_of s))) l) refl
 
     deal-refused : (k : ℕ) → length (remaining n (cards_of s)) ≤ k → (dealt g s k).refusal ≡ 20

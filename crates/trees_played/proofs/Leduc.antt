@@ -1,22 +1,22 @@
 -- Leduc's calls play its tree. Assumes nothing.
 use mathlib.Core.Path.{◌≡◌, refl, sym, ap, subst, ◌∙◌}
 use mathlib.Core.Logic.{◌≢◌, inl, inr}
-use mathlib.Core.Bool.{true, false, cond}
+use mathlib.Core.Bool.{true, cond}
 use mathlib.Core.List.{List, [], ◌∷◌, ◌++◌, map}
-use Prim.Native.Nat.{ℕ, zero, suc, ◌≤◌, ◌<◌}
+use Prim.Native.Nat.{ℕ, suc, ◌≤◌, ◌<◌}
 use native.Mathlib.Omega.{arith}
-use lib.Dec.{eqb, ltb}
+use lib.Dec.{ltb}
 use lib.IntN.{ℤ, pos}
 use lib.ListN.{length, drop, replicate}
 use borrow.Author.Tests.{eq-eqb, le-ltb, lt-ltb, ltb-true, ltb-false, ne_eqb}
-use Rattle.prelude.specs.Finite.{◌&&◌}
+use Rattle.prelude.specs.Finite.{◌and◌}
 use Rattle.prelude.proofs.Tests.{Tested, holds, fails, tested, both, and_right_fails}
 use Rattle.game_tree.specs.Tree.{Tree, end, chance, decide, Trees, nil, cons}
 use Rattle.game_tree.specs.Nodes.{node_of}
 use Rattle.game_tree.proofs.Counting.{In}
 use Rattle.game_tree.proofs.Numbers.{in_those}
 use Rattle.leduc_betting.specs.declared.Public.TheVariants.{Card}
-use Rattle.leduc_betting.specs.Betting.{closes, may, options, counted, in_play, turn, ended}
+use Rattle.leduc_betting.specs.Betting.{closes, may, options, counted, turn, ended}
 use Rattle.leduc_betting.specs.Cards.{remaining}
 use Rattle.leduc_rules.specs.Rules.{due, live, legal, payoff}
 use Rattle.leduc_rules.specs.Moves.{start}
@@ -53,7 +53,7 @@ module _ (s : LeducState) (z : Fit s) where
   passes = let (x, y, w) = z.within in (reachable_by_moves s).1 (x, y, w, z.reached)
 
   deal-accepted : (k : ℕ) → due (cards_of s) s.public (round_one s) (round_two s) ≡ true → k < length (remaining (seen_of s)) → (dealt s k).refusal ≡ 0
-  unfolding deal-refusal ◌&&◌
+  unfolding deal-refusal ◌and◌
   deal-accepted k d l = moved_number (deal-refusal s k) s _ ∙ rw (passes, d, lt-ltb k (length (remaining (seen_of s))) l) refl
 
   deal-refused : (k : ℕ) → length (remaining (seen_of s)) ≤ k → (dealt s k).refusal ≡ 20

@@ -1,0 +1,14 @@
+-- The tree, the seat, the profile. Assumes nothing.
+use Rattle.refusals.proofs.Order.{settled_so, settled_first, settled-behind, settled-earlier}
+use Rattle.tree_refusals.proofs.value_refusal.Goals as goal
+
+pub returns-then-refusal-ne-ACCEPTED : goal.returns-then-refusal-ne-ACCEPTED
+returns-then-refusal-ne-ACCEPTED c = settled_first _ _ c.tree_refusal-refusal.ensures c.if-refusal-ne-ACCEPTED.true
+
+pub length_refusal-requires : goal.length_refusal-requires
+length_refusal-requires c = (c.tree_refusal-refusal.ensures.passed c.if-refusal-ne-ACCEPTED.false).0
+
+pub returns : goal.returns
+returns c = let t = c.tree_refusal-refusal.ensures in
+    let rest = settled-earlier _ _ tt c.seat_refusal-refusal.ensures c.length_refusal.ensures _ c.earlier.ensures in
+    settled_so (λ p. (record { game = p.0.0; long = p.1.1 }, p.0.1, p.1.0)) (settled-behind _ _ tt t c.if-refusal-ne-ACCEPTED.false rest)
