@@ -13,7 +13,7 @@ use borrow.Author.Tests.{eq-eqb, ne_eqb}
 use Rattle.game_tree.specs.Sums.{sumℕ}
 use Rattle.game_tree.specs.Tree.{Key, Tree, end, chance, decide, fan}
 use Rattle.game_tree.specs.Conditions.{Every}
-use Rattle.game_tree.specs.Sets.{size, preorder, Decision, decisions, is_of, met, firsts, entries_of, entries, first_entry}
+use Rattle.game_tree.specs.Sets.{size, preorder, Decision, decisions, is_of, met, firsts, entries_of, first_entry}
 use Rattle.game_tree.specs.Shape.{decision_of, decisions_of}
 use Rattle.game_tree.proofs.Sets.{preorder-length, decisions_of_append, decisions_of_nodes, clash, is_of_seat, is_of_key, is_of_self}
 use Rattle.game_tree.proofs.Counting.{In, in_left, in_right, in_met, every_in, in_every}

@@ -5,7 +5,7 @@ use mathlib.Core.List.{List}
 use Prim.Native.Nat.{ℕ, ◌+◌, ◌-◌, ◌%◌}
 use lib.ListN.{get_or, set}
 use borrow.Author.Tests.{eq-eqb, ne_eqb}
-use Rattle.prelude.specs.Finite.{◌&&◌}
+use Rattle.prelude.specs.Finite.{◌and◌}
 use Rattle.prelude.proofs.Tests.{both, and_left_fails, and_right_fails}
 use Rattle.arena.specs.internal.Words.{DECISION, kind_of, actions_of, set_of, PLACES}
 use Rattle.arena_index.specs.internal.Indexing.{is_new, Met, is_known, entry_of, relinked, pushed, linked}
@@ -48,7 +48,7 @@ module _ (nodes heads a : ℕ) (w : List ℕ) where
   linked-unknown h = linked_none (and_right_fails _ (ap not (eq-eqb (get_or w (nodes + set_of x) 0) 0 h)))
 
   pub linked-known : kind_of x ≡ DECISION → (get_or w (nodes + set_of x) 0 ≡ 0 → ⊥) → linked nodes heads a w ≡ pushed heads a x (entry_of w nodes x) w
-  unfolding linked is_known ◌&&◌
+  unfolding linked is_known ◌and◌
   linked-known k h = rw (eq-eqb (kind_of x) DECISION k, ne_eqb (get_or w (nodes + set_of x) 0) 0 h) refl
 
   -- the same, of a word y that is x, and the number known that is read at its code

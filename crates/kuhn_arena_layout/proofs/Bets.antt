@@ -10,7 +10,7 @@ use lib.Dec.{eqb, leb, ltb}
 use lib.ListN.{length, get_or, length-append}
 use lib.Seq.{take-append_seam, get_or_at}
 use borrow.Author.Tests.{eq-eqb, ne_eqb, eqb-true, eqb-false, ltb-true, ltb-false, leb-true, le-leb}
-use Rattle.prelude.specs.Finite.{◌&&◌, ◌||◌, some, sum}
+use Rattle.prelude.specs.Finite.{◌and◌, ◌or◌, some, sum}
 use Rattle.prelude.proofs.Tests.{Tested, holds, fails, tested, true≢false, both, and_left, and_right, and_right_fails, or_left, or_right, or_none, or_assoc, and_all, or_rest, or_cases, or_false_left, or_false_right, neither, none, every_at, all}
 use Rattle.prelude.proofs.Lists.{sum_same, sum_without}
 use Rattle.kuhn_rules.specs.Rules.{PASS, BET, turn, bet-made, after-bet, bets, stands, wins, contribution}
@@ -22,14 +22,14 @@ module _ (h : List ℕ) (a : ℕ) where
   pub longer : length (h ++ (a ∷ [])) ≡ suc (length h)
   longer = length-append h (a ∷ []) ∙ (let e : length h + 1 ≡ suc (length h) = omega arith in e)
 
-pub bet-made_more : (h : List ℕ) (a : ℕ) → bet-made (h ++ (a ∷ [])) ≡ (bet-made h || eqb a BET)
-unfolding bet-made ◌||◌
+pub bet-made_more : (h : List ℕ) (a : ℕ) → bet-made (h ++ (a ∷ [])) ≡ (bet-made h or eqb a BET)
+unfolding bet-made ◌or◌
 bet-made_more [] a = or_none (eqb a BET)
 bet-made_more (x ∷ h) a = rw (bet-made_more h a) (or_assoc (eqb x BET) (bet-made h) (eqb a BET))
 
 -- the actions after the first bet
 pub after-bet_more : (h : List ℕ) (a : ℕ) → bet-made h ≡ true → length (after-bet (h ++ (a ∷ []))) ≡ suc (length (after-bet h))
-unfolding bet-made after-bet ◌||◌
+unfolding bet-made after-bet ◌or◌
 after-bet_more [] a e = true≢false false e refl
 after-bet_more (x ∷ h) a e = at (after-bet_more h a) (tested (eqb x BET))
   where
@@ -38,7 +38,7 @@ after-bet_more (x ∷ h) a e = at (after-bet_more h a) (tested (eqb x BET))
     at r (fails t) = rw t (r (rw t at e))
 
 pub after-bet_first : (h : List ℕ) → bet-made h ≡ false → length (after-bet (h ++ (BET ∷ []))) ≡ 0
-unfolding bet-made after-bet ◌||◌
+unfolding bet-made after-bet ◌or◌
 after-bet_first [] e = refl
 after-bet_first (x ∷ h) e = at (after-bet_first h) (tested (eqb x BET))
   where
@@ -48,7 +48,7 @@ after-bet_first (x ∷ h) e = at (after-bet_first h) (tested (eqb x BET))
 
 -- ---- who has bet
 no_bet_at : (h : List ℕ) → bet-made h ≡ false → (i : ℕ) → eqb (get_or h i 0) BET ≡ false
-unfolding bet-made ◌||◌
+unfolding bet-made ◌or◌
 no_bet_at [] e i = refl
 no_bet_at (x ∷ h) e zero = or_false_left (eqb x BET) (bet-made h) e
 no_bet_at (x ∷ h) e (suc i) = no_bet_at h (or_false_right (eqb x BET) (bet-made h) e) i
@@ -56,26 +56,26 @@ no_bet_at (x ∷ h) e (suc i) = no_bet_at h (or_false_right (eqb x BET) (bet-mad
 module _ (n : ℕ) (h : List ℕ) where
   pub no_bets : bet-made h ≡ false → (p : ℕ) → bets n h p ≡ false
   unfolding bets
-  no_bets e p = none (length h) (λ i. eqb (i % n) p && eqb (get_or h i PASS) BET) (λ i l. and_right_fails (eqb (i % n) p) (no_bet_at h e i))
+  no_bets e p = none (length h) (λ i. eqb (i % n) p and eqb (get_or h i PASS) BET) (λ i l. and_right_fails (eqb (i % n) p) (no_bet_at h e i))
 
   -- the seat whose turn it was, if it bet
-  pub bets_more : (a p : ℕ) → bets n (h ++ (a ∷ [])) p ≡ (bets n h p || (eqb (turn n h) p && eqb a BET))
+  pub bets_more : (a p : ℕ) → bets n (h ++ (a ∷ [])) p ≡ (bets n h p or (eqb (turn n h) p and eqb a BET))
   unfolding bets some
   bets_more a p =
       ap (λ k. some k at_place) (longer h a)
-      ∙ ap₂ ◌||◌ (sym (bets-take n (length h) (h ++ (a ∷ [])) p (rw (longer h a) (omega arith))) ∙ ap (λ l. bets n l p) (take-append_seam h (a ∷ [])))
-      (ap (λ x. eqb (length h % n) p && eqb x BET) (get_or_at h a [] 0 (length h) refl))
+      ∙ ap₂ ◌or◌ (sym (bets-take n (length h) (h ++ (a ∷ [])) p (rw (longer h a) (omega arith))) ∙ ap (λ l. bets n l p) (take-append_seam h (a ∷ [])))
+      (ap (λ x. eqb (length h % n) p and eqb x BET) (get_or_at h a [] 0 (length h) refl))
     where
       at_place : ℕ → Bool
-      at_place i = eqb (i % n) p && eqb (get_or (h ++ (a ∷ [])) i PASS) BET
+      at_place i = eqb (i % n) p and eqb (get_or (h ++ (a ∷ [])) i PASS) BET
 
   pub bets_pass : (p : ℕ) → bets n (h ++ (PASS ∷ [])) p ≡ bets n h p
-  unfolding ◌||◌
-  bets_pass p = bets_more PASS p ∙ ap (◌||◌ (bets n h p)) (and_right_fails (eqb (turn n h) p) refl) ∙ or_none (bets n h p)
+  unfolding ◌or◌
+  bets_pass p = bets_more PASS p ∙ ap (◌or◌ (bets n h p)) (and_right_fails (eqb (turn n h) p) refl) ∙ or_none (bets n h p)
 
-  pub bets-bet : (p : ℕ) → bets n (h ++ (BET ∷ [])) p ≡ (bets n h p || eqb (turn n h) p)
-  unfolding ◌&&◌
-  bets-bet p = bets_more BET p ∙ ap (◌||◌ (bets n h p)) (and_all (eqb (turn n h) p))
+  pub bets-bet : (p : ℕ) → bets n (h ++ (BET ∷ [])) p ≡ (bets n h p or eqb (turn n h) p)
+  unfolding ◌and◌
+  bets-bet p = bets_more BET p ∙ ap (◌or◌ (bets n h p)) (and_all (eqb (turn n h) p))
 
 -- ---- what the seats have paid
 module _ (n : ℕ) (h : List ℕ) where
@@ -85,15 +85,15 @@ module _ (n : ℕ) (h : List ℕ) where
 
   -- a seat that has not bet pays once more
   pub contribution-bet : bets n h (turn n h) ≡ false → (i : ℕ) → contribution ante stake n (h ++ (BET ∷ [])) i ≡ contribution ante stake n h i + cond (eqb i (turn n h)) 1 0
-  unfolding contribution ◌||◌
+  unfolding contribution ◌or◌
   contribution-bet e i = ap (λ b. 1 + cond b 1 0) (bets-bet n h i) ∙ at (tested (eqb (turn n h) i))
     where
-      at : Tested (eqb (turn n h) i) → 1 + cond (bets n h i || eqb (turn n h) i) 1 0 ≡ 1 + cond (bets n h i) 1 0 + cond (eqb i (turn n h)) 1 0
+      at : Tested (eqb (turn n h) i) → 1 + cond (bets n h i or eqb (turn n h) i) 1 0 ≡ 1 + cond (bets n h i) 1 0 + cond (eqb i (turn n h)) 1 0
       at (holds t) = let q : turn n h ≡ i = eqb-true (turn n h) i t in
           rw (t, eq-eqb i (turn n h) (sym q), sym (ap (bets n h) q) ∙ e) refl
       at (fails t) = rw (t, ne_eqb i (turn n h) (λ q. eqb-false (turn n h) i t (sym q))) (same (bets n h i))
         where
-          same : (b : Bool) → 1 + cond (b || false) 1 0 ≡ 1 + cond b 1 0 + 0
+          same : (b : Bool) → 1 + cond (b or false) 1 0 ≡ 1 + cond b 1 0 + 0
           same true = refl
           same false = refl
 
@@ -142,9 +142,9 @@ sum_most (suc n) k f e = omega (arith, sum_most n k f e, e n, NatL.suc-mul n k)
 module _ (n : ℕ) (cs h : List ℕ) where
   pub wins_by : (p : ℕ) → stands n h p ≡ true → ((q : ℕ) → q < n → stands n h q ≡ true → get_or cs q 0 ≤ get_or cs p 0) → wins n cs h p ≡ true
   unfolding wins
-  wins_by p s f = both s (all n (λ q. not (stands n h q) || leb (get_or cs q 0) (get_or cs p 0)) (λ q l. at q l (tested (stands n h q))))
+  wins_by p s f = both s (all n (λ q. not (stands n h q) or leb (get_or cs q 0) (get_or cs p 0)) (λ q l. at q l (tested (stands n h q))))
     where
-      at : (q : ℕ) → q < n → Tested (stands n h q) → (not (stands n h q) || leb (get_or cs q 0) (get_or cs p 0)) ≡ true
+      at : (q : ℕ) → q < n → Tested (stands n h q) → (not (stands n h q) or leb (get_or cs q 0) (get_or cs p 0)) ≡ true
       at q l (holds t) = or_right (not (stands n h q)) (le-leb (get_or cs q 0) (get_or cs p 0) (f q l t))
       at q l (fails t) = or_left (leb (get_or cs q 0) (get_or cs p 0)) (ap not t)
 
@@ -154,7 +154,7 @@ module _ (n : ℕ) (cs h : List ℕ) where
 
   pub winner-beats : (p : ℕ) → wins n cs h p ≡ true → (q : ℕ) → q < n → stands n h q ≡ true → get_or cs q 0 ≤ get_or cs p 0
   unfolding wins
-  winner-beats p e q l s = or_cases (not (stands n h q)) (leb (get_or cs q 0) (get_or cs p 0)) (every_at n (λ q. not (stands n h q) || leb (get_or cs q 0) (get_or cs p 0)) (and_right (stands n h p) _ e) q l)
+  winner-beats p e q l s = or_cases (not (stands n h q)) (leb (get_or cs q 0) (get_or cs p 0)) (every_at n (λ q. not (stands n h q) or leb (get_or cs q 0) (get_or cs p 0)) (and_right (stands n h p) _ e) q l)
       (λ z. true≢false (not (stands n h q)) z (ap not s)) (λ z. leb-true (get_or cs q 0) (get_or cs p 0) z)
 
   -- with no bet all stand
@@ -175,7 +175,7 @@ module _ (n : ℕ) (h : List ℕ) where
   stands_pass : bet-made h ≡ true → (q : ℕ) → stands n (h ++ (PASS ∷ [])) q ≡ stands n h q
   stands_pass e q = stands-bet n (h ++ (PASS ∷ [])) q (sym (ap not (opened_more PASS e))) ∙ bets_pass n h q ∙ sym (stands-bet n h q (sym (ap not e)))
 
-  stands_more : (q : ℕ) → stands n (h ++ (BET ∷ [])) q ≡ (bets n h q || eqb (turn n h) q)
+  stands_more : (q : ℕ) → stands n (h ++ (BET ∷ [])) q ≡ (bets n h q or eqb (turn n h) q)
   stands_more q = stands-bet n (h ++ (BET ∷ [])) q (sym (ap not opened-bet)) ∙ bets-bet n h q
 
   module _ (cs : List ℕ) where

@@ -8,7 +8,7 @@ use native.Mathlib.Omega.{arith}
 use lib.Dec.{leb}
 use lib.ListN.{length, set}
 use borrow.Author.Tests.{le-leb, lt-ltb}
-use Rattle.prelude.specs.Finite.{◌&&◌, those, has}
+use Rattle.prelude.specs.Finite.{◌and◌, those, has}
 use Rattle.prelude.proofs.Lists.{those_kept, those_passed}
 use Rattle.prelude.proofs.Tests.{Tested, holds, fails, tested, both}
 use Rattle.game_tree.specs.Tree.{Tree, chance, Trees, nil, cons}
@@ -75,15 +75,15 @@ module _ (n x d k : ℕ) (p : Dealing n x d (k + 1)) where
   })
 
   pub child_none : (c : ℕ) → has c (cards_in d x) ≡ true → child_at n x d k c ≡ nil
-  unfolding child_at left ◌&&◌
+  unfolding child_at left ◌and◌
   child_none c e = rw e (at (leb c n))
     where
-      at : (b : Bool) → cond (b && not true) (cons (deals ante stake n k (cards_in d x ++ (c ∷ []))) nil) nil ≡ nil
+      at : (b : Bool) → cond (b and not true) (cons (deals ante stake n k (cards_in d x ++ (c ∷ []))) nil) nil ≡ nil
       at true = refl
       at false = refl
 
   pub child_some : (c y : ℕ) → c ≤ n → has c (cards_in d x) ≡ false → y ≡ x + c * 2 ^ (4 * d) → child_at n x d k c ≡ cons (deal_at n y (d + 1) k) nil
-  unfolding child_at left deal_at ◌&&◌
+  unfolding child_at left deal_at ◌and◌
   child_some c y l e q = rw (e, le-leb c n l, q) (ap (λ cs. cons (deals ante stake n k cs) nil) (sym (cards_more d x c p.small (omega (arith, p.most)))))
 
 pub room_one : (at : ℕ) (w : List ℕ) (f : Trees) (t : Tree) → f ≡ cons t nil → Room at w (sizes f) → Room at w (size t)

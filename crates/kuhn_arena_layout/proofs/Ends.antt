@@ -7,7 +7,7 @@ use Prim.Native.Nat.{ℕ, zero, suc, ◌+◌, ◌*◌, ◌-◌, ◌%◌, ◌^◌
 use native.Mathlib.Nat as NatL
 use native.Mathlib.Omega.{arith}
 use lib.Dec.{eqb}
-use lib.IntN.{pos, neg_ℤ, ◌+ℤ◌, ◌-ℤ◌, +ℤ-neg_ℤ_cancel, pos-+ℤ-pos}
+use lib.IntN.{pos, neg_ℤ, ◌-ℤ◌, +ℤ-neg_ℤ_cancel, pos-+ℤ-pos}
 use borrow.Author.Tests.{eqb-true}
 use Rattle.prelude.specs.Finite.{sum}
 use Rattle.prelude.proofs.Tests.{Tested, holds, fails, tested}

@@ -8,7 +8,7 @@ use lib.IntN.{ℤ, pos, negsuc}
 use mathlib.Core.List.{List, [], ◌∷◌, ◌++◌}
 use lib.ListN.{length, get_or}
 use borrow.Author.Tests.{eqb-true}
-use Rattle.prelude.specs.Finite.{◌&&◌, ◌||◌, some, those, has}
+use Rattle.prelude.specs.Finite.{◌and◌, ◌or◌, some, those, has}
 use Rattle.prelude.proofs.Tests.{true≢false, and_left, and_right}
 use Rattle.game_tree.specs.Tree.{Key, Tree, end, chance, decide, Trees, nil, cons, fan}
 use Rattle.game_tree.specs.Conditions.{Every, EveryAll}
@@ -61,7 +61,7 @@ key_of x =
 -- code x is small and tells key k, the key tells seat j, and there is an action
 unfoldable pub told : (x j : ℕ) → Key → ℕ → Bool
 unfolding key_of
-told x j k n = ltb x codes && (same (key_of x) k && (eqb j (get_or k 0 0) && leb 1 n))
+told x j k n = ltb x codes and (same (key_of x) k and (eqb j (get_or k 0 0) and leb 1 n))
 
 -- a decision's code does
 abbrev pub Told : ℕ → Key → ℕ → Type 0
@@ -72,7 +72,7 @@ unfoldable mutual
   unfolding equal told fan
 
   agrees : Tree → Tree → Bool
-  agrees (end p) (end q) = equal (p 0) (q 0) && equal (p 1) (q 1)
+  agrees (end p) (end q) = equal (p 0) (q 0) and equal (p 1) (q 1)
   agrees (end p) (chance g) = false
   agrees (end p) (decide i l g) = false
   agrees (chance f) (end q) = false
@@ -80,16 +80,16 @@ unfoldable mutual
   agrees (chance f) (decide i l g) = false
   agrees (decide j k f) (end q) = false
   agrees (decide j k f) (chance g) = false
-  agrees (decide j k f) (decide i l g) = eqb j i && (eqb (code_of j k) (plain i l) && (told (plain i l) j k (fan f) && agrees_all f g))
+  agrees (decide j k f) (decide i l g) = eqb j i and (eqb (code_of j k) (plain i l) and (told (plain i l) j k (fan f) and agrees_all f g))
 
   agrees_all : Trees → Trees → Bool
   agrees_all nil nil = true
   agrees_all nil (cons u g) = false
   agrees_all (cons t f) nil = false
-  agrees_all (cons t f) (cons u g) = agrees t u && agrees_all f g
+  agrees_all (cons t f) (cons u g) = agrees t u and agrees_all f g
 
 all_agree : agrees (tree_of_leduc ante raise₁ raise₂) deals_tree ≡ true
-unfolding agrees equal told same key_of history_of fan code_of code_from number_from tree_of_leduc below next each ◌&&◌ ◌||◌ some those has ends_with folded
+unfolding agrees equal told same key_of history_of fan code_of code_from number_from tree_of_leduc below next each ◌and◌ ◌or◌ some those has ends_with folded
     closes behind raises may options in_play turn ended left remaining public-due due key after-action put_in contribution folds pairs beats wins
     payoff byte_for end_tree raised_tree called_tree round_tree only row_to join showdown_for second_tree public_tree first_tree deal_tree
 all_agree = refl

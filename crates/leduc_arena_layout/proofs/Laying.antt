@@ -15,7 +15,7 @@ use Rattle.game_tree.specs.Sets.{size, sizes}
 use Rattle.arena.specs.internal.Words.{byte_of, chance_word, decision_word, PLACES}
 use Rattle.arena.specs.internal.Held.{Says}
 use Rattle.arena.specs.internal.Built.{Built, Row, Room}
-use Rattle.arena.proofs.Packing.{kind_of_lem, actor_of_lem, actions_of_lem, set_of_lem, next_of_lem, later_of, chance_kind, chance_next}
+use Rattle.arena.proofs.Packing.{kind_of_lem, actor_of_lem, actions_of_lem, set_of_lem, next_of_lem, later_of_lem, chance_kind, chance_next}
 use Rattle.arena.proofs.Building.{sizes-join, snoc, row_none, row_one, row_more, row-join, built_chance, built_decide, built_end}
 use Rattle.leduc_arena_layout.specs.internal.Layout.{plain, byte_for, end_tree, raised_tree, only, row_to, first_tree, deal_tree, Chosen}
 
@@ -71,7 +71,7 @@ module _ {at z : ℕ} {w : List ℕ} (g : Room at w z) where
           actions_of_lem j n k r 0 a m d behind-few o ∙ sym q,
           set_of_lem j n k r 0 a m d behind-few o,
           next_of_lem j n k r 0 a m d behind-few o ∙ behind,
-          later_of j n k r 0 a m d behind-few o,
+          later_of_lem j n k r 0 a m d behind-few o,
         )
 
 -- ---- a decision with two or three children, one after the other
