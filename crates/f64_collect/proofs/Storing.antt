@@ -1,6 +1,6 @@
 -- What a walk stores, node by node. Assumes nothing.
 use mathlib.Core.Path.{◌≡◌, refl, sym, ap, ◌∙◌, subst}
-use mathlib.Core.Logic.{◌⊎◌, inl, inr}
+use mathlib.Core.Logic.{inl}
 use mathlib.Core.List.{List}
 use Prim.Native.Nat.{ℕ, suc, ◌+◌, ◌-◌, ◌≤◌, ◌<◌}
 use native.Mathlib.Omega.{arith}
@@ -15,7 +15,7 @@ use Rattle.game_tree.specs.Conditions.{Every}
 use Rattle.game_tree.specs.Sets.{size, sizes, first_entry}
 use Rattle.game_tree_f64.specs.Values.{Profile, profile_of, times, weight, passed}
 use Rattle.arena.specs.internal.Words.{END, CHANCE, kind_of, actor_of, actions_of, set_of, next_of}
-use Rattle.arena.specs.internal.Held.{Says, Held, HeldAll}
+use Rattle.arena.specs.internal.Held.{Says, Held}
 use Rattle.arena.specs.internal.Walk.{Behind, Fan}
 use Rattle.arena.specs.internal.Index.{Kept, Alike}
 use Rattle.arena.specs.internal.Legible.{Legible, LegibleAll}

@@ -1,5 +1,4 @@
 -- The facts of specs/Facts.antt: both games' sets have equal actions and heights. Assumes nothing.
-use mathlib.Core.Path.{◌≡◌}
 use Rattle.game_tree_f64.specs.Values.{profile_of}
 use Rattle.game_tree_f64.proofs.Deciding.{best-decides, decides-alike}
 use Rattle.games.specs.Games.{tree_of}

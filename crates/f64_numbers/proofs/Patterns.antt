@@ -1,10 +1,10 @@
 -- Patterns and NaN; whole numbers that a float holds. Assumes nothing.
 use mathlib.Core.Path.{◌≡◌, refl, sym, ap, ◌∙◌, subst}
-use mathlib.Core.Bool.{Bool, true, false, not}
-use Prim.Native.Nat.{ℕ, ◌+◌, ◌*◌, ◌%◌, ◌<◌, ◌≤◌}
+use mathlib.Core.Bool.{true, false, not}
+use Prim.Native.Nat.{ℕ, ◌%◌, ◌<◌, ◌≤◌}
 use native.Mathlib.Nat as NatL
 use native.Mathlib.Omega.{arith}
-use lib.Dec.{T, ltb}
+use lib.Dec.{T}
 use borrow.Author.Tests.{lt-ltb, le-ltb}
 use mir.Syntax.{w64}
 use mir.Val.{to_z, of_z}
@@ -12,7 +12,7 @@ use lib.IntN.{pos, ◌-ℤ◌}
 use lib.Ieee.{Float, nan, inf, fin, binary64, is_nan, nan_bits, to_bits, of_bits, ne, div, in_float}
 use lib.Ieee.Compare.{differs_from_itself, nan_differs}
 use lib.Ieee.Bits.{nan_bits_is, nan_bits_above}
-use Rattle.prelude.specs.Finite.{◌&&◌, every}
+use Rattle.prelude.specs.Finite.{◌and◌, every}
 use Rattle.prelude.proofs.Tests.{every_at}
 use Rattle.prelude.proofs.Amounts.{amount}
 use Rattle.arena.specs.internal.Words.{byte_of, payoff_of}
@@ -49,7 +49,7 @@ zero_over_zero = refl
 -- ---- payoffs
 -- a payoff in a word is a whole number that a float holds
 held-payoffs : every 128 (λ b. in_float binary64 (pos b -ℤ pos 64)) ≡ true
-unfolding every ◌&&◌ in_float
+unfolding every ◌and◌ in_float
 held-payoffs = refl
 
 pub payoff-held : (x i : ℕ) → T (in_float binary64 (payoff_of x i))

@@ -1,5 +1,5 @@
 -- What is read of a tree, of its children and of a row. Assumes nothing.
-use Rattle.std.proofs.Common.{◌≡◌, ℕ, ◌+◌, ◌-◌, ◌<◌, ◌≤◌, List, subst, arith}
+use Rattle.std.proofs.Common.{◌≡◌, ℕ, ◌+◌, ◌-◌, ◌<◌, List, subst, arith}
 use native.Mathlib.Nat as NatL
 use Rattle.game_tree.specs.Tree.{Key, Tree, chance, decide, Trees, cons}
 use Rattle.game_tree.specs.Conditions.{Every}

@@ -15,10 +15,10 @@ use Rattle.game_tree.specs.Sets.{size, sizes, first_entry}
 use Rattle.game_tree.specs.Table.{strategy_of}
 use Rattle.game_tree.specs.Reply.{share}
 use Rattle.arena.specs.internal.Words.{END, CHANCE, kind_of, actor_of, actions_of, set_of, next_of}
-use Rattle.arena.specs.internal.Held.{Says, Held, HeldAll}
+use Rattle.arena.specs.internal.Held.{Says, Held}
 use Rattle.arena.specs.internal.Walk.{Behind, Fan}
 use Rattle.arena.specs.internal.Index.{Kept, Alike}
-use Rattle.arena.proofs.Building.{size_some, held_same, held_same_all, kept_none, kept_join, kept_set}
+use Rattle.arena.proofs.Building.{size_some, kept_none, kept_join, kept_set}
 use Rattle.units.specs.internal.Readable.{Readable, ReadableAll, UNITS}
 use Rattle.units.specs.internal.Gain.{given, Stocked, StockedAll}
 use Rattle.arena.proofs.Reading.{deep_some}

@@ -1,0 +1,42 @@
+-- Value and choice, which call each other: the remaining depth falls. Assumes nothing.
+use Rattle.std.proofs.Common.{◌≡◌, ◌+◌, ◌-◌, ◌*◌, ◌<◌, ◌≤◌, length}
+use Rattle.arena.specs.internal.Words.{PLACES}
+use Rattle.units_values.proofs.Valuing as valuing
+use Rattle.units_values.proofs.Choosing as choosing
+use Rattle.units_values.proofs.values.+below_choose_own_row_total_value.Given as goal
+
+abbrev pub decreases-below : goal.decreases-below
+decreases-below l = 5 * l.depth + 1
+
+abbrev pub decreases-choose : goal.decreases-choose
+decreases-choose l = 5 * l.depth + 3
+
+abbrev pub decreases-own : goal.decreases-own
+decreases-own l = 5 * l.depth + 4
+
+abbrev pub decreases-row : goal.decreases-row
+decreases-row l = 5 * l.depth + 2
+
+abbrev pub decreases-total : goal.decreases-total
+decreases-total l = 5 * l.depth + 2
+
+abbrev pub decreases-value : goal.decreases-value
+decreases-value l = 5 * l.depth
+
+abbrev pub invariant-choose-loop-action : goal.invariant-choose-loop-action
+invariant-choose-loop-action l = choosing.Led l.seat l.depth l.heads l.units l.kept l.first l.count l.initial.w l.w l.top.action l.top.sum l.action × (l.top.action ≤ l.action - 1) × (l.action ≤ l.count) × (length l.w ≡ length l.initial.w)
+
+abbrev pub decreases-choose-loop-action : goal.decreases-choose-loop-action
+decreases-choose-loop-action l = l.count - l.action
+
+abbrev pub invariant-row-loop-at : goal.invariant-row-loop-at
+invariant-row-loop-at l = valuing.Along l.seat l.depth l.heads l.units l.kept l.a l.end l.initial.w l.w l.at l.sum × (l.at + l.depth < 8388608) × (length l.w ≡ length l.initial.w)
+
+abbrev pub decreases-row-loop-at : goal.decreases-row-loop-at
+decreases-row-loop-at l = l.end - l.at
+
+abbrev pub invariant-total-loop-at : goal.invariant-total-loop-at
+invariant-total-loop-at l = choosing.Summed l.seat l.depth l.heads l.units l.kept l.first l.action l.initial.w l.w l.at l.sum × (l.at < PLACES) × (length l.w ≡ length l.initial.w)
+
+abbrev pub decreases-total-loop-at : goal.decreases-total-loop-at
+decreases-total-loop-at l = PLACES - l.at
