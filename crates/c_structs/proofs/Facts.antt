@@ -1,10 +1,10 @@
 -- The facts of specs/Facts.antt, proved. Assumes nothing.
 use mathlib.Core.Path.{◌≡◌, refl, sym, ap}
 use mathlib.Core.Bool.{Bool, true, false}
-use Prim.Native.Nat.{ℕ, zero, suc}
+use Prim.Native.Nat.{zero, suc}
 use lib.Dec.{eqb}
 use borrow.Author.Tests.{eqb-true, ne_eqb}
-use Rattle.c_structs.specs.Leduc.{card_unless, byte_of, public_of}
+use Rattle.c_structs.specs.Leduc.{card_unless, byte_of}
 use Rattle.c_structs.specs.Facts.{ByteBack, HiddenBack, CardBack, Card255Lost, KuhnBack, LeducBack, KuhnRefusedBack, LeducRefusedBack}
 
 pub byte_back : ByteBack

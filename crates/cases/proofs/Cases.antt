@@ -1,6 +1,6 @@
 -- The definitions give what document 01 says, in all its cases at once: by computing. Assumes nothing.
 use mathlib.Core.Path.{refl}
-use Rattle.prelude.specs.Finite.{◌&&◌, ◌||◌, some, every, sum, has, places, those}
+use Rattle.prelude.specs.Finite.{◌and◌, ◌or◌, some, every, sum, has, places, those}
 use Rattle.kuhn_rules.specs.Rules.{bet-made, after-bet, ended, overrun, bets, stands, contribution, wins, paid_by_others, payoff}
 use Rattle.kuhn_rules.specs.Reached.{strange, twice, unknown, fair, played, possible}
 use Rattle.kuhn_rules.specs.Stakes.{payoffs_of}
@@ -23,7 +23,7 @@ use Rattle.units_worths.specs.Worths as Whole
 use Rattle.cases.specs.Cases.{Agree, cases}
 
 pub cases_agree : Agree cases
-unfolding ◌&&◌ ◌||◌ some every sum has places bet-made after-bet ended overrun bets stands contribution wins paid_by_others payoff strange twice unknown
+unfolding ◌and◌ ◌or◌ some every sum has places bet-made after-bet ended overrun bets stands contribution wins paid_by_others payoff strange twice unknown
     fair played possible reachable payoff-refusal payoffs_of saved_refusal those LeducBetting.ends_with LeducBetting.folded LeducBetting.closes
     LeducBetting.open_round LeducBetting.behind LeducBetting.raises LeducBetting.may LeducBetting.options LeducBetting.in_play LeducBetting.turn
     LeducBetting.ended LeducRules.public-due LeducRules.due LeducRules.live LeducRules.legal LeducRules.key LeducRules.after-action LeducRules.put_in

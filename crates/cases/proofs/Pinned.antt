@@ -5,7 +5,7 @@ use lib.Ieee as Ieee
 use Prim.Native.Nat.{ℕ, zero, suc, ◌*◌, ◌≤◌}
 use native.Mathlib.Omega.{arith}
 use borrow.Author.Tests.{lt-ltb, le-ltb}
-use Rattle.prelude.specs.Finite.{◌&&◌, ◌||◌, some, every, sum, has, places, those}
+use Rattle.prelude.specs.Finite.{◌and◌, ◌or◌, some, every, sum, has, places, those}
 use Rattle.kuhn_rules.specs.Rules as KuhnRules
 use Rattle.kuhn_rules.specs.Reached as KuhnReached
 use Rattle.kuhn_positions.specs.Positions as KuhnPositions
@@ -32,14 +32,14 @@ use Rattle.cases.specs.Cases.{Agree}
 use Rattle.cases.specs.Pinned.{payments, refusals, GameTwo, SevenSeats, SmallEnough, MostParts, TreesEvaluated, KuhnMoves, LeducMoves, UniformBits}
 
 pub payments_agree : Agree payments
-unfolding ◌&&◌ ◌||◌ some every has those LeducBetting.ends_with LeducBetting.folded LeducBetting.closes LeducBetting.open_round LeducBetting.behind
+unfolding ◌and◌ ◌or◌ some every has those LeducBetting.ends_with LeducBetting.folded LeducBetting.closes LeducBetting.open_round LeducBetting.behind
     LeducBetting.raises LeducBetting.may LeducBetting.options LeducBetting.in_play LeducBetting.turn LeducBetting.ended LeducBetting.played LeducRules.public-due
     LeducRules.due LeducRules.live LeducRules.after-action LeducRules.put_in LeducRules.contribution LeducRules.folds LeducRules.pairs LeducRules.beats
     LeducRules.wins LeducRules.payoff LeducCards.strange LeducCards.twice LeducReached.possible LeducPositions.reachable LeducCalls.payoff-refusal
 payments_agree = refl
 
 pub refusals_agree : Agree refusals
-unfolding ◌&&◌ ◌||◌ some every has places those KuhnRules.bet-made KuhnRules.after-bet KuhnRules.ended KuhnRules.overrun KuhnRules.left KuhnRules.remaining
+unfolding ◌and◌ ◌or◌ some every has places those KuhnRules.bet-made KuhnRules.after-bet KuhnRules.ended KuhnRules.overrun KuhnRules.left KuhnRules.remaining
     KuhnRules.legal KuhnReached.strange KuhnReached.twice KuhnReached.unknown KuhnReached.fair KuhnReached.played KuhnReached.possible
     KuhnPositions.reachable KuhnCalls.payoff-refusal KuhnCalls.saved_refusal KuhnTree.next KuhnTree.each KuhnTree.below KuhnTree.tree_of_kuhn Sums.sumℕ
     Sets.size Sets.sets Sets.entries_of Table.add_up Games.tree_of LeducBetting.ends_with LeducBetting.folded LeducBetting.closes LeducBetting.open_round
@@ -50,12 +50,12 @@ unfolding ◌&&◌ ◌||◌ some every has places those KuhnRules.bet-made KuhnR
 refusals_agree = refl
 
 pub kuhn-moves : KuhnMoves
-unfolding ◌&&◌ ◌||◌ some every has those KuhnRules.bet-made KuhnRules.after-bet KuhnRules.ended KuhnRules.overrun KuhnRules.left KuhnRules.remaining KuhnReached.strange
+unfolding ◌and◌ ◌or◌ some every has those KuhnRules.bet-made KuhnRules.after-bet KuhnRules.ended KuhnRules.overrun KuhnRules.left KuhnRules.remaining KuhnReached.strange
     KuhnReached.twice KuhnReached.unknown KuhnReached.fair KuhnReached.played KuhnReached.possible KuhnPositions.reachable KuhnCalls.deal-refusal KuhnCalls.step_refusal
 kuhn-moves = (refl, refl)
 
 pub leduc-moves : LeducMoves
-unfolding ◌&&◌ ◌||◌ some every has those LeducBetting.ends_with LeducBetting.folded LeducBetting.closes LeducBetting.open_round LeducBetting.behind
+unfolding ◌and◌ ◌or◌ some every has those LeducBetting.ends_with LeducBetting.folded LeducBetting.closes LeducBetting.open_round LeducBetting.behind
     LeducBetting.raises LeducBetting.may LeducBetting.options LeducBetting.in_play LeducBetting.turn LeducBetting.ended LeducBetting.played LeducRules.public-due
     LeducRules.due LeducRules.live LeducCards.left LeducCards.remaining LeducCards.strange LeducCards.twice LeducReached.possible LeducPositions.reachable
     LeducCalls.deal-refusal LeducCalls.step_refusal LeducBetting.counted
@@ -66,7 +66,7 @@ pub game_two : GameTwo
 game_two memory D table = refl
 
 pub seven_seats : SevenSeats
-unfolding ◌||◌ Games.tree_of
+unfolding ◌or◌ Games.tree_of
 seven_seats memory D table = rw (lt-ltb 4000000 _ (too_large 1 1).1)
 
 few-nodes : (n : ℕ) → 2 ≤ n → n ≤ 6 → kuhn_nodes n ≤ 4000000
@@ -81,7 +81,7 @@ few-nodes (suc (suc (suc (suc (suc (suc zero)))))) l m = omega arith
 few-nodes (suc (suc (suc (suc (suc (suc (suc n))))))) l m = absurd (omega (arith, m))
 
 kuhn-seats : (n : ℕ) → 2 ≤ n → n ≤ 6 → seats-out (Games.game_of 0 n) ≡ false
-unfolding ◌||◌
+unfolding ◌or◌
 kuhn-seats n l m = rw (le-ltb n 2 l, le-ltb 10 n (omega (arith, m)))
 
 pub small-enough : SmallEnough
@@ -104,7 +104,7 @@ trees_evaluated = ((λ n. refl), refl)
 
 -- ---- bits
 pub uniform_bits : UniformBits
-unfolding ◌&&◌ ◌||◌ some every has those sum KuhnRules.bet-made KuhnRules.after-bet KuhnRules.ended KuhnRules.left KuhnRules.remaining KuhnRules.legal KuhnRules.bets
+unfolding ◌and◌ ◌or◌ some every has those sum KuhnRules.bet-made KuhnRules.after-bet KuhnRules.ended KuhnRules.left KuhnRules.remaining KuhnRules.legal KuhnRules.bets
     KuhnRules.stands KuhnRules.contribution KuhnRules.wins KuhnRules.paid_by_others KuhnRules.payoff KuhnTree.next KuhnTree.each KuhnTree.below
     KuhnTree.tree_of_kuhn Games.tree_of Sums.sumℕ Sets.sets Sets.entries_of Sets.before Values.edge Values.value Values.lead Values.actions Values.found
     Values.summed Values.set_sum Values.decided Values.best Values.best_value Values.worth Values.profile_of GameValues.best_of GameValues.worth_of GameValues.gaps

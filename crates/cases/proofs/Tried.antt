@@ -7,7 +7,7 @@ use lib.IntN.{pos, neg_ℤ}
 use lib.ListN.{length}
 use lib.Signed.{◌≤ℤ◌}
 use Rattle.prelude.specs.Finite as Finite
-use Rattle.prelude.specs.Finite.{◌&&◌, ◌||◌, some, every, those, has}
+use Rattle.prelude.specs.Finite.{◌and◌, ◌or◌, some, every, those, has}
 use Rattle.game_tree.specs.Sums.{◌·◌, sum, sumℕ}
 use Rattle.game_tree.specs.Tree.{Tree}
 use Rattle.game_tree.specs.Reply.{reply_tree, best, value, with_key, highest, pure}
@@ -43,20 +43,20 @@ best-reply g D i table a l = reply-best g D i table a.game.known a.game.seats l 
 -- ---- Kuhn 2, always PASS
 
 passes-valid : (length passes ≡ entries (tree_of kuhn2_tables)) × (add_up 1 (set_actions (tree_of kuhn2_tables)) passes ≡ true)
-unfolding add_up sets entries_of sumℕ tree_of Kuhn.tree_of_kuhn Kuhn.below Kuhn.next Kuhn.each ◌&&◌ ◌||◌ some every those has bet-made after-bet ended left remaining legal
+unfolding add_up sets entries_of sumℕ tree_of Kuhn.tree_of_kuhn Kuhn.below Kuhn.next Kuhn.each ◌and◌ ◌or◌ some every those has bet-made after-bet ended left remaining legal
 passes-valid = (refl, refl)
 
 passes-accepted : AcceptedTable kuhn2_tables 1 passes
-unfolding ◌||◌ deal_nodes
+unfolding ◌or◌ deal_nodes
 passes-accepted = record { game = record { known = omega arith; seats = refl; small = omega arith }; least = omega arith; most = omega arith; valid = passes-valid }
 
 best-six : table_best (tree_of kuhn2_tables) 1 (root_units kuhn2_tables 1) passes 0 ≡ pos 6
-unfolding table_best best sum with_key value highest ◌·◌ sets sumℕ before entries_of tree_of Kuhn.C Kuhn.tree_of_kuhn Kuhn.below Kuhn.next Kuhn.each ◌&&◌ ◌||◌
+unfolding table_best best sum with_key value highest ◌·◌ sets sumℕ before entries_of tree_of Kuhn.C Kuhn.tree_of_kuhn Kuhn.below Kuhn.next Kuhn.each ◌and◌ ◌or◌
     some those has bet-made after-bet ended left remaining legal every Finite.sum bets stands contribution wins paid_by_others payoff
 best-six = refl
 
 reply-bluffs : reply_table (tree_of kuhn2_tables) 1 (root_units kuhn2_tables 1) passes 0 ≡ bluffs
-unfolding reply_table best sum with_key value highest ◌·◌ sets sumℕ before entries_of tree_of Kuhn.C Kuhn.tree_of_kuhn Kuhn.below Kuhn.next Kuhn.each ◌&&◌ ◌||◌
+unfolding reply_table best sum with_key value highest ◌·◌ sets sumℕ before entries_of tree_of Kuhn.C Kuhn.tree_of_kuhn Kuhn.below Kuhn.next Kuhn.each ◌and◌ ◌or◌
     some those has bet-made after-bet ended left remaining legal every Finite.sum bets stands contribution wins paid_by_others payoff
 reply-bluffs = refl
 
@@ -70,13 +70,13 @@ kuhn_tried = (
 -- ---- Leduc, always CALL
 
 calls-length : length calls ≡ 2184
-unfolding calls calls_at first_turns first_ones is_first turns joined Leduc.next ◌&&◌ ◌||◌ some those has Betting.ends_with Betting.folded Betting.closes
+unfolding calls calls_at first_turns first_ones is_first turns joined Leduc.next ◌and◌ ◌or◌ some those has Betting.ends_with Betting.folded Betting.closes
     Betting.behind Betting.raises Betting.may Betting.options Betting.in_play Betting.turn Betting.ended Cards.left Cards.remaining Rules.public-due
     Rules.due
 calls-length = refl
 
 calls-add_up : add_up 1 actions_in_order calls ≡ true
-unfolding add_up actions_in_order calls calls_at first_turns first_ones is_first turns joined Leduc.next ◌&&◌ ◌||◌ some those has Betting.ends_with
+unfolding add_up actions_in_order calls calls_at first_turns first_ones is_first turns joined Leduc.next ◌and◌ ◌or◌ some those has Betting.ends_with
     Betting.folded Betting.closes Betting.behind Betting.raises Betting.may Betting.options Betting.in_play Betting.turn Betting.ended Cards.left
     Cards.remaining Rules.public-due Rules.due
 calls-add_up = refl
@@ -103,7 +103,7 @@ two = tree_of kuhn2_tables
 
 added_up : (length mixes ≡ entries two) × (add_up_by (all_but 0 10 1) (sets two) mixes ≡ true) × (keeps_in 0 (seats_of (sets two)) passes mixes ≡ true)
     × (length settled ≡ entries two) × (add_up 3 (set_actions two) settled ≡ true)
-unfolding add_up_by add_up keeps_in seats_of sets entries_of sumℕ tree_of Kuhn.tree_of_kuhn Kuhn.below Kuhn.next Kuhn.each ◌&&◌ ◌||◌ some every those has bet-made
+unfolding add_up_by add_up keeps_in seats_of sets entries_of sumℕ tree_of Kuhn.tree_of_kuhn Kuhn.below Kuhn.next Kuhn.each ◌and◌ ◌or◌ some every those has bet-made
     after-bet ended left remaining legal
 added_up = (refl, refl, refl, refl, refl)
 
@@ -112,7 +112,7 @@ numbers : (finer 1 10 mixes 0 ≡ pos 3000) × (finer 1 1 bluffs 0 ≡ pos 6) ×
     × (finer_reply two 3 (root_units kuhn2_tables 3) 10 settled 0 ≡ tens) × (table_best two 3 (root_units kuhn2_tables 3) settled 0 ≡ neg_ℤ (pos 9))
     × (nash_conv_over two 3 (root_units kuhn2_tables 3) settled 2 ≡ pos 0)
 unfolding finer_worth table_worth table_best nash_conv_over strategy_of laid_out reply_tree pure best sum with_key value highest ◌·◌ sets sumℕ before entries_of
-    tree_of Kuhn.C Kuhn.tree_of_kuhn Kuhn.below Kuhn.next Kuhn.each ◌&&◌ ◌||◌ some those has bet-made after-bet ended left remaining legal every Finite.sum
+    tree_of Kuhn.C Kuhn.tree_of_kuhn Kuhn.below Kuhn.next Kuhn.each ◌and◌ ◌or◌ some those has bet-made after-bet ended left remaining legal every Finite.sum
     bets stands contribution wins paid_by_others payoff
 numbers = (refl, refl, refl, refl, refl, refl, refl, refl)
 
@@ -123,7 +123,7 @@ pub finer_tried : FinerTried
 finer_tried = (mixes-rival, numbers.3, numbers.0, kuhn_tried.1.finer 10 mixes (omega arith) mixes-rival)
 
 settled-accepted : AcceptedTable kuhn2_tables 3 settled
-unfolding ◌||◌ deal_nodes
+unfolding ◌or◌ deal_nodes
 settled-accepted = record {
   game = record { known = omega arith; seats = refl; small = omega arith };
   least = omega arith;

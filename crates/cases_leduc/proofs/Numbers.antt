@@ -9,7 +9,7 @@ use lib.Dec.{eqb, leb}
 use lib.IntN.{ℤ, pos, ◌+ℤ◌, ◌-ℤ◌}
 use lib.ListN.{length, get_or, take, drop}
 use lib.Seq.{take-append_seam, drop-append-add}
-use Rattle.prelude.specs.Finite.{◌&&◌, ◌||◌, some, those, has}
+use Rattle.prelude.specs.Finite.{◌and◌, ◌or◌, some, those, has}
 use Rattle.game_tree.specs.Sums.{◌·◌}
 use Rattle.game_tree.specs.Tree.{Key, Tree, Strategy, all, worth}
 use Rattle.game_tree.specs.Conditions.{Every}
@@ -53,18 +53,18 @@ calling j k a = cond (eqb (get_or (options (in_play (first k) (second k))) a 0) 
 
 -- the other seat has raised in a round
 unfoldable raised : ℕ → List ℕ → Bool
-unfolding some ◌&&◌
-raised s h = some (length h) (λ i. eqb (i % 2) (1 - s) && eqb (get_or h i 0) RAISE)
+unfolding some ◌and◌
+raised s h = some (length h) (λ i. eqb (i % 2) (1 - s) and eqb (get_or h i 0) RAISE)
 
 -- with card c and public card p a raise pays
 unfoldable strong : ℕ → ℕ → Bool
-unfolding ◌&&◌ ◌||◌
-strong c p = leb 4 c || (eqb (rank c) (rank p) || (leb 2 c && (eqb p 4 || eqb p 5)))
+unfolding ◌and◌ ◌or◌
+strong c p = leb 4 c or (eqb (rank c) (rank p) or (leb 2 c and (eqb p 4 or eqb p 5)))
 
 -- the second action, which is RAISE, with a strong card; the first where the other seat, which never raises, has raised
 unfoldable raising : Choice
-unfolding raised strong ◌||◌
-raising k = cond (raised (get_or k 0 0) (first k) || raised (get_or k 0 0) (second k)) 0 (cond (strong (get_or k 1 0) (get_or k 2 0)) 1 0)
+unfolding raised strong ◌or◌
+raising k = cond (raised (get_or k 0 0) (first k) or raised (get_or k 0 0) (second k)) 0 (cond (strong (get_or k 1 0) (get_or k 2 0)) 1 0)
 
 abbrev tree : Tree
 tree = tree_of_leduc 1 2 4
@@ -122,7 +122,7 @@ unfolding measures
 both t = (measures 0 t, measures 1 t)
 
 measured : both tree ≡ ((pos 0, pos 176, true), (pos 0, pos 176, true))
-unfolding both highest ◌·◌ tree_of_leduc Leduc.below Leduc.next Leduc.each ◌&&◌ ◌||◌ some those has Betting.ends_with Betting.folded Betting.closes Betting.behind
+unfolding both highest ◌·◌ tree_of_leduc Leduc.below Leduc.next Leduc.each ◌and◌ ◌or◌ some those has Betting.ends_with Betting.folded Betting.closes Betting.behind
     Betting.raises Betting.may Betting.options Betting.in_play Betting.turn Betting.ended Cards.left Cards.remaining Rules.public-due Rules.due Rules.key
     Rules.after-action Rules.put_in Rules.contribution Rules.folds Rules.pairs Rules.beats Rules.wins Rules.payoff
 measured = refl

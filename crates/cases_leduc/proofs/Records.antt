@@ -3,7 +3,7 @@ use mathlib.Core.Path.{◌≡◌, refl, ap, ◌∙◌}
 use mathlib.Core.List.{[], ◌∷◌}
 use Prim.Native.Nat.{◌*◌}
 use lib.ListN.{take, drop}
-use Rattle.prelude.specs.Finite.{◌&&◌, ◌||◌, some, those, has}
+use Rattle.prelude.specs.Finite.{◌and◌, ◌or◌, some, those, has}
 use Rattle.leduc_betting.specs.Betting as LeducBetting
 use Rattle.leduc_betting.specs.Cards as LeducCards
 use Rattle.leduc_rules.specs.Rules as LeducRules
@@ -21,12 +21,12 @@ by_walk : listing_of leduc ≡ records_of (turns fuel (next start) start)
 by_walk = by_number.leduc ∙ walked
 
 third : take 24 (drop 48 (records_of (turns fuel (next start) start))) ≡ 0 ∷ 7 ∷ 0 ∷ 0 ∷ 2 ∷ 2 ∷ 1 ∷ 1 ∷ 0 ∷ 0 ∷ 0 ∷ 0 ∷ 0 ∷ 0 ∷ 0 ∷ 2 ∷ 0 ∷ 1 ∷ 0 ∷ 0 ∷ 0 ∷ 0 ∷ 2 ∷ 0 ∷ []
-unfolding records_of turns next joined is_first bytes_of padded ◌&&◌ ◌||◌ some those has LeducBetting.ends_with LeducBetting.folded LeducBetting.closes LeducBetting.behind LeducBetting.raises LeducBetting.may
+unfolding records_of turns next joined is_first bytes_of padded ◌and◌ ◌or◌ some those has LeducBetting.ends_with LeducBetting.folded LeducBetting.closes LeducBetting.behind LeducBetting.raises LeducBetting.may
     LeducBetting.options LeducBetting.in_play LeducBetting.turn LeducBetting.ended LeducCards.left LeducCards.remaining LeducRules.public-due LeducRules.due LeducRules.key
 third = refl
 
 last : drop (24 * 935) (records_of (turns fuel (next start) start)) ≡ 0 ∷ 10 ∷ 0 ∷ 5 ∷ 0 ∷ 3 ∷ 2 ∷ 2 ∷ 1 ∷ 2 ∷ 2 ∷ 2 ∷ 0 ∷ 0 ∷ 0 ∷ 0 ∷ 5 ∷ 1 ∷ 0 ∷ 0 ∷ 0 ∷ 0 ∷ 2 ∷ 0 ∷ []
-unfolding records_of turns next joined is_first bytes_of padded ◌&&◌ ◌||◌ some those has LeducBetting.ends_with LeducBetting.folded LeducBetting.closes LeducBetting.behind LeducBetting.raises LeducBetting.may
+unfolding records_of turns next joined is_first bytes_of padded ◌and◌ ◌or◌ some those has LeducBetting.ends_with LeducBetting.folded LeducBetting.closes LeducBetting.behind LeducBetting.raises LeducBetting.may
     LeducBetting.options LeducBetting.in_play LeducBetting.turn LeducBetting.ended LeducCards.left LeducCards.remaining LeducRules.public-due LeducRules.due LeducRules.key
 last = refl
 

@@ -11,7 +11,7 @@ use lib.ListN.{get_or}
 use Rattle.game_tree.specs.Sums.{sum}
 use Rattle.game_tree.specs.Tree.{Key}
 use Rattle.game_tree.specs.Reply.{Reply, Replies, none, more, Choice, value, pick, Node, nodes, same, keep, with_key, set_sum, highest, lowest, count}
-use Rattle.game_tree.specs.Optimal.{EveryOwn, Decides}
+use Rattle.game_tree.specs.Optimal.{Decides}
 use Rattle.game_tree.proofs.Own.{EachNode, each→own}
 use Rattle.game_tree.proofs.Tests.{T_of, same→eq, eqb_is}
 

@@ -8,7 +8,7 @@ use lib.Dec.{eqb, ltb}
 use lib.ListN.{length}
 use borrow.Author.Tests.{ltb-false, eqb-true, eqb-false, not-false}
 use Rattle.refusals.specs.Refusals.{◌refuses◌, first}
-use Rattle.prelude.specs.Finite.{◌||◌}
+use Rattle.prelude.specs.Finite.{◌or◌}
 use Rattle.prelude.proofs.Tests.{or_false_left, or_false_right}
 use Rattle.game_tree.specs.Sets.{size, set_actions, entries}
 use Rattle.game_tree.specs.Table.{Table, add_up}
@@ -32,9 +32,9 @@ module _ (g : Game) (words D : ℕ) (table : Table) (e : evaluation_refusal g wo
   all_fail false false false false false false true e = absurd (omega arith)
   all_fail false false false false false false false e = (refl, refl, refl, refl, refl, refl)
 
-  fail : (ltb 1 g.number ≡ false) × (seats-out g ≡ false) × (ltb 4000000 (size (tree_of g)) ≡ false) × ((eqb D 0 || ltb (most_parts g) D) ≡ false)
+  fail : (ltb 1 g.number ≡ false) × (seats-out g ≡ false) × (ltb 4000000 (size (tree_of g)) ≡ false) × ((eqb D 0 or ltb (most_parts g) D) ≡ false)
       × (not (eqb (length table) (entries (tree_of g))) ≡ false) × (not (add_up D (set_actions (tree_of g)) table) ≡ false)
-  fail = all_fail (ltb 1 g.number) (seats-out g) (ltb 4000000 (size (tree_of g))) (ltb words (12 * size (tree_of g))) (eqb D 0 || ltb (most_parts g) D)
+  fail = all_fail (ltb 1 g.number) (seats-out g) (ltb 4000000 (size (tree_of g))) (ltb words (12 * size (tree_of g))) (eqb D 0 or ltb (most_parts g) D)
       (not (eqb (length table) (entries (tree_of g)))) (not (add_up D (set_actions (tree_of g)) table)) e
 
   pub accepted-table : AcceptedTable g D table
