@@ -1,8 +1,12 @@
 // One line of answers: words, and a checksum of every field of every answer.
 
-// The checksum so far, and whether the words are written.
-#[derive(Drop)]
+use std::io;
+use std::io::Stdout;
+
+// Where the line is written, the checksum so far, and whether the words are written.
+#[derive(Clone, Copy)]
 pub struct Line {
+    pub out: Stdout,
     pub sum: u64,
     pub shown: bool,
 }
@@ -17,11 +21,11 @@ fn size(number: i64) -> u64 {
 }
 
 // A whole number, with its sign if it is below 0.
-pub fn print_whole(number: i64) {
+pub fn print_whole(out: Stdout, number: i64) -> io::Result<()> {
     if number < 0 {
-        io::write_all(1, b"-");
+        out.write_all(b"-")?;
     }
-    io::print_decimal(1, size(number));
+    out.print(size(number))
 }
 
 // 128 more than the payoff; 255 for one that no game here makes.
@@ -49,13 +53,14 @@ fn wide(byte: u8) -> u64 {
 }
 
 impl Line {
-    pub fn new(shown: bool) -> Self {
-        Line { sum: 1, shown }
+    pub fn new(out: Stdout, shown: bool) -> Self {
+        Line { out, sum: 1, shown }
     }
 
     // A byte more in the checksum.
     pub fn mix(self, byte: u8) -> Self {
         Line {
+            out: self.out,
             sum: (self.sum % 4294967296 * 31 + byte as u64) % 4294967296,
             shown: self.shown,
         }
@@ -64,6 +69,7 @@ impl Line {
     // A number more, its lowest byte first.
     pub fn mix_number(self, number: u64) -> Self {
         Line {
+            out: self.out,
             sum: mixed(mixed(self.sum, number), number / 4294967296),
             shown: self.shown,
         }
@@ -110,79 +116,84 @@ impl Line {
     }
 
     // A word of one letter.
-    pub fn say_letter(self, letter: u8) {
+    pub fn say_letter(self, letter: u8) -> io::Result<()> {
         if self.shown {
-            io::write_all(1, &[letter, b' ']);
+            self.out.write_all(&[letter, b' '])?;
         }
+        Ok(())
     }
 
     // A word that is a number.
-    pub fn say(self, number: u64) {
+    pub fn say(self, number: u64) -> io::Result<()> {
         if self.shown {
-            io::print_decimal(1, number);
-            io::write_all(1, b" ");
+            self.out.print(number)?;
+            self.out.write_all(b" ")?;
         }
+        Ok(())
     }
 
     // The first `count` bytes, a word each.
-    pub fn say_all(self, bytes: &[u8], count: usize) {
+    pub fn say_all(self, bytes: &[u8], count: usize) -> io::Result<()> {
         let mut i = 0;
         while i < bytes.len() && i < count {
-            self.say(wide(bytes[i]));
+            self.say(wide(bytes[i]))?;
             i += 1;
         }
+        Ok(())
     }
 
     // The first `count` whole numbers, a word each.
-    pub fn say_wholes(self, numbers: &[i64], count: usize) {
+    pub fn say_wholes(self, numbers: &[i64], count: usize) -> io::Result<()> {
         let mut i = 0;
         while i < numbers.len() && i < count {
-            self.say_whole(numbers[i]);
+            self.say_whole(numbers[i])?;
             i += 1;
         }
+        Ok(())
     }
 
-    pub fn say_whole(self, number: i64) {
+    pub fn say_whole(self, number: i64) -> io::Result<()> {
         if self.shown {
-            print_whole(number);
-            io::write_all(1, b" ");
+            print_whole(self.out, number)?;
+            self.out.write_all(b" ")?;
         }
+        Ok(())
     }
 
     // The first `count` bytes behind their count.
-    pub fn say_list(self, bytes: &[u8], count: usize) {
-        self.say(count as u64);
-        self.say_all(bytes, count);
+    pub fn say_list(self, bytes: &[u8], count: usize) -> io::Result<()> {
+        self.say(count as u64)?;
+        self.say_all(bytes, count)
     }
 
     // The letter of a call, and its refusal number.
-    pub fn say_call(self, call: u8, refusal: u64) {
-        self.say_letter(call);
-        self.say(refusal);
+    pub fn say_call(self, call: u8, refusal: u64) -> io::Result<()> {
+        self.say_letter(call)?;
+        self.say(refusal)
     }
 
     // A legal list or a key: all of the output array goes into the checksum.
-    pub fn written(self, call: u8, refusal: u64, count: usize, out: &[u8]) -> Self {
-        self.say_call(call, refusal);
+    pub fn written(self, call: u8, refusal: u64, count: usize, out: &[u8]) -> io::Result<Self> {
+        self.say_call(call, refusal)?;
         if refusal == 0 {
-            self.say_list(out, count);
+            self.say_list(out, count)?;
         }
-        self.mix_number(count as u64).mix_all(out)
+        Ok(self.mix_number(count as u64).mix_all(out))
     }
 
     // Payoffs.
-    pub fn paid(self, refusal: u64, count: usize, payoffs: &[i64; 10]) -> Self {
-        self.say_call(b'P', refusal);
+    pub fn paid(self, refusal: u64, count: usize, payoffs: &[i64; 10]) -> io::Result<Self> {
+        self.say_call(b'P', refusal)?;
         if refusal == 0 {
-            self.say(count as u64);
-            self.say_wholes(payoffs, count);
+            self.say(count as u64)?;
+            self.say_wholes(payoffs, count)?;
         }
-        self.mix_number(count as u64).mix_payoffs(payoffs)
+        Ok(self.mix_number(count as u64).mix_payoffs(payoffs))
     }
 
     // The checksum ends the line.
-    pub fn end(self) {
-        io::print_decimal(1, self.sum);
-        io::write_all(1, b"\n");
+    pub fn end(self) -> io::Result<()> {
+        self.out.print(self.sum)?;
+        self.out.write_all(b"\n")
     }
 }

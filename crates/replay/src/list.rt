@@ -1,8 +1,11 @@
 // A list: decimal numbers with one byte between them, a record a line.
 ghost use Rattle.std.specs.Prelude.{◌<◌};
 
+use std::io;
+use std::io::{Read, Stdin};
+
 // Where reading stands in a list, where the list ends, and how many lines are left at most.
-#[derive(Drop)]
+#[derive(Clone, Copy)]
 pub struct Source {
     at: usize,
     end: usize,
@@ -11,13 +14,13 @@ pub struct Source {
 
 impl Source {
     // The list of standard input.
-    pub fn open(list: &mut [u8; 4194304]) -> Self {
-        let end = io::read_full(0, list);
-        Source {
+    pub fn open(input: Stdin, list: &mut [u8; 4194304]) -> io::Result<Self> {
+        let end = read_full(input, list)?;
+        Ok(Source {
             at: 0,
             end,
             left: end,
-        }
+        })
     }
 
     // The numbers of the next line.
@@ -38,8 +41,22 @@ impl Source {
     }
 }
 
+// Reads until the list is full or the input ends. Answers how many bytes it put at the start of the list.
+fn read_full(input: Stdin, list: &mut [u8; 4194304]) -> io::Result<usize> {
+    let mut source = input;
+    let mut done = 0;
+    while done < 4194304 {
+        let read = source.read(&mut list[done..])?;
+        if read == 0 {
+            break;
+        }
+        done += read;
+    }
+    Ok(done)
+}
+
 // How far a line was read: the numbers that are whole, the one after them, and whether the line is over.
-#[derive(Drop)]
+#[derive(Clone, Copy)]
 struct Part {
     count: usize,
     value: u64,

@@ -1,6 +1,8 @@
 // The calls of a line, each with work memory that was filled anew, and what the line has of them.
 use best_response::ValuesAnswer;
 use replay::Line;
+use std::io;
+use std::io::Stdout;
 
 // Where a line has its code and what the calls are asked.
 const CODE: usize = 0;
@@ -52,12 +54,13 @@ fn bits_of(value: f64) -> u64 {
     bits[0]
 }
 
-fn say_six(line: Line, values: &[f64; 6]) {
+fn say_six(line: Line, values: &[f64; 6]) -> io::Result<()> {
     let mut i: usize = 0;
     while i < 6 {
-        line.say(bits_of(values[i]));
+        line.say(bits_of(values[i]))?;
         i += 1;
     }
+    Ok(())
 }
 
 // One call, if the line asks for it.
@@ -67,23 +70,28 @@ fn say_call(
     code: u64,
     work: &mut [u64],
     profile: &[f64],
-) -> Line {
+) -> io::Result<Line> {
     if numbers[CODE] != code && numbers[CODE] != ALL {
-        return line;
+        return Ok(line);
     }
     replay::untouched_words(work);
     let answer = ask(code, numbers, work, profile);
     let six = answer.values;
-    line.say_call(letter(code), answer.refusal);
-    line.say(answer.count as u64);
-    say_six(line, &six);
-    line.mix_left(work, answer.refusal, numbers[KEPT] as usize)
+    line.say_call(letter(code), answer.refusal)?;
+    line.say(answer.count as u64)?;
+    say_six(line, &six)?;
+    Ok(line.mix_left(work, answer.refusal, numbers[KEPT] as usize))
 }
 
-pub fn say_calls(numbers: &[u64; 4096], work: &mut [u64], profile: &[f64]) -> Line {
-    let one = say_call(numbers, Line::new(true), 0, work, profile);
-    let all = say_call(numbers, one, 1, work, profile);
-    let values = say_call(numbers, all, 2, work, profile);
-    let nash_conv = say_call(numbers, values, 3, work, profile);
+pub fn say_calls(
+    to: Stdout,
+    numbers: &[u64; 4096],
+    work: &mut [u64],
+    profile: &[f64],
+) -> io::Result<Line> {
+    let one = say_call(numbers, Line::new(to, true), 0, work, profile)?;
+    let all = say_call(numbers, one, 1, work, profile)?;
+    let values = say_call(numbers, all, 2, work, profile)?;
+    let nash_conv = say_call(numbers, values, 3, work, profile)?;
     say_call(numbers, nash_conv, 4, work, profile)
 }

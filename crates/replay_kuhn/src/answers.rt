@@ -1,6 +1,7 @@
 // Answers as a line has them: every field goes into the checksum, and the words are what was accepted.
 use kuhn::{KuhnState, Moved};
 use replay::Line;
+use std::io;
 
 // The refusal number and the position, which every answer begins with.
 pub fn mix_answer(line: Line, refusal: u64, state: KuhnState) -> Line {
@@ -12,14 +13,14 @@ pub fn mix_answer(line: Line, refusal: u64, state: KuhnState) -> Line {
 }
 
 // The answer of a start, a deal or a step.
-pub fn moved(line: Line, call: u8, answer: Moved) -> Line {
+pub fn moved(line: Line, call: u8, answer: Moved) -> io::Result<Line> {
     let state = answer.state;
-    line.say_call(call, answer.refusal);
+    line.say_call(call, answer.refusal)?;
     if answer.refusal == 0 {
         let cards = state.cards;
         let history = state.history;
-        line.say_list(&cards, state.dealt);
-        line.say_list(&history, state.acted);
+        line.say_list(&cards, state.dealt)?;
+        line.say_list(&history, state.acted)?;
     }
-    mix_answer(line, answer.refusal, state)
+    Ok(mix_answer(line, answer.refusal, state))
 }

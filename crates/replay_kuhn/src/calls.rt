@@ -2,8 +2,9 @@
 use crate::answers::{mix_answer, moved};
 use kuhn::{KuhnPoker, KuhnState, Written};
 use replay::Line;
+use std::io;
 
-#[derive(Drop)]
+#[derive(Clone, Copy)]
 pub struct Asked {
     pub game: KuhnPoker,
     pub state: KuhnState,
@@ -26,7 +27,7 @@ fn lend(asked: Asked, call: u8, agent: usize, room: usize, out: &mut [u8]) -> Wr
 }
 
 // One call by its letter.
-fn ask(line: Line, asked: Asked, room: usize, call: u8, number: usize) -> Line {
+fn ask(line: Line, asked: Asked, room: usize, call: u8, number: usize) -> io::Result<Line> {
     let game = asked.game;
     let state = asked.state;
     if call == b'D' {
@@ -43,25 +44,25 @@ fn ask(line: Line, asked: Asked, room: usize, call: u8, number: usize) -> Line {
 }
 
 // A call for the numbers of so many turns.
-fn ask_all(line: Line, asked: Asked, room: usize, call: u8, turns: usize) -> Line {
+fn ask_all(line: Line, asked: Asked, room: usize, call: u8, turns: usize) -> io::Result<Line> {
     let mut said = line;
     let mut i = 0;
     while i < turns {
-        said = ask(said, asked, room, call, replay::tried(i, turns));
+        said = ask(said, asked, room, call, replay::tried(i, turns))?;
         i += 1;
     }
-    said
+    Ok(said)
 }
 
 // The legal lists, the deals, the steps, the keys and the payoff. Seats and outcomes are tried up to one past the last.
-pub fn family(line: Line, asked: Asked, room: usize) -> Line {
+pub fn family(line: Line, asked: Asked, room: usize) -> io::Result<Line> {
     let game = asked.game;
     let state = asked.state;
     let seats = replay::least(game.players, 12);
-    let listed = ask_all(line, asked, room, b'L', seats + 3);
-    let dealt = ask_all(listed, asked, room, b'D', seats + 4);
-    let stepped = ask_all(dealt, asked, room, b'S', 5);
-    let keyed = ask_all(stepped, asked, room, b'K', seats + 3);
+    let listed = ask_all(line, asked, room, b'L', seats + 3)?;
+    let dealt = ask_all(listed, asked, room, b'D', seats + 4)?;
+    let stepped = ask_all(dealt, asked, room, b'S', 5)?;
+    let keyed = ask_all(stepped, asked, room, b'K', seats + 3)?;
     let answer = game.payouts(state);
     let after = answer.state;
     let payoffs = answer.payoffs;
@@ -69,21 +70,21 @@ pub fn family(line: Line, asked: Asked, room: usize) -> Line {
 }
 
 // The words have the numbers of the marks 0 and 1.
-fn check(line: Line, asked: Asked, done: u64) -> Line {
+fn check(line: Line, asked: Asked, done: u64) -> io::Result<Line> {
     let game = asked.game;
     let state = asked.state;
     let answer = game.validate_decoded_state(state, done);
     let after = answer.state;
     if done < 2 {
-        line.say(answer.refusal);
+        line.say(answer.refusal)?;
     }
-    mix_answer(line, answer.refusal, after)
+    Ok(mix_answer(line, answer.refusal, after))
 }
 
 // A saved position, with each end mark.
-pub fn saved(line: Line, asked: Asked) -> Line {
-    let zero = check(line, asked, 0);
-    let one = check(zero, asked, 1);
-    let two = check(one, asked, 2);
+pub fn saved(line: Line, asked: Asked) -> io::Result<Line> {
+    let zero = check(line, asked, 0)?;
+    let one = check(zero, asked, 1)?;
+    let two = check(one, asked, 2)?;
     check(two, asked, 18446744073709551615)
 }

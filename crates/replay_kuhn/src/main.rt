@@ -1,5 +1,7 @@
 // Replays Kuhn's calls on the list of standard input; what it writes is held to the Rust's answers.
 // compare/README.md has the format of both.
+#![tactic(auto)]
+
 ghost use Rattle.std.specs.Prelude.{◌<◌};
 
 mod answers;
@@ -8,6 +10,8 @@ mod calls;
 use crate::calls::Asked;
 use kuhn::{KuhnPoker, KuhnState};
 use replay::{Line, Source};
+use std::io;
+use std::io::Stdout;
 
 // From place `at` of a line on: a seat count, both lengths, the number that fills the arrays, the cards and the history.
 fn position(numbers: &[u64; 4096], at: usize) -> Asked
@@ -32,30 +36,29 @@ fn position(numbers: &[u64; 4096], at: usize) -> Asked
 }
 
 // One line of the list: its call code, and what the code asks for.
-fn replay_line(numbers: &[u64; 4096]) {
+fn replay_line(out: Stdout, numbers: &[u64; 4096]) -> io::Result<()> {
     let code = numbers[0];
     if code == 0 {
         let game = KuhnPoker {
             players: numbers[1] as usize,
         };
-        answers::moved(Line::new(true), b'I', game.initial_state()).end();
-        return;
+        return answers::moved(Line::new(out, true), b'I', game.initial_state())?.end();
     }
     if code < 3 {
         let asked = position(numbers, 2);
-        calls::family(Line::new(code == 1), asked, numbers[1] as usize).end();
-        return;
+        return calls::family(Line::new(out, code == 1), asked, numbers[1] as usize)?.end();
     }
     let asked = position(numbers, 1);
-    calls::saved(Line::new(code == 3), asked).end();
+    calls::saved(Line::new(out, code == 3), asked)?.end()
 }
 
-fn main() {
+fn main(rt: HostRuntime) -> io::Result<()> {
     let mut list = [0u8; 4194304];
     let mut numbers = [0u64; 4096];
-    let mut source = Source::open(&mut list);
+    let mut source = Source::open(rt.stdin(), &mut list)?;
     while source.left > 0 {
         source = source.line(&list, &mut numbers);
-        replay_line(&numbers);
+        replay_line(rt.stdout(), &numbers)?;
     }
+    Ok(())
 }

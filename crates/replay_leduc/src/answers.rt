@@ -2,6 +2,7 @@
 use leduc::{LeducState, Moved};
 use leduc_betting::Public;
 use replay::Line;
+use std::io;
 
 fn number_of(public: Public) -> u64 {
     match public {
@@ -23,22 +24,22 @@ pub fn mix_answer(line: Line, refusal: u64, state: LeducState) -> Line {
         .mix_number(state.acted2 as u64)
 }
 
-fn say_state(line: Line, state: LeducState) {
+fn say_state(line: Line, state: LeducState) -> io::Result<()> {
     let cards = state.cards;
     let public = state.public;
     let h = state.history;
-    line.say_list(&cards, state.dealt);
-    line.say(number_of(public));
-    line.say_list(&[h[0], h[1], h[2], h[3]], state.acted1);
-    line.say_list(&[h[4], h[5], h[6], h[7]], state.acted2);
+    line.say_list(&cards, state.dealt)?;
+    line.say(number_of(public))?;
+    line.say_list(&[h[0], h[1], h[2], h[3]], state.acted1)?;
+    line.say_list(&[h[4], h[5], h[6], h[7]], state.acted2)
 }
 
 // The answer of a start, a deal or a step.
-pub fn moved(line: Line, call: u8, answer: Moved) -> Line {
+pub fn moved(line: Line, call: u8, answer: Moved) -> io::Result<Line> {
     let state = answer.state;
-    line.say_call(call, answer.refusal);
+    line.say_call(call, answer.refusal)?;
     if answer.refusal == 0 {
-        say_state(line, state);
+        say_state(line, state)?;
     }
-    mix_answer(line, answer.refusal, state)
+    Ok(mix_answer(line, answer.refusal, state))
 }

@@ -3,6 +3,7 @@ use crate::answers::{mix_answer, moved};
 use leduc::{LeducPoker, LeducState, Written};
 use leduc_betting::Public;
 use replay::Line;
+use std::io;
 
 // A legal list or a key.
 fn write(state: LeducState, call: u8, agent: usize, out: &mut [u8]) -> Written {
@@ -19,7 +20,7 @@ fn lend(state: LeducState, call: u8, agent: usize, room: usize, out: &mut [u8]) 
 }
 
 // One call by its letter.
-fn ask(line: Line, state: LeducState, room: usize, call: u8, number: usize) -> Line {
+fn ask(line: Line, state: LeducState, room: usize, call: u8, number: usize) -> io::Result<Line> {
     if call == b'D' {
         return moved(line, call, LeducPoker::apply_chance_node(state, number));
     }
@@ -45,22 +46,22 @@ fn tried(call: u8, i: usize, turns: usize) -> usize {
 }
 
 // A call for the numbers of so many turns.
-fn ask_all(line: Line, state: LeducState, room: usize, call: u8, turns: usize) -> Line {
+fn ask_all(line: Line, state: LeducState, room: usize, call: u8, turns: usize) -> io::Result<Line> {
     let mut said = line;
     let mut i = 0;
     while i < turns {
-        said = ask(said, state, room, call, tried(call, i, turns));
+        said = ask(said, state, room, call, tried(call, i, turns))?;
         i += 1;
     }
-    said
+    Ok(said)
 }
 
 // The legal lists, the deals, the steps, the keys and the payoff. Seats and outcomes are tried up to one past the last.
-pub fn family(line: Line, state: LeducState, room: usize) -> Line {
-    let listed = ask_all(line, state, room, b'L', 5);
-    let dealt = ask_all(listed, state, room, b'D', 9);
-    let stepped = ask_all(dealt, state, room, b'S', 7);
-    let keyed = ask_all(stepped, state, room, b'K', 5);
+pub fn family(line: Line, state: LeducState, room: usize) -> io::Result<Line> {
+    let listed = ask_all(line, state, room, b'L', 5)?;
+    let dealt = ask_all(listed, state, room, b'D', 9)?;
+    let stepped = ask_all(dealt, state, room, b'S', 7)?;
+    let keyed = ask_all(stepped, state, room, b'K', 5)?;
     let answer = LeducPoker::payouts(state);
     let after = answer.state;
     let payoffs = answer.payoffs;
@@ -68,25 +69,25 @@ pub fn family(line: Line, state: LeducState, room: usize) -> Line {
 }
 
 // The words have the numbers of the marks 0 and 1.
-fn check(line: Line, state: LeducState, done: u64) -> Line {
+fn check(line: Line, state: LeducState, done: u64) -> io::Result<Line> {
     let answer = LeducPoker::validate_decoded_state(state, done);
     let after = answer.state;
     if done < 2 {
-        line.say(answer.refusal);
+        line.say(answer.refusal)?;
     }
-    mix_answer(line, answer.refusal, after)
+    Ok(mix_answer(line, answer.refusal, after))
 }
 
 // A saved position with each end mark.
-fn marks(line: Line, state: LeducState) -> Line {
-    let zero = check(line, state, 0);
-    let one = check(zero, state, 1);
-    let two = check(one, state, 2);
+fn marks(line: Line, state: LeducState) -> io::Result<Line> {
+    let zero = check(line, state, 0)?;
+    let one = check(zero, state, 1)?;
+    let two = check(one, state, 2)?;
     check(two, state, 18446744073709551615)
 }
 
 // The same, and once more without the public card.
-pub fn saved(line: Line, state: LeducState) -> Line {
+pub fn saved(line: Line, state: LeducState) -> io::Result<Line> {
     let cards = state.cards;
     let history = state.history;
     let hidden = LeducState {
@@ -97,5 +98,5 @@ pub fn saved(line: Line, state: LeducState) -> Line {
         acted1: state.acted1,
         acted2: state.acted2,
     };
-    marks(marks(line, state), hidden)
+    marks(marks(line, state)?, hidden)
 }

@@ -1,5 +1,7 @@
 // Replays Leduc's calls on the list of standard input; what it writes is held to the Rust's answers.
 // compare/README.md has the format of both.
+#![tactic(auto)]
+
 ghost use Rattle.std.specs.Prelude.{◌<◌};
 
 mod answers;
@@ -8,6 +10,8 @@ mod calls;
 use leduc::{LeducPoker, LeducState};
 use leduc_betting::Public;
 use replay::{Line, Source};
+use std::io;
+use std::io::Stdout;
 
 // 0 for none, else 1 more than the card.
 fn public_of(number: u64) -> Public {
@@ -57,27 +61,26 @@ fn position(numbers: &[u64; 4096], at: usize) -> LeducState
 }
 
 // One line of the list: its call code, and what the code asks for.
-fn replay_line(numbers: &[u64; 4096]) {
+fn replay_line(out: Stdout, numbers: &[u64; 4096]) -> io::Result<()> {
     let code = numbers[0];
     if code == 0 {
-        answers::moved(Line::new(true), b'I', LeducPoker::initial_state()).end();
-        return;
+        return answers::moved(Line::new(out, true), b'I', LeducPoker::initial_state())?.end();
     }
     if code < 3 {
         let state = position(numbers, 2);
-        calls::family(Line::new(code == 1), state, numbers[1] as usize).end();
-        return;
+        return calls::family(Line::new(out, code == 1), state, numbers[1] as usize)?.end();
     }
     let state = position(numbers, 1);
-    calls::saved(Line::new(code == 3), state).end();
+    calls::saved(Line::new(out, code == 3), state)?.end()
 }
 
-fn main() {
+fn main(rt: HostRuntime) -> io::Result<()> {
     let mut list = [0u8; 4194304];
     let mut numbers = [0u64; 4096];
-    let mut source = Source::open(&mut list);
+    let mut source = Source::open(rt.stdin(), &mut list)?;
     while source.left > 0 {
         source = source.line(&list, &mut numbers);
-        replay_line(&numbers);
+        replay_line(rt.stdout(), &numbers)?;
     }
+    Ok(())
 }
