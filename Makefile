@@ -6,10 +6,6 @@ CARGO_FLAGS := --offline --locked
 # The first tool that a host build needs and this machine lacks: cargo, the compiler by which it links, or another C compiler in CC.
 MISSING = $(firstword $(foreach tool,cargo cc $(firstword $(CC)),$(if $(shell command -v $(tool) 2>/dev/null),,$(tool))))
 
-# How many crates `rt` proves side by side, each in up to 1 GB: a row of crates waits for its slowest, so it is more than the cores.
-RT_JOBS ?= 6
-export RT_JOBS
-
 # How many random hands `compare` plays of each game; its seed, else one from the clock. How many rounds `bench` times. How long `fuzz` runs; its seed is 1.
 HANDS ?= 2000
 SEED ?=
@@ -26,6 +22,9 @@ PRODUCT := build/bin/chukkanalli
 SHARED := build/lib/libchukkanalli.so.0
 SAMPLE := samples/always-pass.txt
 
+# What the crates are made of, without what rt keeps of them.
+CRATES = $(shell find crates crates.txt -path 'crates/*/out' -prune -o -type f -print)
+
 .SILENT:
 .PHONY: run sample check test audit reach host-tests product product-test cases large fuzz lists archive shared python-test install install-check dist compare bench
 
@@ -40,22 +39,18 @@ run: $(PRODUCT)
 # A proved program: plays a hand, then replies to a table.
 sample:
 	mkdir -p build
-	test -x target/bin/sample || echo 'proving the calls first; build/sample.log has what rt says' >&2
-	rt check sample >build/sample.log 2>&1 || { cat build/sample.log; exit 1; }
-	target/bin/sample
+	test -x crates/sample/out/sample || echo 'proving the calls first; build/sample.log has what rt says' >&2
+	(cd crates/sample && rt run) >build/sample.log 2>&1 || { cat build/sample.log; exit 1; }
+	crates/sample/out/sample
 
 # Proves what has changed since it was last proved, and runs the programs.
 check:
-	rt check
+	rt all test
 
-# The gate. `rt ci` removes target/ and proves all from nothing, which is counted; the product's tests link what it proved. The last line is that of
-# `rt ci`; build/ci.log has all that it says.
+# The gate. `rt ci` proves what no earlier run of it on this machine has proved, each crate from nothing, which is counted, and refuses a file that is not
+# laid out; the product's tests link what it proved. The last line is that of `rt ci`; build/ci.log has all that it says.
 test: audit host-tests
-	rt fmt --check
-	mkdir -p build
-	rm -f build/ci.refused
-	{ rt ci || touch build/ci.refused; } 2>&1 | tee build/ci.log | scripts/count.sh
-	test ! -e build/ci.refused || { cat build/ci.log; exit 1; }
+	scripts/gate.sh build
 	$(MAKE) --no-print-directory product-test
 	tail -n 1 build/ci.log
 
@@ -71,7 +66,7 @@ audit:
 reach:
 	cd rust && cargo run -q $(CARGO_FLAGS) -p audit -- $(if $(FROM),from '$(FROM)',files)
 
-# Host builds live in build/, which `rt ci` leaves alone.
+# Host builds live in build/, where `rt ci` reads the names of files alone: no link, no crates.txt and no file of Rattle may stand there.
 host-tests:
 	if test -n '$(MISSING)'; then \
 	    echo 'skipped: the comparison with the Rust (there is no $(MISSING))'; \
@@ -84,7 +79,7 @@ host-tests:
 # The command line. It is made anew where a file that it comes from is newer, and needs no archive once it is there.
 product: $(PRODUCT)
 
-$(PRODUCT): $(shell find crates crates.txt rust -type f)
+$(PRODUCT): $(CRATES) $(shell find rust -type f)
 	test -z '$(MISSING)' || { echo 'the command line needs $(MISSING); make sample runs a proved program without it'; exit 1; }
 	$(MAKE) --no-print-directory $(ARCHIVE)
 	cd rust && cargo build -q $(CARGO_FLAGS) --release --bin chukkanalli
@@ -115,13 +110,13 @@ fuzz: $(ARCHIVE)
 lists:
 	cd compare && RUST='$(RUST)' cargo run -q $(CARGO_FLAGS) --release --bin lists -- 2026 ../crates
 
-# The calls for C: proves them, what they depend on side by side first, and writes $(ARCHIVE).
+# The calls for C: proves them and what they depend on, and writes $(ARCHIVE).
 archive:
 	command -v rt >/dev/null || { echo 'the calls are proved first, by rt, the Rattle toolchain, which is not here: README.md says more under "Two commands"' >&2; exit 1; }
 	scripts/prove.sh chukkanalli build/archive.log
 
 # The archive, where it is missing or older than a file of crates/.
-$(ARCHIVE): $(shell find crates crates.txt -type f)
+$(ARCHIVE): $(CRATES)
 	$(MAKE) --no-print-directory archive
 
 # The calls as a shared library.
@@ -158,21 +153,21 @@ install: $(PRODUCT) $(SHARED)
 	install -m 644 build/share/_chukkanalli '$(DESTDIR)$(PREFIX)/share/zsh/site-functions/_chukkanalli'
 	install -m 644 build/share/chukkanalli.fish '$(DESTDIR)$(PREFIX)/share/fish/vendor_completions.d/chukkanalli.fish'
 
-# Installs into an empty folder, and tries what is there.
+# Installs into an empty folder, and tries what is there. It stands outside the repository, as it holds a link.
 install-check:
-	rm -rf build/installed
-	$(MAKE) --no-print-directory install DESTDIR='$(CURDIR)/build/installed' PREFIX=/usr
-	scripts/install-check.sh '$(CURDIR)/build/installed/usr'
+	own=$$(mktemp -d) && trap 'rm -rf "$$own"' EXIT && \
+	$(MAKE) --no-print-directory install DESTDIR="$$own" PREFIX=/usr && \
+	scripts/install-check.sh "$$own/usr"
 
 # The source of the last commit with the built program and archive beside it, which are newer than it: whoever unpacks it needs neither rt nor cargo.
+# It is put together outside the repository, where `rt ci` would take its files for crates of ours.
 dist: $(PRODUCT) $(ARCHIVE)
-	rm -rf 'build/dist/chukkanalli-$(VERSION)'
-	mkdir -p build/dist
-	git archive --prefix='chukkanalli-$(VERSION)/' HEAD | tar -x -C build/dist
-	mkdir -p 'build/dist/chukkanalli-$(VERSION)/build/bin' 'build/dist/chukkanalli-$(VERSION)/target/staticlib'
-	cp $(ARCHIVE) 'build/dist/chukkanalli-$(VERSION)/target/staticlib/'
-	cp $(PRODUCT) 'build/dist/chukkanalli-$(VERSION)/build/bin/'
-	tar -C build/dist -czf 'build/chukkanalli-$(VERSION).tar.gz' 'chukkanalli-$(VERSION)'
+	own=$$(mktemp -d) && trap 'rm -rf "$$own"' EXIT && tree="$$own/chukkanalli-$(VERSION)" && \
+	git archive --prefix='chukkanalli-$(VERSION)/' HEAD | tar -x -C "$$own" && \
+	mkdir -p "$$tree/build/bin" "$$tree/target/staticlib" && \
+	cp $(ARCHIVE) "$$tree/target/staticlib/" && \
+	cp $(PRODUCT) "$$tree/build/bin/" && \
+	tar -C "$$own" -czf 'build/chukkanalli-$(VERSION).tar.gz' 'chukkanalli-$(VERSION)'
 	echo 'build/chukkanalli-$(VERSION).tar.gz'
 
 # Document 01's cases and each call, through the header from C.

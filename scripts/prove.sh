@@ -1,14 +1,18 @@
 #!/bin/sh
-# prove.sh NAME LOG: proves a library with all that it depends on, side by side, and writes its archive; LOG gets what rt says. It says first how
-# many crates are to be proved and about how long that takes, then counts.
+# prove.sh NAME LOG: proves a static library with all that it depends on, and writes its archive to target/staticlib; LOG gets what rt says. It says
+# first how many crates are to be proved and about how long that takes, then counts.
 
 name=$1 log=$2
 . "$(dirname "$0")/progress.sh"
 
-# Lines of a crate that one core proves in a second, and which part of the work waits for its slowest crate: 47,000 lines took 7:07 one crate after
-# another, and two thirds of that side by side on two cores.
+# Seconds that a crate takes at least, and lines that are proved in a second.
+a_crate=12
 lines_a_second=110
-waiting=3
+
+# What a crate depends on.
+deps() { # NAME
+    sed -n "s/^$1\( [a-z0-9_ =]*\)\{0,1\}: *//p" crates.txt
+}
 
 # A crate and all that it depends on, in the order of crates.txt.
 needed() { # NAME
@@ -20,15 +24,18 @@ needed() { # NAME
             for (i = 1; i <= count; i++) take(list[i])
         }
         /^#/ || NF == 0 { next }
-        { deps[$1] = $2; order[++n] = $1 }
+        { sub(/ .*/, "", $1); deps[$1] = $2; order[++n] = $1 }
         END { take(name); for (i = 1; i <= n; i++) if (order[i] in taken) print order[i] }' crates.txt
 }
 
-# Whether a crate has a file that is newer than its proof, or no proof; that of the library itself is its archive.
+# Whether nothing was proved of a crate, or it has a file that is newer than that and than the archive.
 is_changed() { # NAME
-    proof=target/stamp/$1
-    test "$1" != "$name" || proof=target/staticlib/lib$name.a
-    test ! -f "$proof" || test -n "$(find "crates/$1" -type f -newer "$proof" | head -n 1)"
+    test "$1" = "$name" || test -f "crates/$1/out/rlib/stamp" || return 0
+    for proof in "crates/$1/out/rlib/stamp" "target/staticlib/lib$name.a"; do
+        test -f "$proof" || continue
+        test -n "$(find "crates/$1" -path "crates/$1/out" -prune -o -type f -newer "$proof" -print | head -n 1)" || return 1
+    done
+    return 0
 }
 
 # Of some crates in order, those that are to be proved: changed ones, and those that depend on such a one.
@@ -36,7 +43,7 @@ to_prove() { # NAME...
     todo=' '
     for crate in "$@"; do
         again=no
-        for used in $(sed -n "s/^$crate: *//p" crates.txt); do
+        for used in $(deps "$crate"); do
             case $todo in *" $used "*) again=yes ;; esac
         done
         if test "$again" = yes || is_changed "$crate"; then todo="$todo$crate "; fi
@@ -49,55 +56,78 @@ counted() { # COUNT NAME
     if test "$1" -eq 1; then echo "1 $2"; else echo "$1 $2s"; fi
 }
 
-# About how many minutes it takes to prove some crates.
+# About how many minutes it takes to prove some crates, one after another.
 minutes() { # NAME...
-    lines=$(for crate in "$@"; do find "crates/$crate" -type f \( -name '*.rt' -o -name '*.antt' \) -exec cat {} +; done | wc -l)
-    cores=$(nproc 2>/dev/null || echo 1)
-    alone=$((lines / lines_a_second))
-    together=$(((alone + (waiting - 1) * alone / cores) / waiting))
-    echo $(((together + 59) / 60))
+    lines=$(for crate in "$@"; do
+        find "crates/$crate" -path "crates/$crate/out" -prune -o -type f \( -name '*.rt' -o -name '*.antt' \) -exec cat {} +
+    done | wc -l)
+    echo $((($# * a_crate + lines / lines_a_second + 59) / 60))
 }
 
-# How many of the crates that are to be proved are: their proof is new, or rt says that the old one holds.
+# How many of the crates that are to be proved are.
 proved() {
-    { find target/stamp -type f -newer build/prove.begun 2>/dev/null | sed 's|.*/||'
-        sed -n 's/^rt: \(.*\) proved (unchanged.*/\1/p' "$log"
-    } | sort -u | grep -cxF -f build/prove.todo
+    done=$(grep -c '^logic=proved ' "$log")
+    if test "$done" -lt "$total"; then echo "$done"; else echo "$total"; fi
 }
 
-# Runs rt, and counts while it runs.
+# Runs something in the library's folder, and counts while it runs.
 counting() { # COMMAND...
-    "$@" >>"$log" 2>&1 &
+    (cd "crates/$name" && exec "$@") >>"$log" 2>&1 &
     running=$!
     while kill -0 "$running" 2>/dev/null; do
         test "$total" -eq 0 || tell "$(proved)" "$total"
         sleep 1
     done
-    wait "$running" && return
-    end_line
-    cat "$log"
-    exit 1
+    wait "$running"
+}
+
+# Whether `rt ci` has proved the crates as they stand, and its libraries are in crates/*/out (gate.sh notes that).
+after_ci() {
+    noted=$(dirname "$log")/ci.libraries
+    test -f "$noted" && test -z "$(find crates crates.txt -path 'crates/*/out' -prune -o -type f -newer "$noted" -print | head -n 1)"
+}
+
+# Builds the archive over the libraries that `rt ci` left, with the words that rt itself gives: `rt lib` builds its own libraries, by proving all that
+# they hold once more. The crate of the archive is proved here like any other.
+over_ci() {
+    kit=$(dirname "$(rt doc)")
+    set -- --crate-name "$name" src/lib.rt --extern "std=$kit/rlibs/std.rlib" -L "dependency=$kit/rlibs"
+    for used in $(deps "$name"); do
+        rlib=../$used/out/rlib/$used.rlib
+        test -d "crates/$used" || rlib=$kit/rlibs/$used.rlib
+        set -- "$@" --extern "$used=$rlib"
+    done
+    for used in $crates; do
+        test "$used" = "$name" || set -- "$@" -L "dependency=../$used/out/rlib"
+    done
+    mkdir -p "crates/$name/out"
+    counting "$kit/bin/rattle" build "$@" --antt-project "$kit/rattle/logic/antt-project.json" --logic-built "$kit/logic_built" --jobs 2 --links "$name=" \
+        --crate-type staticlib --toolchain "$kit/toolchain" --backend llvm -o "out/lib$name.a"
 }
 
 running=
 trap 'end_line; test -z "$running" || kill "$running" 2>/dev/null; exit 130' INT TERM
 
-mkdir -p build
+mkdir -p "$(dirname "$log")"
 : >"$log"
-: >build/prove.begun
 crates=$(needed "$name")
-# shellcheck disable=SC2086
-todo=$(to_prove $crates)
-# shellcheck disable=SC2086
-printf '%s\n' $todo >build/prove.todo
-total=$(echo "$todo" | wc -w)
-if test "$total" -gt 0; then
-    # shellcheck disable=SC2086
-    about=$(counted "$(minutes $todo)" minute)
-    echo "proving $(counted "$total" crate), which takes about $about and is needed once; $log has what rt says"
+total=0
+if ! { after_ci && over_ci; }; then
+    : >"$log"
+    # shellcheck disable=SC2046,SC2086
+    set -- $(to_prove $crates)
+    total=$#
+    if test "$total" -gt 0; then
+        about=$(counted "$(minutes "$@")" minute)
+        echo "proving $(counted "$total" crate), which takes about $about and is needed once; $log has what rt says"
+    fi
+    if ! counting rt lib; then
+        end_line
+        cat "$log"
+        exit 1
+    fi
+    test "$total" -eq 0 || tell "$total" "$total"
+    end_line
 fi
-# shellcheck disable=SC2046
-test "$total" -eq 0 || counting rt check $(echo "$crates" | grep -vxF "$name")
-counting rt staticlib "$name"
-test "$total" -eq 0 || tell "$total" "$total"
-end_line
+mkdir -p target/staticlib
+cp "crates/$name/out/lib$name.a" target/staticlib/

@@ -4,7 +4,7 @@
 pub enum Leaf {
     /// A name, a word of the language or a path of names.
     Name(String),
-    /// `.field` or `.0`.
+    /// `.field` or `.0` behind a bracket; behind a name it is a part of the path.
     Projection,
     Number,
     Text,
@@ -140,7 +140,8 @@ fn line_tokens(text: &str) -> Result<(Vec<Token>, Option<String>), String> {
             let alone = tokens.is_empty().then(|| comment.trim().to_string());
             return Ok((tokens, alone));
         }
-        let (token, bytes) = token_at(rest, blank_before)?;
+        let of_a_field = matches!(tokens.last(), Some(Token::Close(_) | Token::Leaf(Leaf::Projection)));
+        let (token, bytes) = token_at(rest, of_a_field && !blank_before)?;
         tokens.push(token);
         rest = &rest[bytes..];
         blank_before = false;
@@ -148,7 +149,8 @@ fn line_tokens(text: &str) -> Result<(Vec<Token>, Option<String>), String> {
     Ok((tokens, None))
 }
 
-fn token_at(rest: &str, blank_before: bool) -> Result<(Token, usize), String> {
+/// The token at the front, and how many bytes it takes; a field can stand right behind a bracket or another field.
+fn token_at(rest: &str, of_a_field: bool) -> Result<(Token, usize), String> {
     let first = rest.chars().next().expect("the rest is not empty");
     let leaf = |leaf| Ok((Token::Leaf(leaf), first.len_utf8()));
     match first {
@@ -166,8 +168,8 @@ fn token_at(rest: &str, blank_before: bool) -> Result<(Token, usize), String> {
             Ok((Token::Leaf(Leaf::Text), end + 2))
         }
         '.' => match name_at(&rest[1..]) {
-            Some((_, bytes)) if blank_before => Ok((Token::Leaf(Leaf::Projection), 1 + bytes)),
-            Some(_) => Err("a dot between a bracket and a name".to_string()),
+            Some((_, bytes)) if of_a_field => Ok((Token::Leaf(Leaf::Projection), 1 + bytes)),
+            Some(_) => Err("a dot before a name, behind neither a name nor a bracket".to_string()),
             None => leaf(Leaf::Dot),
         },
         _ => path_at(rest),
@@ -549,14 +551,14 @@ mod tests {
 
     #[test]
     fn a_file_has_its_uses_and_declarations() {
-        let text = "-- What it is.\nuse a.B.{c, _≡_ as d}\nuse a.E as F\npub mod Kid\n\n-- one\n-- more\nabbrev pub one : (x : a) → b\none x = c\n\n\
+        let text = "-- What it is.\nuse a.B.{c, ◌≡◌ as d}\nuse a.E as F\npub mod Kid\n\n-- one\n-- more\nabbrev pub one : (x : a) → b\none x = c\n\n\
                     -- both\nunfoldable mutual\n  unfolding one\n  pub f : a\n  f = g\n\n  pub g : a\n  g = let r : a = f in r\n\n\
                     module _ (n : a) where\n  pub record R (m : a) : Type 0 where\n    pub here : m ≡ n\n      → b\n\n\
                     pub data D : Type 0 where\n  zero one : D\n  (x) · y = keep\n";
         let error = module("A.antt", text).expect_err("a constructor has a type");
         assert!(error.starts_with("A.antt:27:"), "{error}");
         let module = module("A.antt", &text.replace("  (x) · y = keep\n", "")).expect("it can be read");
-        assert_eq!(module.uses[0].names.as_ref().expect("names")[1], ("_≡_".to_string(), "d".to_string()));
+        assert_eq!(module.uses[0].names.as_ref().expect("names")[1], ("◌≡◌".to_string(), "d".to_string()));
         assert_eq!((module.uses[1].alias.as_str(), module.below[0].as_str()), ("F", "Kid"));
         let names: Vec<&str> = module.declarations.iter().map(|found| found.name.as_str()).collect();
         assert_eq!(names, ["one", "f", "g", "R", "D"]);
@@ -565,6 +567,15 @@ mod tests {
         assert_eq!((found[1].lines, found[1].unfolding.len(), found[2].unfolding.len()), ((11, 15), 1, 1));
         assert_eq!((found[3].parameters.len(), found[3].members[0].1.len(), found[3].lines), (2, 5, (20, 23)));
         assert_eq!(found[4].members[0].0, ["zero", "one"]);
+    }
+
+    #[test]
+    fn a_field_stands_right_behind_its_record() {
+        let read = |text| text_nodes("A.antt", text, 1).expect("it can be read");
+        assert!(matches!(&read("(f x).here")[..], [Node::Group(..), Node::Leaf(Leaf::Projection, _)]));
+        assert!(matches!(&read("(f x).0.1")[..], [Node::Group(..), Node::Leaf(Leaf::Projection, _), ..]));
+        assert_eq!(read("x.here.0")[0].name(), Some("x.here.0"));
+        assert!(matches!(&read("λ x. x")[2], Node::Leaf(Leaf::Dot, _)));
     }
 
     #[test]
@@ -585,6 +596,9 @@ mod tests {
             "x",
             "unfolding f",
             "module M (x : a) where\n  f : a",
+            "f : a\nf = (b) .c",
+            "f : a\nf = b .c",
+            "f : a\nf = (.c)",
         ] {
             assert!(module("A.antt", text).is_err(), "{text}");
         }

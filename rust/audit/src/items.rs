@@ -14,8 +14,8 @@ pub struct Item<'a> {
 }
 
 pub enum Form<'a> {
-    /// The path of a `use` item.
-    Use(String),
+    /// The paths of a `use` item, each name in its braces with what stands before them; `x as y` has both names.
+    Use(Vec<String>),
     /// The antt text of a `ghost use` item, from `use` on and without its semicolon.
     GhostUse(&'a str),
     /// A module of another file.
@@ -203,6 +203,11 @@ impl<'a> Reader<'a> {
 
     fn items(&mut self) -> Result<Vec<Item<'a>>, String> {
         let mut items = Vec::new();
+        // What `#![ ]` says first is said of all of them.
+        while self.is("#") && self.second_is("!") {
+            self.next += 2;
+            self.group("[")?;
+        }
         while !self.at_end() {
             items.push(self.item()?);
         }
@@ -229,7 +234,6 @@ impl<'a> Reader<'a> {
         let comment = self.comment();
         let mut attributes = Vec::new();
         while self.take("#") {
-            self.take("!");
             attributes.push(joined(&self.group("[")?));
         }
         let line = self.peek().map_or(0, |token| token.line);
@@ -244,9 +248,10 @@ impl<'a> Reader<'a> {
 
     fn form(&mut self) -> Result<Form<'a>, String> {
         if self.take("use") {
-            let path = joined(&self.until(&[";"])?);
-            self.next += 1;
-            return Ok(Form::Use(path));
+            let mut paths = Vec::new();
+            self.paths("", &mut paths)?;
+            self.expect(";")?;
+            return Ok(Form::Use(paths));
         }
         if self.take("ghost") {
             let at = self.peek().map_or(0, |token| token.at);
@@ -312,6 +317,34 @@ impl<'a> Reader<'a> {
             return Ok(Form::Macro(name, self.group("{")?));
         }
         self.error("no item that is known")
+    }
+
+    /// The paths that begin with these names.
+    fn paths(&mut self, before: &str, paths: &mut Vec<String>) -> Result<(), String> {
+        if self.is("{") {
+            let inside = self.group("{")?;
+            let mut reader = Reader::over(self.path, self.text, &inside);
+            while !reader.at_end() {
+                reader.paths(before, paths)?;
+                if !reader.at_end() {
+                    reader.expect(",")?;
+                }
+            }
+            return Ok(());
+        }
+        let path = match self.take("*") {
+            true => format!("{before}*"),
+            false => format!("{before}{}", self.word()?),
+        };
+        if self.take(":") {
+            self.expect(":")?;
+            return self.paths(&format!("{path}::"), paths);
+        }
+        match self.take("as") {
+            true => paths.push(format!("{path} as {}", self.word()?)),
+            false => paths.push(path),
+        }
+        Ok(())
     }
 
     fn structure(&mut self) -> Result<Form<'a>, String> {
@@ -482,15 +515,18 @@ mod tests {
 
     #[test]
     fn items_have_their_comments_attributes_and_clauses() {
-        let text = "// The file.\nghost use a.{_≡_};\n\n// One.\n// Two.\n#[no_mangle]\npub extern \"C\" fn f(x: u64, out: &mut [u8]) -> u64\n    \
-                    ensures answer { λ r. ⌜ r ≡ {x} ⌝ }\n    requires { ⌜ x ⌝ }\n{ g({ x }) }\nconst N: usize = 1_0;";
+        let text = "// The file.\n#![tactic(auto)]\n\n// First.\nghost use a.{◌≡◌};\n\n// One.\n// Two.\n#[unsafe(no_mangle)]\n\
+                    pub extern \"C\" fn f(x: u64, out: &mut [u8]) -> u64\n    \
+                    ensures answer { result ≡ {x} }\n    requires { x }\n{ g({ x }) }\nconst N: usize = 1_0;";
         let found = items("a.rt", text).expect("it can be read");
-        assert!(matches!(found[0].form, Form::GhostUse("use a.{_≡_}")));
+        assert!(matches!(found[0].form, Form::GhostUse("use a.{◌≡◌}")));
+        assert_eq!((found[0].comment[0].as_str(), found[0].attributes.len()), ("First.", 0));
+        assert!(items("a.rt", "// The file.\n#![tactic(auto)]\n").expect("it can be read").is_empty());
         assert_eq!(found[1].comment, ["One.", "Two."]);
-        assert_eq!((found[1].attributes[0].as_str(), found[1].public), ("no_mangle", true));
+        assert_eq!((found[1].attributes[0].as_str(), found[1].public), ("unsafe(no_mangle)", true));
         let Form::Function(function) = &found[1].form else { panic!("a function") };
         assert_eq!((function.name.as_str(), function.abi.as_deref()), ("f", Some("C")));
-        assert_eq!(function.clauses[0].text, " λ r. ⌜ r ≡ {x} ⌝ ");
+        assert_eq!(function.clauses[0].text, " result ≡ {x} ");
         assert_eq!((function.clauses[0].asks, function.clauses[1].asks), (false, true));
         let named = whole_named_types("a.rt", &function.parameters).expect("they can be read");
         let found_names = parameter_names("a.rt", &function.parameters).expect("they can be read");
@@ -502,8 +538,30 @@ mod tests {
     }
 
     #[test]
+    fn a_use_has_a_path_for_each_name() {
+        let paths = |text| match &items("a.rt", text).expect("it can be read")[0].form {
+            Form::Use(paths) => paths.join(" "),
+            _ => panic!("a use"),
+        };
+        assert_eq!(paths("pub use a::B;"), "a::B");
+        assert_eq!(paths("use a::{B, c::{d, e as f},\n    g::*};"), "a::B a::c::d a::c::e as f a::g::*");
+        for text in ["use a::{b c};", "use a::{b;", "use a.b;", "use a b;", "use a::;"] {
+            assert!(items("a.rt", text).is_err(), "{text}");
+        }
+    }
+
+    #[test]
     fn what_cannot_be_read_is_refused() {
-        for text in ["union u { }", "fn f(", "pub const X = 1;", "struct S { a }, ]", "extern \"D\" { }", "x"] {
+        for text in [
+            "union u { }",
+            "fn f(",
+            "pub const X = 1;",
+            "struct S { a }, ]",
+            "extern \"D\" { }",
+            "x",
+            "#![a",
+            "fn f() { }\n#![a]",
+        ] {
             assert!(items("a.rs", text).is_err(), "{text}");
         }
         let read = |text| whole_named_types("a.rs", &tokens("a.rs", text).expect("tokens")).is_err();

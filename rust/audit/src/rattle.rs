@@ -190,12 +190,14 @@ fn home_of(sources: &Sources, file: &str, name: &str) -> Result<String, String> 
         return Ok(file.to_string());
     }
     for item in found.iter() {
-        let Form::Use(path) = &item.form else { continue };
-        let parts: Vec<&str> = path.split("::").collect();
-        if let [first, modules @ .., last] = &parts[..] {
-            if *last == name {
-                let of = if *first == "crate" { crate_of(file) } else { first };
-                return home_of(sources, &module_file(of, modules), name);
+        let Form::Use(paths) = &item.form else { continue };
+        for path in paths {
+            let parts: Vec<&str> = path.split("::").collect();
+            if let [first, modules @ .., last] = &parts[..] {
+                if *last == name {
+                    let of = if *first == "crate" { crate_of(file) } else { first };
+                    return home_of(sources, &module_file(of, modules), name);
+                }
             }
         }
     }
@@ -205,7 +207,7 @@ fn home_of(sources: &Sources, file: &str, name: &str) -> Result<String, String> 
 impl Side<'_, '_> {
     fn export(&mut self, path: &str, item: &Item) -> Result<(), String> {
         let line = item.line;
-        let named = item.attributes.iter().any(|attribute| attribute == "no_mangle");
+        let named = item.attributes.iter().any(|attribute| attribute == "unsafe(no_mangle)");
         match &item.form {
             Form::Function(function) => {
                 let crosses = function.abi.as_deref() == Some("C");
@@ -271,7 +273,10 @@ impl Side<'_, '_> {
             _ => None,
         });
         let (item, declared) = declared.ok_or_else(|| format!("{home}: {name} is no struct"))?;
-        if item.attributes != ["repr(C)"] || !declared.generics.is_empty() {
+        // What is derived of a struct says nothing of its layout.
+        let laid_out: Vec<&String> =
+            item.attributes.iter().filter(|attribute| !attribute.starts_with("derive(")).collect();
+        if laid_out != ["repr(C)"] || !declared.generics.is_empty() {
             return Err(format!("{home}:{}: {name} has no layout that C knows", item.line));
         }
         let mut fields = Vec::new();
@@ -290,7 +295,7 @@ mod tests {
     #[test]
     fn a_constant_is_followed_to_its_number() {
         let files = Files::of(&[
-            ("crates/a/src/lib.rt", "pub use b::inner::N;\npub struct S { }\nimpl S { pub const X: u8 = b::M; pub const Y: u8 = Self::X; }\npub const K: u8 = N;"),
+            ("crates/a/src/lib.rt", "pub use b::{M, inner::N};\npub struct S { }\nimpl S { pub const X: u8 = b::M; pub const Y: u8 = Self::X; }\npub const K: u8 = N;"),
             ("crates/b/src/lib.rt", "pub mod inner;\npub const M: u8 = 7;"),
             ("crates/b/src/inner.rt", "pub const N: u8 = 8;\npub const P: u8 = 1 + 1;"),
         ]);

@@ -16,9 +16,11 @@ const CONVERSIONS: &str = "c_structs";
 /// The crate whose definitions are all statements: document 01's cases.
 const CASES: &str = "cases";
 
-/// What every file of antt knows, and what a clause of a contract knows beside it.
-const PRELUDE: [&str; 9] = ["→", "×", ":", "=", "_", "Type", "Unit", "⊥", "¬"];
-const LOGIC: [&str; 3] = ["⌜", "⌝", "now"];
+/// What every file of antt knows.
+const PRELUDE: [&str; 11] = ["→", "×", ":", "=", "_", "Type", "Unit", "⊥", "¬", "tt", "absurd"];
+
+/// What an `ensures` knows beside its function's parameters.
+const RESULT: &str = "result";
 
 /// Words of the language that no file here uses.
 const UNKNOWN: [&str; 10] = ["elim", "do", "open", "using", "unfold", "coe", "hcom", "∀", "if", "with"];
@@ -100,9 +102,8 @@ enum Home {
 
 /// The file of a module, by its path in antt.
 fn home(crates: &BTreeSet<&str>, module: &str) -> Home {
-    let Some(rest) = module.strip_prefix("Rattle·") else { return Home::Given };
+    let Some(rest) = module.strip_prefix("Rattle.") else { return Home::Given };
     let (owner, inside) = rest.split_once('.').unwrap_or((rest, ""));
-    let owner = owner.trim_end_matches("·specs").trim_end_matches("·proofs");
     let parts: Vec<&str> = inside.split('.').collect();
     match parts[..] {
         _ if !crates.contains(owner) => Home::Given,
@@ -126,13 +127,17 @@ struct Names {
     meanings: HashMap<String, Meaning>,
     /// The modules by the names they have here.
     modules: HashMap<String, String>,
-    words: &'static [&'static str],
+}
+
+/// The marks of an operator, between its operands; none of another name.
+fn marks(name: &str) -> impl Iterator<Item = &str> {
+    name.split('◌').filter(move |part| name.contains('◌') && !part.is_empty())
 }
 
 impl Names {
     /// Enters a name; each part of an operator's stands for it.
     fn enter(&mut self, name: &str, meaning: &Meaning) {
-        for part in name.split('_').filter(|part| name.contains('_') && !part.is_empty()) {
+        for part in marks(name) {
             self.meanings.insert(part.to_string(), meaning.clone());
         }
         self.meanings.insert(name.to_string(), meaning.clone());
@@ -168,8 +173,8 @@ impl Modules<'_> {
         Err(format!("{path} has no {name}"))
     }
 
-    fn names(&self, path: &str, uses: &[Use], words: &'static [&'static str]) -> Result<Names, String> {
-        let mut names = Names { words, ..Names::default() };
+    fn names(&self, path: &str, uses: &[Use]) -> Result<Names, String> {
+        let mut names = Names::default();
         for line in uses {
             match &line.names {
                 None => drop(names.modules.insert(line.alias.clone(), line.module.clone())),
@@ -187,7 +192,7 @@ impl Modules<'_> {
 
     /// Those of a file of specs/, its own among them.
     fn own_names(&self, path: &str, found: &Module) -> Result<Names, String> {
-        let mut names = self.names(path, &found.uses, &[])?;
+        let mut names = self.names(path, &found.uses)?;
         for declaration in &found.declarations {
             let place = Place { path: path.to_string(), name: declaration.name.clone() };
             names.enter(&declaration.name, &Meaning::Definition(place.clone()));
@@ -219,18 +224,18 @@ impl Walk<'_> {
         if let Some(meaning) = self.names.meanings.get(name) {
             return Ok(meaning.clone());
         }
-        if PRELUDE.contains(&name) || self.names.words.contains(&name) {
+        if PRELUDE.contains(&name) {
             return Ok(Meaning::Given);
         }
         let Some((first, rest)) = name.split_once('.') else {
             return self.error(line, &format!("{name} is nowhere to be found"));
         };
-        // A constructor behind its type, unless a module has that name too.
+        // A constructor behind its type or a field of a definition, unless a module has that name too.
         if let (Some(kind), None) = (self.names.meanings.get(first), self.names.modules.get(first)) {
             return Ok(kind.clone());
         }
         let head = self.names.modules.get(first).map_or(first, String::as_str);
-        if head == first && !first.starts_with("Rattle·") && !["mathlib", "lib", "Prim"].contains(&first) {
+        if head == first && !["Rattle", "mathlib", "lib", "Prim"].contains(&first) {
             return self.error(line, &format!("{first} is no module here"));
         }
         let (module, item) = match rest.rsplit_once('.') {
@@ -241,7 +246,9 @@ impl Walk<'_> {
     }
 
     fn mention(&mut self, name: &str, line: usize) -> Result<(), String> {
-        if self.scope.iter().any(|bound| bound == name) {
+        // A binder, or a field of one.
+        let first = name.split('.').next().unwrap_or(name);
+        if self.scope.iter().any(|bound| bound == first) {
             return Ok(());
         }
         if UNKNOWN.contains(&name) {
@@ -339,10 +346,16 @@ impl Walk<'_> {
         Ok(end + 1)
     }
 
+    /// `record { f = a }`, or `record r { f = a }` with the other fields of `r`.
     fn record(&mut self, nodes: &[Node], from: usize, line: usize) -> Result<usize, String> {
-        let Some(Node::Group('{', inside, _)) = nodes.get(from) else {
+        let braces = match nodes.get(from) {
+            Some(Node::Group('(', ..) | Node::Leaf(Leaf::Name(_), _)) => from + 1,
+            _ => from,
+        };
+        let Some(Node::Group('{', inside, _)) = nodes.get(braces) else {
             return self.error(line, "a record without its braces");
         };
+        self.nodes(&nodes[from..braces])?;
         for field in inside.split(|node| matches!(node, Node::Leaf(Leaf::Semicolon, _))) {
             match field {
                 [] => {}
@@ -350,7 +363,7 @@ impl Walk<'_> {
                 _ => return self.error(line, "a field of no known form"),
             }
         }
-        Ok(from + 1)
+        Ok(braces + 1)
     }
 
     /// What a pattern binds: every name in it that is no constructor.
@@ -405,7 +418,7 @@ impl Walk<'_> {
     fn clause(&mut self, name: &str, clause: &Clause) -> Result<(), String> {
         let outside = self.scope.len();
         let own = |node: &&Node| match node.name() {
-            Some(part) => part != name && !(name.contains('_') && name.split('_').any(|own| own == part)),
+            Some(part) => part != name && !marks(name).any(|own| own == part),
             None => true,
         };
         let left: Vec<Node> = clause.left.iter().filter(own).cloned().collect();
@@ -470,7 +483,7 @@ fn interface(files: &Files) -> Result<BTreeSet<String>, String> {
         for item in items(path, text)? {
             let mut heads = Vec::new();
             match &item.form {
-                Form::Use(path) => heads.extend(path.split("::").next()),
+                Form::Use(paths) => heads.extend(paths.iter().filter_map(|path| path.split("::").next())),
                 Form::Function(function) => {
                     let paths = function.body.windows(3).filter(|part| part[1].is(":") && part[2].is(":"));
                     heads.extend(paths.map(|part| part[0].text));
@@ -490,9 +503,12 @@ fn shown(files: &Files, interface: &BTreeSet<String>) -> Result<BTreeSet<(String
     for of in interface {
         for (path, text) in files.below(&format!("crates/{of}/src"), "rt") {
             for item in items(path, text)?.iter().filter(|item| item.public) {
-                let Form::Use(used) = &item.form else { continue };
-                if let (Some(home), Some(name)) = (used.split("::").next(), used.rsplit("::").next()) {
-                    shown.insert((home.to_string(), name.to_string()));
+                let Form::Use(paths) = &item.form else { continue };
+                for path in paths {
+                    let own = path.split(' ').next().unwrap_or(path);
+                    if let (Some(home), Some(name)) = (own.split("::").next(), own.rsplit("::").next()) {
+                        shown.insert((home.to_string(), name.to_string()));
+                    }
                 }
             }
         }
@@ -509,7 +525,7 @@ fn calls(modules: &Modules, of: &str, path: &str, text: &str, graph: &mut Graph)
             uses.push(use_line(path, &text_nodes(path, text, item.line)?, false)?);
         }
     }
-    let names = modules.names(path, &uses, &LOGIC)?;
+    let names = modules.names(path, &uses)?;
     let inside = found.iter().flat_map(|item| match &item.form {
         Form::Impl(head, items) => items.iter().map(|item| (Some(head), item)).collect::<Vec<_>>(),
         _ => vec![(None, item)],
@@ -543,8 +559,11 @@ fn call(modules: &Modules, names: &Names, name: &str, path: &str, item: &Item, p
     let Form::Function(function) = &item.form else { return Err(format!("{path}: {name} is no function")) };
     let scope = parameter_names(path, &function.parameters)?;
     let mut walk = Walk { path, modules, names, scope, mentions: Mentions::default() };
+    let parameters = walk.scope.len();
     for clause in &function.clauses {
+        walk.scope.extend((!clause.asks).then(|| RESULT.to_string()));
         walk.nodes(&text_nodes(path, clause.text, clause.line)?)?;
+        walk.scope.truncate(parameters);
     }
     Ok(Call {
         name: name.to_string(),

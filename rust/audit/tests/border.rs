@@ -153,8 +153,14 @@ fn missing_and_additional_calls_are_found() {
     );
     found(
         UNITS,
-        "#[no_mangle]\npub extern \"C\" fn chukkanalli_worths(",
+        "#[unsafe(no_mangle)]\npub extern \"C\" fn chukkanalli_worths(",
         "pub extern \"C\" fn chukkanalli_worths(",
+        "an export in part",
+    );
+    found(
+        UNITS,
+        "#[unsafe(no_mangle)]\npub extern \"C\" fn chukkanalli_worths(",
+        "#[no_mangle]\npub extern \"C\" fn chukkanalli_worths(",
         "an export in part",
     );
 }
@@ -309,10 +315,11 @@ fn what_cannot_be_read_is_no_agreement() {
     found(HEADER, "    uint8_t public_card;", "    unsigned char public_card;", "unsigned is no type that is known");
     found(KUHN, "#[repr(C)]", "#[repr(C, packed)]", "a layout that C does not know");
     found(KUHN, "#[repr(C)]\n", "", "KuhnPosition is no struct with C's layout");
+    found(TWINS, "// A position.\n#[repr(C)]\n", "// A position.\n", "KuhnPosition has no layout that C knows");
     found(
         TWINS,
-        "#[repr(C)]\npub struct KuhnPosition",
-        "pub struct KuhnPosition",
+        "// A position.\n#[repr(C)]\n",
+        "// A position.\n#[repr(C, packed)]\n",
         "KuhnPosition has no layout that C knows",
     );
     found(UNITS, ") -> WorthsAnswer", ") -> &WorthsAnswer", "units_calls.rt:");

@@ -10,7 +10,7 @@ use std::os::unix::fs::symlink;
 use std::path::Path;
 use std::process::Stdio;
 
-use common::{folder, program, run, run_line, table, Run};
+use common::{folder, folder_outside, program, run, run_line, table, Run};
 
 const ALWAYS_PASS: &str = "samples/always-pass.txt";
 
@@ -129,7 +129,7 @@ fn the_same_table_is_marked_and_the_same_file_is_told() {
     assert!(headings[2].ends_with(&format!("read by position, same table as {first}")), "{}", headings[2]);
     let ladder = run(["ladder", "kuhn", "2", "1", &first, ALWAYS_PASS]);
     assert!(ladder.out.contains(&format!("same table as {first}\n")), "{}", ladder.out);
-    let link = folder("linked").join("link");
+    let link = folder_outside("linked").join("link");
     symlink(&first, &link).unwrap();
     let link = link.to_str().unwrap();
     let twice = run(["evaluate", "kuhn", "2", "1", &first, &first, link]);
@@ -154,7 +154,7 @@ fn names_that_are_not_text_never_look_alike() {
 
 #[test]
 fn files_are_read_as_they_come_in_a_loop_of_links_or_a_list() {
-    let own = folder("loop");
+    let own = folder_outside("loop");
     symlink(&own, own.join("again")).unwrap();
     symlink(own.join("round"), own.join("round")).unwrap();
     fs::write(own.join("t"), bare(1)).unwrap();

@@ -58,7 +58,17 @@ pub fn table(name: &str, bytes: impl AsRef<[u8]>) -> String {
 /// An empty folder that this test alone uses.
 #[allow(dead_code)]
 pub fn folder(name: &str) -> PathBuf {
-    let path = Path::new(env!("CARGO_TARGET_TMPDIR")).join(name);
+    empty(Path::new(env!("CARGO_TARGET_TMPDIR")).join(name))
+}
+
+/// One outside the repository, where `rt ci` refuses a link and takes every file of Rattle for one of a crate.
+#[allow(dead_code)]
+pub fn folder_outside(name: &str) -> PathBuf {
+    empty(std::env::temp_dir().join(format!("chukkanalli-{name}-{}", std::process::id())))
+}
+
+#[allow(dead_code)]
+fn empty(path: PathBuf) -> PathBuf {
     let _ = fs::remove_dir_all(&path);
     fs::create_dir_all(&path).expect("the tests' folder can be written");
     path
