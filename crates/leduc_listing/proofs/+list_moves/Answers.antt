@@ -41,7 +41,23 @@ move_bound-moves-requires t c = record {
 
 pub list_moves-requires : goal.list_moves-requires
 list_moves-requires t c = let h0 = moves-length c.args.left (placed c.args.s) (placed c.after-t.result) c.args.bound _ c.if-left-eq0.false c.if-bound-eq0.false
-    (sym c.is_move.ensures ∙ c.if-not-is_move.false) c.after-t.ensures.0 c.move_bound-moves.ensures.0 in (omega (arith, c.decreases, c.if-bound-eq0.false, c.if-left-eq0.false, c.move_bound-moves.ensures.1), ((record { seats = c.after-t.ensures.1; places = omega (arith, c.requires.room.0.places, c.after-t.ensures.2, c.if-left-eq0.false) }, c.move_bound-moves.ensures.1), omega (arith, c.requires.bound_in_bounds, c.list_moves-next.auto.out, c.list_moves-next.ensures.next, c.write_first-here.auto.out, c.write_first-here.ensures.next)))
+    (sym c.is_move.ensures ∙ c.if-not-is_move.false) c.after-t.ensures.0 c.move_bound-moves.ensures.0 in (
+      omega (arith, c.decreases, c.if-bound-eq0.false, c.if-left-eq0.false, c.move_bound-moves.ensures.1),
+      (
+        (
+          record { seats = c.after-t.ensures.1; places = omega (arith, c.requires.room.0.places, c.after-t.ensures.2, c.if-left-eq0.false) },
+          c.move_bound-moves.ensures.1,
+        ),
+        omega (
+          arith,
+          c.requires.bound_in_bounds,
+          c.list_moves-next.auto.out,
+          c.list_moves-next.ensures.next,
+          c.write_first-here.auto.out,
+          c.write_first-here.ensures.next,
+        ),
+      ),
+    )
 
 pub returns : goal.returns
 returns t c = let a = c.args in
