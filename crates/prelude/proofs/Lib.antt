@@ -3,3 +3,5 @@ pub mod Tests
 pub mod Lists
 pub mod Amounts
 pub mod Parts
+pub mod Bytes
+pub mod Sides

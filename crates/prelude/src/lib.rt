@@ -1,69 +1,59 @@
 // What both games share: tests, sums and lists over the numbers below a bound (in specs/, with laws in proofs/), and the copying and testing of bytes.
 #![tactic(auto)]
 
-ghost use Rattle.std.specs.Prelude.{◌≡◌, ◌+◌, ◌≤◌, ltb, length, get_or, take};
+ghost use Rattle.std.specs.Prelude.{◌≡◌, ◌+◌, ◌≤◌, not, eqb, ltb, length, get_or, take};
+ghost use Rattle.std.specs.List.{list_any};
 ghost use Rattle.std.proofs.Math.Seq.{paste};
-ghost use Rattle.prelude.specs.Finite.{some, has};
+ghost use Rattle.prelude.specs.Finite.{some, has, those};
+ghost use Rattle.prelude.specs.internal.Places.{at_place};
 
-// The first count bytes of a source go to an output from a place on; nothing else changes there.
-pub fn copy_at(out: &mut [u8], at: usize, source: &[u8], count: usize)
-    requires { (at + count ≤ length out.old) × (count ≤ length source.now) }
-    ensures { out.new ≡ paste out.old at source.now count }
+// The bytes of a source go to an output from a place on; nothing else changes there.
+pub fn copy_at(out: &mut [u8], at: usize, source: &[u8])
+    requires { at + length source.now ≤ length out.old }
+    ensures { out.new ≡ paste out.old at source.now (length source.now) }
 {
-    let mut i = 0;
-    while i < count {
-        out[at + i] = source[i];
-        i += 1;
-    }
+    out[at..at + source.len()].copy_from_slice(source);
 }
 
-pub fn wide(x: u8) -> usize
-    ensures { result ≡ x }
+// Whether a number is among the bytes.
+pub fn contains(bytes: &[u8], x: usize) -> bool
+    ensures { result ≡ list_any (λ b. eqb b x) bytes.now }
 {
-    x as usize
+    bytes.iter().any(|b| usize::from(*b) == x)
 }
 
-// Whether x is among the first count bytes.
-pub fn contains(bytes: &[u8], count: usize, x: usize) -> bool
-    requires { count ≤ length bytes.now }
-    ensures { result ≡ has x (take count bytes.now) }
+// Whether a byte is above a bound.
+pub fn any_above(bytes: &[u8], bound: usize) -> bool
+    ensures { result ≡ list_any (λ b. ltb bound b) bytes.now }
 {
-    let mut i = 0;
-    while i < count {
-        if wide(bytes[i]) == x {
+    bytes.iter().any(|b| bound < usize::from(*b))
+}
+
+// Whether a byte stands there twice.
+pub fn repeats(bytes: &[u8]) -> bool
+    ensures { result ≡ some (length bytes.now) (λ i. has (get_or bytes.now i 0) (take i bytes.now)) }
+{
+    for (i, b) in bytes.iter().enumerate() {
+        if contains(&bytes[..i], *b as usize) {
             return true;
         }
-        i += 1;
     }
     false
 }
 
-// Whether one of the first count bytes is above a bound.
-pub fn any_above(bytes: &[u8], count: usize, bound: usize) -> bool
-    requires { count ≤ length bytes.now }
-    ensures { result ≡ some count (λ i. ltb bound (get_or bytes.now i 0)) }
+// Of the numbers below a bound that are not among the bytes, in ascending order, the one at a place; none where there are not so many.
+pub fn nth_left(bytes: &[u8], bound: usize, place: usize) -> Option<usize>
+    ensures { result ≡ at_place (those bound (λ c. not (has c bytes.now))) place }
 {
-    let mut i = 0;
-    while i < count {
-        if bound < wide(bytes[i]) {
-            return true;
+    let mut passed = 0;
+    for x in 0..bound {
+        if contains(bytes, x) {
+            continue;
         }
-        i += 1;
-    }
-    false
-}
-
-// Whether one of the first count bytes stands there twice.
-pub fn repeats(bytes: &[u8], count: usize) -> bool
-    requires { count ≤ length bytes.now }
-    ensures { result ≡ some count (λ i. has (get_or bytes.now i 0) (take i bytes.now)) }
-{
-    let mut i = 0;
-    while i < count {
-        if contains(bytes, i, wide(bytes[i])) {
-            return true;
+        if passed == place {
+            return Some(x);
         }
-        i += 1;
+        passed += 1;
     }
-    false
+    None
 }

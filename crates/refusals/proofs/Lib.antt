@@ -1,3 +1,4 @@
 -- Laws for the crates above.
 pub mod Order
 pub mod Facts
+pub mod Outcomes

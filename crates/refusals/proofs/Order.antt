@@ -1,11 +1,9 @@
 -- Laws of the order of checks. Assumes nothing.
 use mathlib.Core.Path.{◌≡◌, refl, sym, ◌∙◌}
-use mathlib.Core.Bool.{Bool, true, false, cond}
+use mathlib.Core.Bool.{Bool, true, false}
 use mathlib.Core.List.{List, [], ◌∷◌, ◌++◌}
 use Prim.Native.Nat.{ℕ, zero, suc}
 use native.Mathlib.Omega.{arith}
-use lib.Dec.{eqb}
-use borrow.Author.Tests.{ne_eqb}
 use Rattle.refusals.specs.Refusals.{Check, ◌refuses◌, first}
 use Rattle.refusals.specs.Facts.{Numbered}
 use Rattle.refusals.specs.internal.Settled.{Settled}
@@ -29,13 +27,13 @@ fails_rest false k cs e = e
 
 -- ---- lists one behind the other
 -- checks that refuse decide
-first_refused : (xs ys : List Check) → (first xs ≡ 0 → ⊥) → first xs ≡ first (xs ++ ys)
+pub first_refused : (xs ys : List Check) → (first xs ≡ 0 → ⊥) → first xs ≡ first (xs ++ ys)
 first_refused [] ys f = absurd (f refl)
 first_refused ((true refuses k) ∷ xs) ys f = refl
 first_refused ((false refuses k) ∷ xs) ys f = first_refused xs ys f
 
 -- checks that pass leave it to those behind
-first_passed : (xs ys : List Check) → Numbered xs → first xs ≡ 0 → first (xs ++ ys) ≡ first ys
+pub first_passed : (xs ys : List Check) → Numbered xs → first xs ≡ 0 → first (xs ++ ys) ≡ first ys
 first_passed [] ys n e = refl
 first_passed ((b refuses zero) ∷ xs) ys n e = absurd n
 first_passed ((true refuses suc k) ∷ xs) ys n e = absurd (omega arith)
@@ -61,8 +59,3 @@ module _ (xs ys : List Check) {P Q : Type 0} {a : ℕ} where
   -- checks that pass, and others behind them
   pub settled-behind : {b : ℕ} → Numbered xs → Settled xs P a → a ≡ 0 → Settled ys Q b → Settled (xs ++ ys) (P × Q) b
   settled-behind n s z t = record { number = t.number ∙ sym (first_passed xs ys n (sym s.number ∙ z)); passed = λ w. (s.passed z, t.passed w) }
-
--- both made, and the earlier refusal taken
-pub settled-earlier : (xs ys : List Check) {P Q : Type 0} {a b : ℕ} → Numbered xs → Settled xs P a → Settled ys Q b → (r : ℕ) → r ≡ cond (eqb a 0) b a → Settled (xs ++ ys) (P × Q) r
-settled-earlier xs ys {a = zero} n s t r e = rw e (settled-behind xs ys n s refl t)
-settled-earlier xs ys {a = suc a} n s t r e = rw (e, ne_eqb (suc a) 0 (λ z. omega arith)) (settled_first xs ys s (λ z. omega arith))

@@ -1,56 +1,56 @@
-// The numbers that a refused call answers, in the order of document 01's list; specs/Refusals.antt says what each means. 0 is an accepted call.
+// What a call answers where it refuses, and the payoffs that both games answer where they do not. specs/Refusals.antt says what each refusal means, and
+// specs/Outcomes.antt what a result means to a caller.
 #![tactic(auto)]
 
-ghost use Rattle.std.specs.Prelude.{◌≡◌, cond, eqb};
+ghost use Rattle.std.specs.Prelude.{◌≡◌};
+ghost use Rattle.refusals.specs.Outcomes.{number, number_of};
 
-pub const ACCEPTED: u64 = 0;
+// Why a call is refused, in the order of the checks. Its number is the one that C sees; 0 is an accepted call.
+#[derive(Clone, Copy, Debug, PartialEq, Eq)]
+pub enum Refusal {
+    Game = 1,
+    Seats,
+    Tree,
+    Memory,
+    Seat,
+    Parts,
+    Table,
+    Sum,
+    Output,
+    CardCount,
+    Card,
+    CardTwice,
+    History,
+    Closed,
+    Illegal,
+    NoPublic,
+    EarlyPublic,
+    EndMark,
+    Unreachable,
+    Unfit,
+}
 
-pub const GAME: u64 = 1;
-
-pub const SEATS: u64 = 2;
-
-pub const TREE: u64 = 3;
-
-pub const MEMORY: u64 = 4;
-
-pub const SEAT: u64 = 5;
-
-pub const PARTS: u64 = 6;
-
-pub const TABLE: u64 = 7;
-
-pub const SUM: u64 = 8;
-
-pub const OUTPUT: u64 = 9;
-
-pub const CARD_COUNT: u64 = 10;
-
-pub const CARD: u64 = 11;
-
-pub const CARD_TWICE: u64 = 12;
-
-pub const HISTORY: u64 = 13;
-
-pub const CLOSED: u64 = 14;
-
-pub const ILLEGAL: u64 = 15;
-
-pub const NO_PUBLIC: u64 = 16;
-
-pub const EARLY_PUBLIC: u64 = 17;
-
-pub const END_MARK: u64 = 18;
-
-pub const UNREACHABLE: u64 = 19;
-
-pub const UNFIT: u64 = 20;
-
-// The earlier of two refusals, a before b in the order of the checks.
-pub fn earlier(a: u64, b: u64) -> u64
-    ensures { result ≡ cond (eqb a 0) b a }
-{
-    if a == ACCEPTED {
-        return b;
+impl Refusal {
+    pub fn number(self) -> u64
+        ensures { result ≡ number self }
+    {
+        self as u64
     }
-    a
+}
+
+// The number of a result: 0 if the call was accepted.
+pub fn number_of<T>(outcome: &Result<T, Refusal>) -> u64
+    ensures { result ≡ number_of outcome.now }
+{
+    match outcome {
+        Ok(_) => 0,
+        Err(refusal) => refusal.number(),
+    }
+}
+
+// The payoff of each of count seats, 0 past them.
+#[derive(Clone, Copy)]
+pub struct Payoffs {
+    pub count: usize,
+    pub payoffs: [i64; 10],
 }

@@ -1,5 +1,4 @@
 -- Whether a byte stands twice: none of those passed has come before. Assumes nothing.
-use Prim.Native.Nat.{◌≤◌, ◌-◌}
 use mathlib.Core.Path.{◌≡◌}
 use mathlib.Core.Bool.{false}
 use lib.ListN.{get_or, take}
@@ -7,7 +6,4 @@ use Rattle.prelude.specs.Finite.{some, has}
 use Rattle.prelude.proofs.repeats.Given as goal
 
 abbrev pub invariant-loop-i : goal.invariant-loop-i
-invariant-loop-i l = (l.i ≤ l.count) × (some l.i (λ k. has (get_or l.bytes k 0) (take k l.bytes)) ≡ false)
-
-abbrev pub decreases-loop-i : goal.decreases-loop-i
-decreases-loop-i l = l.count - l.i
+invariant-loop-i l = some l.i (λ k. has (get_or l.bytes k 0) (take k l.bytes)) ≡ false

@@ -1,0 +1,2 @@
+-- What stands between functions: no public contract and no statement for readers reaches it.
+pub mod Places
