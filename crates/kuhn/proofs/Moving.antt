@@ -11,19 +11,19 @@ use lib.ListN.{length, get_or, take, set, length-set}
 use lib.Seq.{take-suc-set, get_or-set_other}
 use borrow.Author.Tests.{le-leb, ltb-true, ltb-false, not-false}
 use Rattle.refusals.specs.Facts.{NoneHolds}
+use Rattle.refusals.specs.Outcomes.{moved}
 use Rattle.prelude.specs.Finite.{◌and◌}
 use Rattle.prelude.proofs.Tests.{Tested, holds, fails, tested, and_left, and_right}
 use Rattle.prelude.proofs.Lists.{those_below}
 use Rattle.kuhn_rules.specs.Rules.{BET, due, live, left, remaining}
 use Rattle.kuhn_rules.specs.Moves.{Reached, deal, act}
 use Rattle.kuhn_positions.specs.Positions.{cards_of, history_of, with_card, with_action, counted, reachable}
-use Rattle.kuhn_positions.proofs.Positions.{dealt_is, acted_is, seats_most}
-use Rattle.kuhn.specs.Calls.{moved, deal-refusal, dealt, step_refusal, stepped}
+use Rattle.kuhn_positions.proofs.Positions.{dealt_is, acted_is, room_to_act, seats_least, seats_most}
+use Rattle.kuhn.specs.Calls.{deal_refusal, dealt, step_refusal, stepped}
 use Rattle.kuhn.specs.Facts.{Sized, KeptBut, OneCardMore, OneActionMore, Deals, Steps}
 use Rattle.kuhn.specs.declared.KuhnPoker.{KuhnPoker}
 use Rattle.kuhn_positions.specs.declared.KuhnState.{KuhnState}
-use Rattle.kuhn.proofs.Answers.{room_to_act}
-use Rattle.kuhn.proofs.Decides.{moved_number, calls-decide}
+use Rattle.kuhn.proofs.Decides.{calls-decide}
 use Rattle.kuhn.proofs.Facts.{reachable_by_moves}
 
 -- ---- one place more of a list
@@ -89,8 +89,8 @@ pub deals : Deals
 deals g s k z =
     record {
       outcome = λ e. (deal_passed g s z k e).3;
-      adds = λ e. subst (OneCardMore g.players s _) (moved_new (deal-refusal g s k) s _ e) (card-added g s z k e);
-      keeps = moved_old (deal-refusal g s k) s _;
+      adds = λ e. subst (OneCardMore g.players s _) (moved_new (deal_refusal g s k) s _ e) (card-added g s z k e);
+      keeps = moved_old (deal_refusal g s k) s _;
     }
 
 -- ---- step
@@ -103,16 +103,18 @@ counted-known a = go (tested (ltb BET a))
     go (fails t) = rw t (le-leb a BET (ltb-false BET a t))
 
 module _ (g : KuhnPoker) (s : KuhnState) (z : Sized s) (a : ℕ) (e : (stepped g s a).refusal ≡ 0) where
-  step_passed : (reachable g.players s ≡ true) × (live g.players (cards_of s) (history_of s) ≡ true)
+  step_passed : (2 ≤ g.players) × (g.players ≤ 10) × (reachable g.players s ≡ true) × (live g.players (cards_of s) (history_of s) ≡ true)
   unfolding NoneHolds
-  step_passed = let (x, (b, (c, d))) = ((calls-decide g s).step_decides a).accepts.0 e in (not-false _ b, not-false _ c)
+  step_passed =
+      let (x, (b, (c, d))) = ((calls-decide g s).step_decides a).accepts.0 e in
+      (seats_least g.players x, seats_most g.players x, not-false _ b, not-false _ c)
 
   action-added : OneActionMore g.players s (counted a) (with_action s (counted a))
   action-added =
-      let (r, l) = step_passed in
+      let (least, most, r, l) = step_passed in
       let (x, y, h) = (reachable_by_moves g.players s).0 r in
       let size = acted_is s z.cards-size z.history-size x y in
-      let room = room_to_act g s z.cards-size z.history-size (sym (moved_number (step_refusal g s) s _) ∙ e) in
+      let room = room_to_act g.players s z.cards-size z.history-size (omega arith) most r l in
       let history = take_more s.history s.acted (counted a) (omega (arith, z.history-size)) in
       record {
         history_is = history;

@@ -1,49 +1,23 @@
 // Kuhn poker for 2 to 10 seats: positions by value, the rules calls and the saved-position check.
-// A call refuses by document 01's numbers, in its order, and then gives the position back as it came.
+// A call makes its checks in the order of the refusals' numbers, and answers the first that fails.
 #![tactic(auto)]
 
-ghost use Rattle.std.specs.Prelude.{◌≡◌, [], ◌∷◌, ◌≤◌, ◌<◌, length, take};
+ghost use Rattle.std.specs.Prelude.{◌≡◌, [], ◌∷◌, length};
+ghost use Rattle.refusals.specs.Outcomes.{number_of, moved_by, written_by, paid_by, written};
 ghost use Rattle.kuhn_rules.specs.Rules.{PASS, BET};
 ghost use Rattle.kuhn_rules.specs.Stakes.{ante, stake};
-ghost use Rattle.kuhn_positions.specs.Positions.{position_checks};
-ghost use Rattle.kuhn.specs.Calls.{start-refusal, started, deal-refusal, dealt, step_refusal, stepped, legal_of, legal-refusal};
-ghost use Rattle.kuhn.specs.Calls.{listed, key_of, key-refusal, keyed, written, payoff-refusal, paid, checked};
-ghost use Rattle.refusals.specs.Refusals.{first};
+ghost use Rattle.kuhn_positions.specs.Positions.{initial};
+ghost use Rattle.kuhn.specs.Calls.{start_refusal, started, dealt, stepped, legal_of, listed, key_of, keyed, paid, checked};
 
 pub use kuhn_positions::KuhnState;
-use kuhn_positions::checks::{
-    end_mark, is_live, is_over, position_refusal, saved_refusal, seats_outside,
-};
+use kuhn_positions::hand::{Hand, end_mark, seats_outside};
 use kuhn_positions::{with_action, with_card};
+use refusals::{Payoffs, Refusal};
 
 // The game: how many seats play.
 #[derive(Clone, Copy)]
 pub struct KuhnPoker {
     pub players: usize,
-}
-
-// A call's refusal number, 0 if it was accepted, and a position: the new one of an accepted deal or step, else the one handed in.
-#[derive(Clone, Copy)]
-pub struct Moved {
-    pub refusal: u64,
-    pub state: KuhnState,
-}
-
-// The same for a call that writes: how many bytes it wrote.
-#[derive(Clone, Copy)]
-pub struct Written {
-    pub refusal: u64,
-    pub state: KuhnState,
-    pub count: usize,
-}
-
-// The same for the payoffs: one for each of count seats, 0 past them.
-#[derive(Clone, Copy)]
-pub struct Payoffs {
-    pub refusal: u64,
-    pub state: KuhnState,
-    pub count: usize,
-    pub payoffs: [i64; 10],
 }
 
 impl KuhnPoker {
@@ -66,14 +40,14 @@ impl KuhnPoker {
 
     pub const STAKE: u64 = kuhn_money::STAKE;
 
-    // Document 01's numbers, which the constants have: the game, actions, seats, places of a position, stakes.
+    // What the constants are: the game, actions, seats, places of a position, stakes.
     fn constants() -> [u64; 9]
         ensures { result ≡ 0 ∷ PASS ∷ BET ∷ 2 ∷ 10 ∷ 10 ∷ 19 ∷ ante ∷ stake ∷ [] }
     {
         [
             Self::NUMBER as u64,
-            Self::PASS as u64,
-            Self::BET as u64,
+            u64::from(Self::PASS),
+            u64::from(Self::BET),
             Self::LEAST_SEATS as u64,
             Self::MOST_SEATS as u64,
             Self::CARDS as u64,
@@ -83,250 +57,122 @@ impl KuhnPoker {
         ]
     }
 
-    // Number 2: the seat count is outside 2 to 10.
-    pub fn validate(self) -> u64
-        ensures { result ≡ start-refusal self }
+    // Refuses a seat count outside 2 to 10.
+    pub fn validate(self) -> Result<(), Refusal>
+        ensures { number_of result ≡ start_refusal self }
     {
         if seats_outside(self.players) {
-            return refusals::SEATS;
+            return Err(Refusal::Seats);
         }
-        refusals::ACCEPTED
+        Ok(())
     }
 
     // Start: the initial position.
-    pub fn initial_state(self) -> Moved
-        ensures { result ≡ started self }
+    pub fn initial_state(self) -> Result<KuhnState, Refusal>
+        ensures { moved_by initial result ≡ started self }
     {
-        let refusal = self.validate();
-        let state = KuhnState::new();
-        Moved { refusal, state }
+        self.validate()?;
+        Ok(KuhnState::new())
     }
 
     // Step: the seat whose turn it is acts; every action above 1 counts as a bet.
-    pub fn step(self, state: KuhnState, action: usize) -> Moved
-        ensures { result ≡ stepped self state action }
+    #[tactic(auto, using(prelude::proofs::Sides::tests), unfolding(crate::specs::Calls::step_refusal))]
+    pub fn step(self, state: KuhnState, action: usize) -> Result<KuhnState, Refusal>
+        ensures { moved_by state result ≡ stepped self state action }
     {
-        let refusal = self.step_refusal(state);
-        if refusal != refusals::ACCEPTED {
-            return Moved { refusal, state };
+        let hand = Hand::reached(self.players, state)?;
+        if !hand.is_live() {
+            return Err(Refusal::Unfit);
         }
-        let next = with_action(state, action);
-        Moved {
-            refusal,
-            state: next,
-        }
-    }
-
-    fn step_refusal(self, state: KuhnState) -> u64
-        ensures { result ≡ step_refusal self state }
-    {
-        let refusal = position_refusal(self.players, state);
-        if refusal != refusals::ACCEPTED {
-            return refusal;
-        }
-        if !is_live(self.players, state) {
-            return refusals::UNFIT;
-        }
-        refusals::ACCEPTED
+        Ok(with_action(state, action))
     }
 
     // Deal: the next seat gets the card of an outcome, which counts those left from the lowest.
-    pub fn apply_chance_node(self, state: KuhnState, outcome: usize) -> Moved
-        ensures { result ≡ dealt self state outcome }
+    #[tactic(auto, using(prelude::proofs::Sides::tests), unfolding(crate::specs::Calls::deal_refusal))]
+    pub fn apply_chance_node(self, state: KuhnState, outcome: usize) -> Result<KuhnState, Refusal>
+        ensures { moved_by state result ≡ dealt self state outcome }
     {
-        let refusal = self.deal_refusal(state, outcome);
-        if refusal != refusals::ACCEPTED {
-            return Moved { refusal, state };
+        let hand = Hand::reached(self.players, state)?;
+        let cards = hand.cards();
+        if self.players <= cards.len() {
+            return Err(Refusal::Unfit);
         }
-        let cards = state.cards;
-        let card = kuhn_cards::nth_remaining(&cards, state.dealt, self.players, outcome);
-        let next = with_card(state, card);
-        Moved {
-            refusal,
-            state: next,
+        match kuhn_cards::nth_remaining(cards, self.players, outcome) {
+            Some(card) => Ok(with_card(state, card)),
+            None => Err(Refusal::Unfit),
         }
     }
 
-    fn deal_refusal(self, state: KuhnState, outcome: usize) -> u64
-        ensures { result ≡ deal-refusal self state outcome }
+    // Legal list: what a seat may do, written to out; nothing while it is not its turn. Answers how many bytes that is.
+    #[tactic(auto, using(prelude::proofs::Sides::tests), unfolding(crate::specs::Calls::legal_refusal, crate::specs::Calls::legal_of))]
+    pub fn legal_actions(
+        self,
+        state: KuhnState,
+        seat: usize,
+        out: &mut [u8],
+    ) -> Result<usize, Refusal>
+        ensures answer { written_by state result ≡ listed self state seat (length out.old) }
+        ensures output { out.new ≡ written (number_of result) (legal_of self state seat) out.old }
     {
-        let refusal = position_refusal(self.players, state);
-        if refusal != refusals::ACCEPTED {
-            return refusal;
+        let hand = Hand::reached(self.players, state)?;
+        let actions = hand.legal(seat);
+        if out.len() < actions.len() {
+            return Err(Refusal::Output);
         }
-        let n = self.players;
-        let dealt = state.dealt;
-        if n <= dealt {
-            return refusals::UNFIT;
-        }
-        let cards = state.cards;
-        if n < kuhn_cards::nth_remaining(&cards, dealt, n, outcome) {
-            return refusals::UNFIT;
-        }
-        refusals::ACCEPTED
+        prelude::copy_at(out, 0, actions);
+        Ok(actions.len())
     }
 
-    // Legal list: what a seat may do, written to out; nothing while it is not its turn.
-    pub fn legal_actions(self, state: KuhnState, agent: usize, out: &mut [u8]) -> Written
-        ensures answer { result ≡ listed self state agent (length out.old) }
-        ensures output { out.new ≡ written result.refusal (legal_of self state agent) out.old }
+    // Key: what a seat that has a card knows, written to out. Answers how many bytes that is.
+    #[tactic(auto, using(prelude::proofs::Sides::tests), unfolding(crate::specs::Calls::key_refusal, crate::specs::Calls::key_of))]
+    pub fn information_state_key(
+        self,
+        state: KuhnState,
+        seat: usize,
+        out: &mut [u8],
+    ) -> Result<usize, Refusal>
+        ensures answer { written_by state result ≡ keyed self state seat (length out.old) }
+        ensures output { out.new ≡ written (number_of result) (key_of state seat) out.old }
     {
-        let refusal = self.legal_refusal(state, agent, out.len());
-        if refusal != refusals::ACCEPTED {
-            return Written {
-                refusal,
-                state,
-                count: 0,
-            };
+        let hand = Hand::reached(self.players, state)?;
+        let cards = hand.cards();
+        if cards.len() <= seat {
+            return Err(Refusal::Unfit);
         }
-        let legal = self.legal(state, agent);
-        let count = legal.count;
-        let actions = legal.actions;
-        prelude::copy_at(out, 0, &actions, count);
-        Written {
-            refusal,
-            state,
-            count,
+        let history = hand.history();
+        if out.len() < 2 + history.len() {
+            return Err(Refusal::Output);
         }
-    }
-
-    fn legal_refusal(self, state: KuhnState, agent: usize, room: usize) -> u64
-        ensures { result ≡ legal-refusal self state agent room }
-    {
-        let refusal = position_refusal(self.players, state);
-        if refusal != refusals::ACCEPTED {
-            return refusal;
-        }
-        let legal = self.legal(state, agent);
-        if room < legal.count {
-            return refusals::OUTPUT;
-        }
-        refusals::ACCEPTED
-    }
-
-    // What a seat may do, by value.
-    fn legal(self, state: KuhnState, agent: usize) -> Legal
-        requires { first (position_checks self.players state) ≡ 0 }
-        ensures { (take result.count result.actions ≡ legal_of self state agent) × (result.count ≡ length (legal_of self state agent)) × (result.count ≤ 2) }
-    {
-        let n = self.players;
-        let acted = state.acted;
-        let actions = [Self::PASS, Self::BET];
-        if !is_live(n, state) {
-            return Legal { count: 0, actions };
-        }
-        if agent != acted % n {
-            return Legal { count: 0, actions };
-        }
-        Legal { count: 2, actions }
-    }
-
-    // Key: what a seat that has a card knows, written to out.
-    pub fn information_state_key(self, state: KuhnState, agent: usize, out: &mut [u8]) -> Written
-        ensures answer { result ≡ keyed self state agent (length out.old) }
-        ensures output { out.new ≡ written result.refusal (key_of state agent) out.old }
-    {
-        let refusal = self.key_refusal(state, agent, out.len());
-        if refusal != refusals::ACCEPTED {
-            return Written {
-                refusal,
-                state,
-                count: 0,
-            };
-        }
-        let acted = state.acted;
-        let cards = state.cards;
-        let history = state.history;
-        out[0] = agent as u8;
-        out[1] = cards[agent];
-        prelude::copy_at(out, 2, &history, acted);
-        Written {
-            refusal,
-            state,
-            count: 2 + acted,
-        }
-    }
-
-    fn key_refusal(self, state: KuhnState, agent: usize, room: usize) -> u64
-        ensures { result ≡ key-refusal self state agent room }
-    {
-        let refusal = position_refusal(self.players, state);
-        if refusal != refusals::ACCEPTED {
-            return refusal;
-        }
-        if state.dealt <= agent {
-            return refusals::UNFIT;
-        }
-        if room < 2 + state.acted {
-            return refusals::OUTPUT;
-        }
-        refusals::ACCEPTED
+        out[0] = seat as u8;
+        out[1] = cards[seat];
+        prelude::copy_at(out, 2, history);
+        Ok(2 + history.len())
     }
 
     // Payoff: what each seat gains or loses at the end of the hand.
-    pub fn payouts(self, state: KuhnState) -> Payoffs
-        ensures { result ≡ paid self state }
+    #[tactic(auto, using(prelude::proofs::Sides::tests), unfolding(crate::specs::Calls::payoff_refusal))]
+    pub fn payouts(self, state: KuhnState) -> Result<Payoffs, Refusal>
+        ensures { paid_by state result ≡ paid self state }
     {
-        let refusal = self.payoff_refusal(state);
-        if refusal != refusals::ACCEPTED {
-            let none = [0i64; 10];
-            return Payoffs {
-                refusal,
-                state,
-                count: 0,
-                payoffs: none,
-            };
+        let hand = Hand::reached(self.players, state)?;
+        if !hand.is_over() {
+            return Err(Refusal::Unfit);
         }
-        let n = self.players;
-        let acted = state.acted;
-        let cards = state.cards;
-        let history = state.history;
-        let payoffs = kuhn_money::payoffs(&cards, &history, acted, n);
-        Payoffs {
-            refusal,
-            state,
-            count: n,
-            payoffs,
-        }
-    }
-
-    fn payoff_refusal(self, state: KuhnState) -> u64
-        ensures { result ≡ payoff-refusal self state }
-    {
-        let refusal = position_refusal(self.players, state);
-        if refusal != refusals::ACCEPTED {
-            return refusal;
-        }
-        if !is_over(self.players, state) {
-            return refusals::UNFIT;
-        }
-        refusals::ACCEPTED
+        Ok(Payoffs {
+            count: self.players,
+            payoffs: kuhn_money::payoffs(hand.cards(), hand.history()),
+        })
     }
 
     // Saved position: whether it can be one, and its end mark says whether the hand has ended.
-    pub fn validate_decoded_state(self, state: KuhnState, done: u64) -> Moved
-        ensures { result ≡ checked self state done }
+    #[tactic(auto, using(prelude::proofs::Sides::tests), unfolding(crate::specs::Calls::saved_refusal))]
+    pub fn validate_decoded_state(self, state: KuhnState, done: u64) -> Result<(), Refusal>
+        ensures { checked self state done ≡ record { refusal = number_of result; state = state } }
     {
-        let refusal = saved_refusal(self.players, state);
-        if refusal != refusals::ACCEPTED {
-            return Moved { refusal, state };
+        let hand = Hand::saved(self.players, state)?;
+        if done != end_mark(hand.history(), self.players) {
+            return Err(Refusal::EndMark);
         }
-        if done != end_mark(self.players, state) {
-            return Moved {
-                refusal: refusals::END_MARK,
-                state,
-            };
-        }
-        Moved {
-            refusal: refusals::ACCEPTED,
-            state,
-        }
+        Ok(())
     }
-}
-
-// What a seat may do: the first count of the actions.
-#[derive(Clone, Copy)]
-struct Legal {
-    count: usize,
-    actions: [u8; 2],
 }

@@ -1,8 +1,8 @@
 // The betting: what depends on the history alone.
 #![tactic(auto)]
 
-ghost use Rattle.std.specs.Prelude.{◌≡◌, ℕ, ◌≤◌, ◌<◌, length, get_or, take};
-ghost use Rattle.kuhn_rules.specs.Rules.{ended, overrun, bets};
+ghost use Rattle.std.specs.Prelude.{◌≡◌, ◌≢◌, ℕ, ◌≤◌, ◌<◌, length, get_or, IfNone, IfSome};
+ghost use Rattle.kuhn_rules.specs.Rules.{BET, ended, overrun, bets};
 ghost use Rattle.kuhn_rules.specs.Reached.{unknown};
 
 // The actions.
@@ -10,76 +10,58 @@ pub const PASS: u8 = 0;
 
 pub const BET: u8 = 1;
 
-// The place of the first bet, or acted where there is none.
-pub fn first_bet(history: &[u8], acted: usize) -> usize
-    requires { acted ≤ length history.now }
-    ensures within { result ≤ acted }
-    ensures before { (k : ℕ) → k < result → get_or history.now k 0 ≡ 1 → ⊥ }
-    ensures found { result < acted → get_or history.now result 0 ≡ 1 }
+// The place of the first bet.
+pub fn first_bet(history: &[u8]) -> Option<usize>
+    ensures none { IfNone result ((k : ℕ) → k < length history.now → get_or history.now k 0 ≢ BET) }
+    ensures within { IfSome result (λ b. b < length history.now) }
+    ensures before { IfSome result (λ b. (k : ℕ) → k < b → get_or history.now k 0 ≢ BET) }
+    ensures found { IfSome result (λ b. get_or history.now b 0 ≡ BET) }
 {
-    let mut i = 0;
-    while i < acted {
-        if history[i] == BET {
-            return i;
-        }
-        i += 1;
-    }
-    i
+    history.iter().position(|action| *action == BET)
 }
 
 // Whether the hand has ended: after n passes, or n - 1 actions after the first bet.
-pub fn is_terminal(history: &[u8], acted: usize, n: usize) -> bool
-    requires { (acted ≤ length history.now) × (1 ≤ n) × (n ≤ 10) }
-    ensures { result ≡ ended n (take acted history.now) }
+pub fn is_terminal(history: &[u8], n: usize) -> bool
+    requires { 1 ≤ n }
+    ensures { result ≡ ended n history.now }
 {
-    let b = first_bet(history, acted);
-    if b < acted {
-        acted == b + n
-    } else {
-        acted == n
+    match first_bet(history) {
+        Some(b) => history.len() - b == n,
+        None => history.len() == n,
     }
 }
 
 // Whether an action stands after the hand ended.
-pub fn past_the_end(history: &[u8], acted: usize, n: usize) -> bool
-    requires { (acted ≤ length history.now) × (1 ≤ n) × (n ≤ 10) }
-    ensures { result ≡ overrun n (take acted history.now) }
+pub fn past_the_end(history: &[u8], n: usize) -> bool
+    requires { 1 ≤ n }
+    ensures { result ≡ overrun n history.now }
 {
-    let b = first_bet(history, acted);
-    if acted <= b {
-        return n < acted;
+    match first_bet(history) {
+        Some(b) => n <= b || n < history.len() - b,
+        None => n < history.len(),
     }
-    if n <= b {
-        return true;
-    }
-    b + n < acted
 }
 
 // Whether an action is neither a pass nor a bet.
-pub fn unknown_action(history: &[u8], acted: usize) -> bool
-    requires { acted ≤ length history.now }
-    ensures { result ≡ unknown (take acted history.now) }
+#[tactic(auto, using(kuhn_rules::proofs::Histories::unknown_any))]
+pub fn unknown_action(history: &[u8]) -> bool
+    ensures { result ≡ unknown history.now }
 {
-    prelude::any_above(history, acted, BET as usize)
+    prelude::any_above(history, usize::from(BET))
 }
 
 // Whether a seat has bet: its turns are n places apart.
-pub fn bet_by(history: &[u8], acted: usize, n: usize, player: usize) -> bool
-    requires { (acted ≤ length history.now) × (1 ≤ n) }
-    ensures { result ≡ bets n (take acted history.now) player }
+pub fn bet_by(history: &[u8], n: usize, player: usize) -> bool
+    requires { 1 ≤ n }
+    ensures { result ≡ bets n history.now player }
 {
     if n <= player {
         return false;
     }
-    let mut i = player;
-    while i < acted {
+    for i in (player..history.len()).step_by(n) {
         if history[i] == BET {
             return true;
         }
-        if acted - i <= n {
-            return false;
-        }
-        i += n;
     }
     false
 }

@@ -11,7 +11,6 @@ use lib.Dec.{eqb, ltb, leb}
 use borrow.Author.Tests.{eq-eqb, ne_eqb, ltb-true, ltb-false, leb-true, eqb-true, not-true}
 use lib.IntN.{ℤ, pos, neg_ℤ, ◌+ℤ◌, +ℤ_idl, +ℤ_idr, +ℤ_assoc, +ℤ_comm, +ℤ_invl, +ℤ_invr, pos-+ℤ-pos}
 use lib.ListN.{length, get_or, take}
-use lib.Seq.{take_all}
 use Rattle.prelude.specs.Finite.{◌and◌, ◌or◌, sum, sumℤ, has}
 use Rattle.prelude.proofs.Tests.{Tested, holds, fails, tested, true≢false, both, and_left, and_right, or_left, or_right, or_cases, none_at, some_here, every_at, below_cases}
 use Rattle.prelude.proofs.Lists.{has-take}
@@ -86,9 +85,6 @@ bet-place (x ∷ h) e =
     (λ t. let (b, w, v) = bet-place h t in (suc b, omega arith, v))
 
 module _ (n : ℕ) (cs h : List ℕ) (one : 1 ≤ n) (full : length cs ≡ n) (f : fair n cs ≡ true) where
-  whole : take n cs ≡ cs
-  whole = take_all n cs (omega arith)
-
   -- the highest card among those of the first m seats that stand
   larger : (m top card : ℕ) → Highest n h cs m top → card ≡ cond (stands n h m) (get_or cs m 0) 0 → Tested (ltb top card) → (r : ℕ) × Highest n h cs (suc m) r
   larger m top card t e (holds q) =
@@ -121,7 +117,7 @@ module _ (n : ℕ) (cs h : List ℕ) (one : 1 ≤ n) (full : length cs ≡ n) (f
   Wins = (w : ℕ) × (w < n) × (wins n cs h w ≡ true)
 
   winning : (top q : ℕ) → Highest n h cs n top → q < n → stands n h q ≡ true → get_or cs q 0 ≡ top → wins n cs h q ≡ true
-  winning top q t v s e = ap (λ l. wins n l h q) (sym whole) ∙ wins-highest n h cs top q v t s ∙ eq-eqb (get_or cs q 0) top e
+  winning top q t v s e = wins-highest n h cs top q v t s ∙ eq-eqb (get_or cs q 0) top e
 
   by_highest : (top : ℕ) → Highest n h cs n top → (top ≡ 0) ⊎ ((q : ℕ) × (q < n) × (stands n h q ≡ true) × (get_or cs q 0 ≡ top)) → Stands → Wins
   by_highest top t (inl z) (q, v, s) = (q, v, winning top q t v s (let x = t.bound q v s in omega arith))

@@ -1,5 +1,5 @@
 -- Laws of the betting, over the front part of a history. Assumes nothing.
-use mathlib.Core.Path.{◌≡◌, refl, sym, ap, ◌∙◌, subst}
+use mathlib.Core.Path.{◌≡◌, refl, sym, ap, ◌∙◌}
 use mathlib.Core.Bool.{Bool, true, false, not, cond}
 use mathlib.Core.List.{List, [], ◌∷◌}
 use Prim.Native.Nat.{ℕ, zero, suc, ◌+◌, ◌*◌, ◌-◌, ◌%◌, ◌≤◌, ◌<◌}
@@ -8,8 +8,10 @@ use lib.Dec.{eqb, ltb}
 use borrow.Author.Tests.{lt-ltb, ltb-true, ltb-false, eq-eqb, ne_eqb, eqb-true, eqb-false}
 use lib.ListN.{length, get_or, take}
 use lib.Seq.{length-take-le, get_or-take, take-take, take-length}
+use Rattle.std.specs.List.{list_any}
 use Rattle.prelude.specs.Finite.{◌and◌, ◌or◌, some}
 use Rattle.prelude.proofs.Tests.{Tested, holds, fails, tested, true≢false, iff, eqb-iff, some_here, some_at, some_same}
+use Rattle.prelude.proofs.Bytes.{or_is, some_any}
 use Rattle.prelude.proofs.Lists.{some_take}
 use Rattle.kuhn_rules.specs.Rules.{PASS, BET, bet-made, after-bet, ended, overrun, bets, stands}
 use Rattle.kuhn_rules.specs.Reached.{unknown}
@@ -17,6 +19,10 @@ use Rattle.kuhn_rules.specs.Reached.{unknown}
 pub unknown-take : (a : ℕ) (l : List ℕ) → a ≤ length l → unknown (take a l) ≡ some a (λ i. ltb BET (get_or l i 0))
 unfolding unknown
 unknown-take a l h = some_take (λ i x. ltb BET x) a l 0 h
+
+pub unknown_any : (h : List ℕ) → unknown h ≡ list_any (λ a. ltb BET a) h
+unfolding unknown
+unknown_any h = some_any (ltb BET) h
 
 pub bets-take : (n a : ℕ) (l : List ℕ) (p : ℕ) → a ≤ length l → bets n (take a l) p ≡ some a (λ i. eqb (i % n) p and eqb (get_or l i PASS) BET)
 unfolding bets
@@ -54,9 +60,6 @@ bet_in : (k b : ℕ) (l : List ℕ) → k ≤ length l → Quiet l b → b < k �
 bet_in k b l h q w e =
     let (m, r) = bet_at (take k l) b (quiet-take k b l (omega arith) q) (rw (length-take-le k l h) w) (get_or-take k l b 0 w ∙ e) in
     (m, r ∙ length-take-le k l h)
-
-pub bet-made_in : (k b : ℕ) (l : List ℕ) → k ≤ length l → Quiet l b → b < k → get_or l b 0 ≡ BET → bet-made (take k l) ≡ true
-bet-made_in k b l h q w e = (bet_in k b l h q w e).0
 
 -- up to the first bet a hand ends after n passes
 pub ended-quiet : (n k : ℕ) (l : List ℕ) → k ≤ length l → Quiet l k → ended n (take k l) ≡ eqb k n
@@ -110,8 +113,6 @@ module _ (n a : ℕ) (l : List ℕ) (one : 1 ≤ n) (h : a ≤ length l) where
         back : ltb (b + n) a ≡ true → some a (λ k. ended n (take k l)) ≡ true
         back x = let y : b + n < a = ltb-true (b + n) a x in some_here a (λ k. ended n (take k l)) (b + n) y (ended-bet n (b + n) b l one (omega arith) q (omega arith) e ∙ eq-eqb (b + n) (b + n) refl)
 
--- ---- who stands
-
 -- ---- how long a hand lasts
 
 -- the place of the first bet, or the length where there is none
@@ -162,14 +163,39 @@ module _ (n : ℕ) (h : List ℕ) (one : 1 ≤ n) (e : overrun n h ≡ false) wh
   pub hand-lasts : Lasts
   hand-lasts = let (b, i, q, f) = opening h in by_opening b i q f (tested (ltb b (length h)))
 
+-- ---- a whole history, by the place b of its first bet
+
+module _ (n : ℕ) (h : List ℕ) where
+  -- no bet: it ends after n passes,
+  pub ended_unbet : Quiet h (length h) → ended n h ≡ eqb (length h) n
+  ended_unbet q = ap (ended n) (sym (take-length h)) ∙ ended-quiet n (length h) h (omega arith) q
+
+  -- and an action more stands after the end
+  pub overrun_unbet : 1 ≤ n → Quiet h (length h) → overrun n h ≡ ltb n (length h)
+  overrun_unbet one q = ap (overrun n) (sym (take-length h)) ∙ overrun-quiet n (length h) h one (omega arith) q
+
+module _ (n b : ℕ) (h : List ℕ) (one : 1 ≤ n) (q : Quiet h b) (w : b < length h) (e : get_or h b 0 ≡ BET) where
+  -- the bet: it ends n - 1 actions after it,
+  pub ended_after : ended n h ≡ eqb (length h - b) n
+  ended_after =
+      ap (ended n) (sym (take-length h)) ∙ ended-bet n (length h) b h one (omega arith) q w e
+      ∙ eqb-iff (length h) (b + n) (length h - b) n (λ v. omega arith) (λ v. omega arith)
+
+  -- and the bet itself stands after the end if n passes come before it, else an action more does
+  pub overrun_past : n ≤ b → overrun n h ≡ true
+  overrun_past v = ap (overrun n) (sym (take-length h)) ∙ overrun-late n (length h) h one (omega arith) b q w e v
+
+  pub overrun_after : b < n → overrun n h ≡ ltb n (length h - b)
+  overrun_after v =
+      ap (overrun n) (sym (take-length h)) ∙ overrun-bet n (length h) h one (omega arith) b q w e v
+      ∙ iff (λ t. let x = ltb-true (b + n) (length h) t in lt-ltb n (length h - b) (omega arith)) (λ t. let x = ltb-true n (length h - b) t in lt-ltb (b + n) (length h) (omega arith))
+
 -- ---- who stands, once it is known whether any seat has bet
--- by the place b of the first bet, or k where there is none
-pub unbet_is : (k b : ℕ) (l : List ℕ) → k ≤ length l → b ≤ k → Quiet l b → (b < k → get_or l b 0 ≡ BET) → eqb b k ≡ not (bet-made (take k l))
-unbet_is k b l h m q f = at (tested (eqb b k))
-  where
-    at : Tested (eqb b k) → eqb b k ≡ not (bet-made (take k l))
-    at (holds t) = let e : b ≡ k = eqb-true b k t in rw (t, no_bet-made k l h (subst (Quiet l) e q)) refl
-    at (fails t) = let w : b < k = omega (arith, m, eqb-false b k t) in rw (t, bet-made_in k b l h q w (f w)) refl
+
+pub bet-made_any : (h : List ℕ) → bet-made h ≡ list_any (λ a. eqb a BET) h
+unfolding bet-made
+bet-made_any [] = refl
+bet-made_any (a ∷ h) = ap (◌or◌ (eqb a BET)) (bet-made_any h) ∙ sym (or_is (eqb a BET) _)
 
 pub stands-quiet : (n : ℕ) (h : List ℕ) (p : ℕ) → true ≡ not (bet-made h) → stands n h p ≡ true
 unfolding stands ◌or◌

@@ -1,5 +1,5 @@
 -- The winner: the seat that stands and has the highest card of those that stand. Assumes nothing.
-use mathlib.Core.Path.{◌≡◌, refl, sym, ap, ap₂, subst, ◌∙◌}
+use mathlib.Core.Path.{◌≡◌, refl, sym, ap, ap₂, ◌∙◌}
 use mathlib.Core.Logic.{◌⊎◌, inl, inr}
 use mathlib.Core.Bool.{Bool, true, false, not, cond}
 use mathlib.Core.List.{List}
@@ -8,8 +8,7 @@ use native.Mathlib.Omega.{arith}
 use lib.Dec.{eqb, ltb, leb}
 use borrow.Author.Tests.{le-leb, leb-true, eq-eqb, eqb-true}
 use lib.IntN.{ℤ, pos, neg_ℤ}
-use lib.ListN.{get_or, take, set, replicate}
-use lib.Seq.{get_or-take}
+use lib.ListN.{get_or, set, replicate}
 use Rattle.prelude.specs.Finite.{◌and◌, ◌or◌, every, sum, places}
 use Rattle.prelude.proofs.Tests.{Tested, holds, fails, tested, true≢false, iff, both, and_right, and_left_fails, or_left, or_right, or_cases, below_cases, all, every_at}
 use Rattle.prelude.proofs.Lists.{sum_without, filled_none, filled_more}
@@ -41,38 +40,32 @@ module _ (n : ℕ) (h cards : List ℕ) where
     pub highest_more : (r ≡ top) ⊎ (r ≡ card) → Highest n h cards (m + 1) r
     highest_more e = record { bound = λ q w s. below_cases q m (omega arith) (λ v. let x = so_far.bound q v s in omega arith) (λ v. let x : card ≡ get_or cards q 0 = card_of (rw v at s) ∙ ap (λ k. get_or cards k 0) (sym v) in omega arith); attained = reached e }
 
-  pub highest_all : (m top : ℕ) → m ≤ n → n ≤ m → Highest n h cards m top → Highest n h cards n top
-  highest_all m top a b t = let e : m ≡ n = omega arith in subst (λ k. Highest n h cards k top) e t
-
   -- a seat that stands wins if its card is the highest
-  pub wins-highest : (top p : ℕ) → p < n → Highest n h cards n top → stands n h p ≡ true → wins n (take n cards) h p ≡ eqb (get_or cards p 0) top
+  pub wins-highest : (top p : ℕ) → p < n → Highest n h cards n top → stands n h p ≡ true → wins n cards h p ≡ eqb (get_or cards p 0) top
   unfolding wins
   wins-highest top p w t s = iff onward back
     where
-      card : (q : ℕ) → q < n → get_or (take n cards) q 0 ≡ get_or cards q 0
-      card q v = get_or-take n cards q 0 v
-
-      no_lower : (q : ℕ) → q < n → stands n h q ≡ true → (not (stands n h q) or leb (get_or (take n cards) q 0) (get_or (take n cards) p 0)) ≡ true → get_or cards q 0 ≤ get_or cards p 0
-      no_lower q v x e = or_cases (not (stands n h q)) (leb (get_or (take n cards) q 0) (get_or (take n cards) p 0)) e (λ z. true≢false
-          (not (stands n h q)) z (ap not x)) (λ z. rw (card q v, card p w) at (leb-true (get_or (take n cards) q 0) (get_or (take n cards) p 0) z))
+      no_lower : (q : ℕ) → q < n → stands n h q ≡ true → (not (stands n h q) or leb (get_or cards q 0) (get_or cards p 0)) ≡ true → get_or cards q 0 ≤ get_or cards p 0
+      no_lower q v x e = or_cases (not (stands n h q)) (leb (get_or cards q 0) (get_or cards p 0)) e (λ z. true≢false
+          (not (stands n h q)) z (ap not x)) (λ z. leb-true (get_or cards q 0) (get_or cards p 0) z)
 
       at_most : (top ≡ 0) ⊎ ((q : ℕ) × (q < n) × (stands n h q ≡ true) × (get_or cards q 0 ≡ top)) → ((q : ℕ) → q < n → stands n h q ≡ true → get_or cards q 0 ≤ get_or cards p 0) → top ≤ get_or cards p 0
       at_most (inl z) f = omega arith
       at_most (inr (q, v, x, e)) f = let y = f q v x in omega arith
 
-      onward : (stands n h p and every n (λ q. not (stands n h q) or leb (get_or (take n cards) q 0) (get_or (take n cards) p 0))) ≡ true → eqb (get_or cards p 0) top ≡ true
+      onward : (stands n h p and every n (λ q. not (stands n h q) or leb (get_or cards q 0) (get_or cards p 0))) ≡ true → eqb (get_or cards p 0) top ≡ true
       onward e =
-          let high = and_right (stands n h p) (every n (λ q. not (stands n h q) or leb (get_or (take n cards) q 0) (get_or (take n cards) p 0))) e in
-          let x : top ≤ get_or cards p 0 = at_most t.attained (λ q v y. no_lower q v y (every_at n (λ q. not (stands n h q) or leb (get_or (take n cards) q 0) (get_or (take n cards) p 0)) high q v)) in
+          let high = and_right (stands n h p) (every n (λ q. not (stands n h q) or leb (get_or cards q 0) (get_or cards p 0))) e in
+          let x : top ≤ get_or cards p 0 = at_most t.attained (λ q v y. no_lower q v y (every_at n (λ q. not (stands n h q) or leb (get_or cards q 0) (get_or cards p 0)) high q v)) in
           let y : get_or cards p 0 ≤ top = t.bound p w s in
           eq-eqb (get_or cards p 0) top (omega arith)
 
-      lower : (q : ℕ) → q < n → get_or cards p 0 ≡ top → Tested (stands n h q) → (not (stands n h q) or leb (get_or (take n cards) q 0) (get_or (take n cards) p 0)) ≡ true
-      lower q v e (holds x) = or_right (not (stands n h q)) (rw (card q v, card p w) (le-leb (get_or cards q 0) (get_or cards p 0) (let y = t.bound q v x in omega arith)))
-      lower q v e (fails x) = or_left (leb (get_or (take n cards) q 0) (get_or (take n cards) p 0)) (ap not x)
+      lower : (q : ℕ) → q < n → get_or cards p 0 ≡ top → Tested (stands n h q) → (not (stands n h q) or leb (get_or cards q 0) (get_or cards p 0)) ≡ true
+      lower q v e (holds x) = or_right (not (stands n h q)) (le-leb (get_or cards q 0) (get_or cards p 0) (let y = t.bound q v x in omega arith))
+      lower q v e (fails x) = or_left (leb (get_or cards q 0) (get_or cards p 0)) (ap not x)
 
-      back : eqb (get_or cards p 0) top ≡ true → (stands n h p and every n (λ q. not (stands n h q) or leb (get_or (take n cards) q 0) (get_or (take n cards) p 0))) ≡ true
-      back e = both s (all n (λ q. not (stands n h q) or leb (get_or (take n cards) q 0) (get_or (take n cards) p 0)) (λ q v. lower q v (eqb-true (get_or cards p 0) top e) (tested (stands n h q))))
+      back : eqb (get_or cards p 0) top ≡ true → (stands n h p and every n (λ q. not (stands n h q) or leb (get_or cards q 0) (get_or cards p 0))) ≡ true
+      back e = both s (all n (λ q. not (stands n h q) or leb (get_or cards q 0) (get_or cards p 0)) (λ q v. lower q v (eqb-true (get_or cards p 0) top e) (tested (stands n h q))))
 
   -- a seat that does not stand does not win
   pub folds_lose : (cs : List ℕ) (p : ℕ) → stands n h p ≡ false → wins n cs h p ≡ false
