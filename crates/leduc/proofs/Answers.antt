@@ -1,47 +1,63 @@
 -- Which number each call answers, check by check. Assumes nothing.
 use mathlib.Core.Path.{◌≡◌, sym, ap, ◌∙◌}
 use mathlib.Core.Bool.{true, false, not}
-use mathlib.Core.List.{[], ◌∷◌}
-use Prim.Native.Nat.{ℕ, ◌%◌, ◌≤◌, ◌<◌}
+use mathlib.Core.List.{List, [], ◌∷◌, ◌++◌}
+use Prim.Native.Nat.{ℕ, zero, suc, ◌≤◌, ◌<◌}
 use native.Mathlib.Omega.{arith}
 use lib.Dec.{eqb, ltb}
 use lib.ListN.{length, get_or}
-use borrow.Author.Tests.{eqb-true, not-false, ltb-true, lt-ltb, le-ltb, le-leb, lt-leb, eq-eqb, ne_eqb}
-use Rattle.refusals.specs.Refusals.{first, ◌refuses◌}
+use borrow.Author.Tests.{eqb-true, not-false, lt-ltb, le-ltb, le-leb, lt-leb, eq-eqb, ne_eqb}
+use lib.IntN.{pos}
+use Rattle.std.specs.Prelude.{Some, None, Err, unwrap_or, replicate}
+use Rattle.std.proofs.lemmas.Option.{none-some}
+use Rattle.refusals.specs.Refusals.{Check, first, ◌refuses◌}
+use Rattle.refusals.specs.Outcomes.{number, paid_by}
+use Rattle.refusals.specs.declared.Refusal.{Refusal}
+use Rattle.refusals.proofs.Outcomes.{refuses as never_accepted}
+use Rattle.prelude.specs.internal.Places.{at_place}
+use Rattle.prelude.proofs.Lists.{those_below}
 use Rattle.prelude.specs.Finite.{◌and◌}
-use Rattle.prelude.proofs.Lists.{get_d_within}
 use Rattle.leduc_betting.specs.Betting.{ended}
 use Rattle.leduc_rules.specs.Rules.{due, live}
 use Rattle.leduc_betting.specs.Cards.{left, remaining}
-use Rattle.leduc_betting.proofs.Deals.{nth_fits}
-use Rattle.leduc_betting.proofs.Checks.{first_pass, first_stop}
-use Rattle.leduc_positions.specs.Positions.{cards_of, seen_of, round_one, round_two, reachable, legal_of, mark, saved_checks}
-use Rattle.leduc.specs.Calls.{key_of, deal-refusal, step_refusal, legal-refusal, key-refusal, payoff-refusal, saved_refusal}
+use Rattle.leduc_positions.specs.Positions.{cards_of, seen_of, round_one, round_two, reachable, position_checks, legal_of, mark, saved_checks}
+use Rattle.leduc.specs.Calls.{key_of, deal-refusal, step_refusal, legal-refusal, key-refusal, payoff-answer, payoff-refusal, saved_refusal}
 use Rattle.leduc_positions.specs.declared.LeducState.{LeducState}
-use Rattle.refusals.proofs.Order.{fails_first}
-use Rattle.leduc_positions.proofs.Order.{saved_firm, passes-front}
+use Rattle.refusals.proofs.Order.{fails_first, first_refused, first_passed}
+use Rattle.leduc_positions.proofs.Order.{saved_numbered, passes-front}
+
+-- what stands at a place of a list, and that nothing does past its end
+pub placed_at : (xs : List ℕ) (k x : ℕ) → at_place xs k ≡ Some x → (k < length xs) × (get_or xs k 0 ≡ x)
+placed_at [] k x e = absurd (none-some x e)
+placed_at (y ∷ xs) zero x e = (omega arith, ap (λ o. unwrap_or o 0) e)
+placed_at (y ∷ xs) (suc k) x e = let (l, q) = placed_at xs k x e in (omega arith, q)
+
+pub absent_at : (xs : List ℕ) (k : ℕ) → at_place xs k ≡ None → length xs ≤ k
+absent_at [] k e = omega arith
+absent_at (y ∷ xs) zero e = absurd (none-some y (sym e))
+absent_at (y ∷ xs) (suc k) e = let l = absent_at xs k e in omega arith
+
+-- the card of an outcome is in the deck
+pub in_deck : (cs : List ℕ) (k x : ℕ) → at_place (remaining cs) k ≡ Some x → x < 6
+unfolding remaining
+in_deck cs k x e =
+    let q : (k < length (remaining cs)) × (get_or (remaining cs) k 0 ≡ x) = placed_at (remaining cs) k x e in
+    let low : get_or (remaining cs) k 0 < 6 = (those_below (left cs) 6 k 0 q.0).0 in
+    let same : get_or (remaining cs) k 0 ≡ x = q.1 in
+    omega arith
+
+-- a refused payoff answer
+pub paid_err : (s : LeducState) (e : Refusal) (q : ℕ) → number e ≡ q → paid_by s (Err e) ≡ payoff-answer q s
+paid_err s e zero w = absurd (never_accepted e w)
+paid_err s e (suc q) w = ap (λ k. record { refusal = k; state = s; count = 0; payoffs = replicate 10 (pos 0) }) w
 
 module _ (s : LeducState) where
   -- number 19 comes first
-  pub deal-unreachable : (k : ℕ) → reachable s ≡ false → deal-refusal s k ≡ 19
-  unfolding deal-refusal
-  deal-unreachable k e = rw e
+  pub stopped : (cs : List Check) (e : Refusal) → number e ≡ first (position_checks s) → number e ≡ first (position_checks s ++ cs)
+  stopped cs e w = w ∙ first_refused (position_checks s) cs (λ z. never_accepted e (w ∙ z))
 
-  pub step_unreachable : reachable s ≡ false → step_refusal s ≡ 19
-  unfolding step_refusal
-  step_unreachable e = rw e
-
-  pub legal-unreachable : (t room : ℕ) → reachable s ≡ false → legal-refusal s t room ≡ 19
-  unfolding legal-refusal
-  legal-unreachable t room e = rw e
-
-  pub key-unreachable : (t room : ℕ) → reachable s ≡ false → key-refusal s t room ≡ 19
-  unfolding key-refusal
-  key-unreachable t room e = rw e
-
-  pub payoff-unreachable : reachable s ≡ false → payoff-refusal s ≡ 19
-  unfolding payoff-refusal
-  payoff-unreachable e = rw e
+  pub reached : 0 ≡ first (position_checks s) → reachable s ≡ true
+  reached w = not-false _ (fails_first (not (reachable s)) 18 [] (sym w))
 
   module _ (e : reachable s ≡ true) where
     -- then what the call asks of the position
@@ -94,25 +110,14 @@ module _ (s : LeducState) where
     unfolding legal-refusal
     legal-accepted t room f = rw (e, le-ltb room (length (legal_of s t)) f)
 
-  -- an outcome is below the fan exactly if it has a card
-  pub outcome_fits : (k : ℕ) → ltb k (length (remaining (seen_of s))) ≡ ltb (get_or (remaining (seen_of s)) k 6) 6
-  unfolding remaining
-  outcome_fits k = sym (nth_fits (left (seen_of s)) 6 k)
-
-  -- and then its card is the one that stands there
-  pub outcome-card : (k : ℕ) → get_or (remaining (seen_of s)) k 6 < 6 → get_or (remaining (seen_of s)) k 6 % 256 ≡ get_or (remaining (seen_of s)) k 0
-  outcome-card k h =
-      let q : get_or (remaining (seen_of s)) k 6 % 256 ≡ get_or (remaining (seen_of s)) k 6 = omega arith in
-      q ∙ get_d_within (remaining (seen_of s)) k 6 0 (ltb-true k (length (remaining (seen_of s))) (outcome_fits k ∙ lt-ltb (get_or (remaining (seen_of s)) k 6) 6 h))
-
   -- a saved position: 10 to 17, then 18
   pub saved-stops : (m : ℕ) → (first (saved_checks s) ≡ 0 → ⊥) → saved_refusal s m ≡ first (saved_checks s)
   unfolding saved_refusal
-  saved-stops m e = first_stop (saved_checks s) _ e
+  saved-stops m e = sym (first_refused (saved_checks s) _ e)
 
   saved-passes : (m : ℕ) → first (saved_checks s) ≡ 0 → saved_refusal s m ≡ first ((not (eqb m (mark (ended (round_one s) (round_two s)))) refuses 18) ∷ [])
   unfolding saved_refusal
-  saved-passes m e = first_pass (saved_checks s) _ (saved_firm s) e
+  saved-passes m e = first_passed (saved_checks s) _ (saved_numbered s) e
 
   pub saved-mark-wrong : (m : ℕ) → first (saved_checks s) ≡ 0 → (m ≡ mark (ended (round_one s) (round_two s)) → ⊥) → saved_refusal s m ≡ 18
   saved-mark-wrong m e f = saved-passes m e ∙ ap (λ b. first ((not b refuses 18) ∷ [])) (ne_eqb m (mark (ended (round_one s) (round_two s))) f)

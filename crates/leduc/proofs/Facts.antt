@@ -9,14 +9,14 @@ use lib.ListN.{length, take}
 use lib.Seq.{length-take-le}
 use borrow.Author.Tests.{eq-eqb, le-leb, le-ltb}
 use Rattle.refusals.specs.Refusals.{first, ◌refuses◌}
-use Rattle.refusals.proofs.Order.{fails_first, fails_rest}
+use Rattle.refusals.proofs.Order.{fails_first, fails_rest, first_passed}
 use Rattle.prelude.specs.Finite.{◌and◌, ◌or◌}
 use Rattle.prelude.proofs.Tests.{both, neither, or_left, or_false_right, true≢false}
 use Rattle.leduc_betting.specs.Betting.{closes, ended}
 use Rattle.leduc_betting.specs.Cards.{hidden, seen, strange, twice}
 use Rattle.leduc_rules.specs.Rules.{public-due, due}
 use Rattle.leduc_betting.specs.Checks.{barred_by, malformed, action_checks, card_checks, round_checks, public_checks}
-use Rattle.leduc_betting.proofs.Checks.{cards_pass, round_pass, round_firm, second_checks}
+use Rattle.leduc_betting.proofs.Checks.{round_pass, round_numbered, second_checks}
 use Rattle.leduc_rules.proofs.Lawful.{actions-played, blind_empty, fits_length, first_passes, second-passes}
 use Rattle.leduc_rules.proofs.Reaching.{Possible, possible_parts}
 use Rattle.leduc_rules.proofs.Moves.{possible_all, reached_parts, parts_reached}
@@ -30,7 +30,7 @@ use Rattle.leduc.proofs.Answers.{saved-stops, saved-accepted, saved-marked}
 pub reachable_by_moves : ReachableByMoves
 unfolding reachable
 reachable_by_moves s = (
-  (λ e. let w = reachable-short s e in (w.dealt-short, w.first_short, w.second_short, parts_reached _ _ _ _ (possible_parts _ _ _ _ (reachable-possible s e)))),
+  (λ e. let w = reachable-short s e in (w.0, w.1, w.2, parts_reached _ _ _ _ (possible_parts _ _ _ _ (reachable-possible s e)))),
   (λ (a, b, c, r). both (both (le-leb s.dealt 2 a) (both (le-leb s.acted1 4 b) (le-leb s.acted2 4 c))) (possible_all _ _ _ _ (reached_parts r))),
 )
 
@@ -59,7 +59,7 @@ module _ (s : LeducState) (z : Sized s) where
     two_passed = passes-front (round_checks (barred_by h₁) (hidden s.public) s.acted2 h₂) (public_checks (hidden s.public) h₁ h₂) (saved_second s e)
 
     public_passed : first (public_checks (hidden s.public) h₁ h₂) ≡ 0
-    public_passed = passes-rest (round_checks (barred_by h₁) (hidden s.public) s.acted2 h₂) (public_checks (hidden s.public) h₁ h₂) (round_firm (barred_by h₁) (hidden s.public) s.acted2 h₂) (saved_second s e)
+    public_passed = passes-rest (round_checks (barred_by h₁) (hidden s.public) s.acted2 h₂) (public_checks (hidden s.public) h₁ h₂) (round_numbered (barred_by h₁) (hidden s.public) s.acted2 h₂) (saved_second s e)
 
     saved_due : public-due s.public h₁ h₂ ≡ false
     unfolding public-due
@@ -120,9 +120,9 @@ module _ (s : LeducState) (z : Sized s) where
     pub to_the_public : first (saved_checks s) ≡ first (public_checks (hidden s.public) h₁ h₂)
     to_the_public =
         cards_there s d
-        ∙ cards_pass (seen (take 2 s.cards) s.public) (rounds_checks s) cards_pass_there
-        ∙ round_pass false false s.acted1 h₁ (second_checks (hidden s.public) s.acted2 h₁ h₂) (first_passes s.acted1 h₁ (reachable-short s r).first_short parts.first_played)
-        ∙ round_pass (barred_by h₁) (hidden s.public) s.acted2 h₂ (public_checks (hidden s.public) h₁ h₂) (second-passes parts s.acted2 (reachable-short s r).second_short)
+        ∙ first_passed (card_checks (seen (take 2 s.cards) s.public)) (rounds_checks s) tt cards_pass_there
+        ∙ round_pass false false s.acted1 h₁ (second_checks (hidden s.public) s.acted2 h₁ h₂) (first_passes s.acted1 h₁ (reachable-short s r).1 parts.first_played)
+        ∙ round_pass (barred_by h₁) (hidden s.public) s.acted2 h₂ (public_checks (hidden s.public) h₁ h₂) (second-passes parts s.acted2 (reachable-short s r).2)
 
     not_early : (not (hidden s.public) and not (closes h₁)) ≡ false
     unfolding ◌and◌ ◌or◌

@@ -25,7 +25,8 @@ use Rattle.leduc_rules.proofs.Moves.{reached_parts, acting}
 use Rattle.leduc_positions.specs.Positions.{cards_of, seen_of, round_one, round_two, in_play_of, with_private, with_public, with_card, with_first, with_second, with_action, reachable}
 use Rattle.leduc_positions.specs.declared.LeducState.{LeducState}
 use Rattle.leduc_positions.proofs.Positions.{cards-counted, first_counted, second-counted, room_to_act}
-use Rattle.leduc.specs.Calls.{moved, deal-refusal, dealt, step_refusal, stepped}
+use Rattle.refusals.specs.Outcomes.{moved}
+use Rattle.leduc.specs.Calls.{deal-refusal, dealt, step_refusal, stepped}
 use Rattle.leduc.specs.Facts.{Sized, KeptBut, OneCardMore, OneActionMore, Deals, Steps}
 use Rattle.leduc.proofs.Decides.{calls-decide}
 use Rattle.leduc.proofs.Facts.{reachable_by_moves}

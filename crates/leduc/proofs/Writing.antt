@@ -1,13 +1,11 @@
 -- Laws of bytes written one part after the other. Assumes nothing.
-use mathlib.Core.Path.{◌≡◌, sym, ap, ap₂, ◌∙◌}
+use mathlib.Core.Path.{◌≡◌, refl, sym, ap, ap₂, ◌∙◌}
 use mathlib.Core.List.{List, [], ◌∷◌, ◌++◌, append_assoc}
 use Prim.Native.Nat.{ℕ, ◌+◌}
 use native.Mathlib.Omega.{arith}
 use lib.ListN.{length, get_or, drop, length-append}
 use Rattle.leduc_rules.specs.Rules.{key, shown-public}
-use Rattle.leduc_positions.specs.Positions.{cards_of, round_one, round_two}
-use Rattle.leduc.specs.Calls.{key_of}
-use Rattle.leduc_positions.specs.declared.LeducState.{LeducState}
+use Rattle.std.specs.Prelude.{Option, Some, None, unwrap_or}
 use lib.Seq.{take-length, take-append_seam, drop-append-add, drop-drop, paste}
 
 -- the bytes at the front of an output, and what it held beyond them
@@ -37,25 +35,28 @@ write_four a b c d out o₁ o₂ o₃ o₄ k m n r p q e₁ e₂ e₃ e₄ =
     e₄ ∙ ap (λ o. paste o n d (length d)) f₃ ∙ write_next (a ++ b ++ c) d out n q
 
 -- the parts of a key
-module _ (s : LeducState) (t : ℕ) (one : length (round_one s) ≡ s.acted1) (two : length (round_two s) ≡ s.acted2) where
+module _ (cs : List ℕ) (p : Option ℕ) (h₁ h₂ : List ℕ) (t : ℕ) where
   abbrev pub head_of : List ℕ
-  head_of = t ∷ get_or (cards_of s) t 0 ∷ shown-public s.public ∷ s.acted1 ∷ []
+  head_of = t ∷ get_or cs t 0 ∷ shown-public p ∷ length h₁ ∷ []
 
-  pub key_parts : head_of ++ round_one s ++ (s.acted2 ∷ []) ++ round_two s ≡ key_of s t
+  key_parts : head_of ++ h₁ ++ (length h₂ ∷ []) ++ h₂ ≡ key cs p h₁ h₂ t
   unfolding key
-  key_parts =
-      append_assoc (head_of ++ round_one s) (s.acted2 ∷ []) (round_two s)
-      ∙ ap₂ (λ x y. (t ∷ get_or (cards_of s) t 0 ∷ shown-public s.public ∷ x ∷ round_one s) ++ (y ∷ round_two s)) (sym one) (sym two)
+  key_parts = append_assoc (head_of ++ h₁) (length h₂ ∷ []) h₂
 
-  pub key-length : length (key_of s t) ≡ 5 + s.acted1 + s.acted2
+  pub key-length : length (key cs p h₁ h₂ t) ≡ 5 + length h₁ + length h₂
   unfolding key
-  key-length = omega (arith, length-append (round_one s) (length (round_two s) ∷ round_two s), one, two)
+  key-length = omega (arith, length-append h₁ (length h₂ ∷ h₂))
 
-  -- the key as it is written, from what its parts come to: a is the head, b the second round
-  pub key-written : (a b out o₁ o₂ o₃ o₄ : List ℕ) (n : ℕ) → a ≡ head_of → b ≡ round_two s → n ≡ s.acted2 → o₁ ≡ paste out 0 a (length a)
-      → o₂ ≡ paste o₁ 4 (round_one s) (length (round_one s)) → o₃ ≡ paste o₂ (4 + s.acted1) (n ∷ []) (length (n ∷ []))
-      → o₄ ≡ paste o₃ (5 + s.acted1) b (length b) → o₄ ≡ at_front (key_of s t) out
-  key-written a b out o₁ o₂ o₃ o₄ n e f g e₁ e₂ e₃ e₄ =
-      let h = ap length e in let ab = length-append a (round_one s) in let abc = length-append (a ++ round_one s) (n ∷ []) in
-      write_four a (round_one s) (n ∷ []) b out o₁ o₂ o₃ o₄ 4 (4 + s.acted1) (5 + s.acted1) h (omega arith) (omega arith) e₁ e₂ e₃ e₄
-      ∙ ap (λ l. at_front l out) (ap₂ (λ x y. x ++ round_one s ++ (y ∷ []) ++ b) e g ∙ ap (λ d. head_of ++ round_one s ++ (s.acted2 ∷ []) ++ d) f ∙ key_parts)
+  -- the key as it is written: a is the head
+  pub key-written : (a out o₁ o₂ o₃ o₄ : List ℕ) → a ≡ head_of → o₁ ≡ paste out 0 a (length a)
+      → o₂ ≡ paste o₁ 4 h₁ (length h₁) → o₃ ≡ paste o₂ (4 + length h₁) (length h₂ ∷ []) (length (length h₂ ∷ []))
+      → o₄ ≡ paste o₃ (5 + length h₁) h₂ (length h₂) → o₄ ≡ at_front (key cs p h₁ h₂ t) out
+  key-written a out o₁ o₂ o₃ o₄ e e₁ e₂ e₃ e₄ =
+      let h = ap length e in let ab = length-append a h₁ in let abc = length-append (a ++ h₁) (length h₂ ∷ []) in
+      write_four a h₁ (length h₂ ∷ []) h₂ out o₁ o₂ o₃ o₄ 4 (4 + length h₁) (5 + length h₁) h (omega arith) (omega arith) e₁ e₂ e₃ e₄
+      ∙ ap (λ l. at_front l out) (ap (λ x. x ++ h₁ ++ (length h₂ ∷ []) ++ h₂) e ∙ key_parts)
+
+-- what a key shows of the public card
+pub public_shown : (p : Option ℕ) → unwrap_or p 255 ≡ shown-public p
+public_shown None = refl
+public_shown (Some c) = refl

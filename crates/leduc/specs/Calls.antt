@@ -1,8 +1,9 @@
--- What each call answers, and what it leaves in lent memory (document 01, "What comes back when a call is refused" and "The two games").
+-- What each call answers, and what it leaves in lent memory.
 -- A refused answer holds its number, the position handed in, and 0 in every other field.
-use Rattle.std.specs.Prelude.{not, List, [], ◌∷◌, ◌++◌, ℕ, zero, suc, eqb, leb, ltb, pos, length, get_or, drop, replicate}
+use Rattle.std.specs.Prelude.{not, List, [], ◌∷◌, ◌++◌, ℕ, zero, suc, eqb, leb, ltb, pos, length, get_or, replicate}
 use Rattle.refusals.specs.Refusals.{Check, first, ◌refuses◌}
 use Rattle.refusals.specs.Refusals as Refusals
+use Rattle.refusals.specs.Outcomes.{Moved, Written, Paid, moved, wrote}
 use Rattle.prelude.specs.Finite.{◌and◌}
 use Rattle.leduc_betting.specs.Betting.{counted, ended}
 use Rattle.leduc_betting.specs.Cards.{remaining}
@@ -10,31 +11,11 @@ use Rattle.leduc_rules.specs.Rules.{due, live, key}
 use Rattle.leduc_positions.specs.Positions.{cards_of, seen_of, round_one, round_two, initial, with_card, with_action}
 use Rattle.leduc_positions.specs.Positions.{position_checks, in_play_of, legal_of, payoff_of, saved_checks, mark}
 use Rattle.leduc_positions.specs.declared.LeducState.{LeducState}
-use Rattle.leduc.specs.declared.Moved.{Moved}
-use Rattle.leduc.specs.declared.Written.{Written}
-use Rattle.leduc.specs.declared.Payoffs.{Payoffs}
-
--- ---- answers
-
--- a move that was accepted gives the new position, t, a refused one the old, s
-abbrev pub moved : ℕ → LeducState → LeducState → Moved
-moved zero s t = record { refusal = zero; state = t }
-moved (suc r) s t = record { refusal = suc r; state = s }
-
--- how many bytes a call wrote
-abbrev pub wrote : ℕ → LeducState → ℕ → Written
-wrote zero s k = record { refusal = zero; state = s; count = k }
-wrote (suc r) s k = record { refusal = suc r; state = s; count = 0 }
-
--- what an output holds then: the bytes at its front and what it held beyond them; all it held, if the call was refused
-abbrev pub written : ℕ → List ℕ → List ℕ → List ℕ
-written zero bytes out = bytes ++ drop (length bytes) out
-written (suc r) bytes out = out
 
 -- ---- the calls
 
 -- start
-abbrev pub started : Moved
+abbrev pub started : Moved LeducState
 started = record { refusal = Refusals.accepted; state = initial }
 
 -- deal: the card of an outcome is the one that stands there among those left
@@ -45,7 +26,7 @@ deal_checks s k =
 unfoldable pub deal-refusal : LeducState → ℕ → ℕ
 deal-refusal s k = first (position_checks s ++ deal_checks s k)
 
-abbrev pub dealt : LeducState → ℕ → Moved
+abbrev pub dealt : LeducState → ℕ → Moved LeducState
 dealt s k = moved (deal-refusal s k) s (with_card s (get_or (remaining (seen_of s)) k 0))
 
 -- step: an illegal action becomes FOLD if that is legal, else CALL
@@ -55,7 +36,7 @@ step_checks s = (not (live (cards_of s) s.public (round_one s) (round_two s)) re
 unfoldable pub step_refusal : LeducState → ℕ
 step_refusal s = first (position_checks s ++ step_checks s)
 
-abbrev pub stepped : LeducState → ℕ → Moved
+abbrev pub stepped : LeducState → ℕ → Moved LeducState
 stepped s a = moved (step_refusal s) s (with_action s (counted (in_play_of s) a))
 
 -- legal list, of a seat t, into an output of room bytes
@@ -65,7 +46,7 @@ legal_checks s t room = (ltb room (length (legal_of s t)) refuses Refusals.outpu
 unfoldable pub legal-refusal : LeducState → ℕ → ℕ → ℕ
 legal-refusal s t room = first (position_checks s ++ legal_checks s t room)
 
-abbrev pub listed : LeducState → ℕ → ℕ → Written
+abbrev pub listed : LeducState → ℕ → ℕ → Written LeducState
 listed s t room = wrote (legal-refusal s t room) s (length (legal_of s t))
 
 -- key, of a seat t that has a card
@@ -78,7 +59,7 @@ key_checks s t room = (leb (length (cards_of s)) t refuses Refusals.unfit) ∷ (
 unfoldable pub key-refusal : LeducState → ℕ → ℕ → ℕ
 key-refusal s t room = first (position_checks s ++ key_checks s t room)
 
-abbrev pub keyed : LeducState → ℕ → ℕ → Written
+abbrev pub keyed : LeducState → ℕ → ℕ → Written LeducState
 keyed s t room = wrote (key-refusal s t room) s (length (key_of s t))
 
 -- payoff, at the end of a hand: a number for each seat, 0 past the seats
@@ -88,11 +69,11 @@ payoff_checks s = (not (ended (round_one s) (round_two s)) refuses Refusals.unfi
 unfoldable pub payoff-refusal : LeducState → ℕ
 payoff-refusal s = first (position_checks s ++ payoff_checks s)
 
-abbrev pub payoff-answer : ℕ → LeducState → Payoffs
+abbrev pub payoff-answer : ℕ → LeducState → Paid LeducState
 payoff-answer zero s = record { refusal = zero; state = s; count = 2; payoffs = payoff_of s 0 ∷ payoff_of s 1 ∷ replicate 8 (pos 0) }
 payoff-answer (suc r) s = record { refusal = suc r; state = s; count = 0; payoffs = replicate 10 (pos 0) }
 
-abbrev pub paid : LeducState → Payoffs
+abbrev pub paid : LeducState → Paid LeducState
 paid s = payoff-answer (payoff-refusal s) s
 
 -- saved position, with its end mark m
@@ -102,5 +83,5 @@ mark_checks s m = (not (eqb m (mark (ended (round_one s) (round_two s)))) refuse
 unfoldable pub saved_refusal : LeducState → ℕ → ℕ
 saved_refusal s m = first (saved_checks s ++ mark_checks s m)
 
-abbrev pub checked : LeducState → ℕ → Moved
+abbrev pub checked : LeducState → ℕ → Moved LeducState
 checked s m = record { refusal = saved_refusal s m; state = s }

@@ -1,10 +1,9 @@
 -- What holds of Leduc's positions and of the calls' tests and answers, proved in proofs/.
-use Rattle.std.specs.Prelude.{◌≡◌, ◌↔◌, ◌≢◌, true, false, List, [], ◌∷◌, ◌++◌, ℕ, ◌+◌, ◌≤◌, ◌<◌, length, get_or}
+use Rattle.std.specs.Prelude.{◌≡◌, ◌↔◌, ◌≢◌, true, false, List, [], ◌∷◌, ◌++◌, ℕ, ◌+◌, ◌≤◌, ◌<◌, length, get_or, Some}
 use Rattle.refusals.specs.Refusals as Refusals
 use Rattle.refusals.specs.Facts.{Decides}
 use Rattle.leduc_betting.specs.Betting.{closes, counted, ended}
 use Rattle.leduc_betting.specs.Cards.{remaining}
-use Rattle.leduc_betting.specs.declared.Public.TheVariants.{Card}
 use Rattle.leduc_rules.specs.Rules.{public-due, due}
 use Rattle.leduc_rules.specs.Moves.{Reached}
 use Rattle.leduc_positions.specs.Positions.{cards_of, seen_of, round_one, round_two, in_play_of, reachable, position_checks, saved_checks, mark}
@@ -61,7 +60,7 @@ pub record Fit (s : LeducState) : Type 0 where
 -- the rounds are the same, and every other place holds what it held
 pub record OneCardMore (s : LeducState) (c : ℕ) (t : LeducState) : Type 0 where
   pub to_seat : length (cards_of s) < 2 → (cards_of t ≡ cards_of s ++ (c ∷ [])) × (t.public ≡ s.public)
-  pub to_table : 2 ≤ length (cards_of s) → (cards_of t ≡ cards_of s) × (t.public ≡ Card c)
+  pub to_table : 2 ≤ length (cards_of s) → (cards_of t ≡ cards_of s) × (t.public ≡ Some c)
   pub rounds_are : (round_one t ≡ round_one s) × (round_two t ≡ round_two s)
   pub cards_kept : KeptBut (length (cards_of s)) s.cards t.cards
   pub history_kept : t.history ≡ s.history

@@ -1,50 +1,26 @@
 // Leduc hold'em for two seats: positions by value, the rules calls and the saved-position check.
-// A call refuses by document 01's numbers, in its order, and then gives the position back as it came.
+// A call that is refused says why, by the first check that it does not pass; the caller has the position that it handed in.
 #![tactic(auto)]
 
 mod output;
 
-ghost use Rattle.std.specs.Prelude.{◌≡◌, [], ◌∷◌, pos, length, replicate};
+ghost use Rattle.std.specs.Prelude.{◌≡◌, [], ◌∷◌, length};
+ghost use Rattle.refusals.specs.Outcomes.{number_of, moved_by, written_by, paid_by, written};
 ghost use Rattle.leduc_betting.specs.Betting.{FOLD, CALL, RAISE};
 ghost use Rattle.leduc_rules.specs.Stakes.{ante, raise₁, raise₂};
 ghost use Rattle.leduc_positions.specs.Positions.{legal_of};
-ghost use Rattle.leduc.specs.Calls.{started, dealt, stepped, legal-refusal, listed, key_of, key-refusal, keyed, written, paid, checked};
+ghost use Rattle.leduc.specs.Calls.{started, dealt, stepped, listed, key_of, keyed, paid, checked};
 
-use crate::output::{write_at, write_key};
+use crate::output::write_key;
+use leduc_money::settled;
 pub use leduc_positions::LeducState;
-use leduc_positions::saved::saved_refusal;
-use leduc_positions::state::{
-    card_due, end_mark, hand_over, is_reachable, legal_list, next_card, seat_acts, state_payoffs,
-    step_action, with_action, with_card,
-};
+use leduc_positions::{with_action, with_card};
+use prelude::copy_at;
+use refusals::{Payoffs, Refusal};
 
 // The game.
 #[derive(Clone, Copy)]
 pub struct LeducPoker {}
-
-// A call's refusal number, 0 if it was accepted, and a position: the new one of an accepted deal or step, else the one handed in.
-#[derive(Clone, Copy)]
-pub struct Moved {
-    pub refusal: u64,
-    pub state: LeducState,
-}
-
-// The same for a call that writes: how many bytes it wrote.
-#[derive(Clone, Copy)]
-pub struct Written {
-    pub refusal: u64,
-    pub state: LeducState,
-    pub count: usize,
-}
-
-// The same for the payoffs: one for each of count seats, 0 past them.
-#[derive(Clone, Copy)]
-pub struct Payoffs {
-    pub refusal: u64,
-    pub state: LeducState,
-    pub count: usize,
-    pub payoffs: [i64; 10],
-}
 
 impl LeducPoker {
     // The game's number in a call over a tree.
@@ -70,7 +46,7 @@ impl LeducPoker {
 
     pub const RAISE_TWO: usize = leduc_rules::RAISE_TWO;
 
-    // Document 01's numbers, which the constants have: the game, actions, cards, raises a round, seats, actions a round, stakes.
+    // What the constants are: the game, actions, cards, raises a round, seats, actions a round, stakes.
     fn constants() -> [u64; 11]
         ensures { result ≡ 1 ∷ FOLD ∷ CALL ∷ RAISE ∷ 6 ∷ 2 ∷ 2 ∷ 4 ∷ ante ∷ raise₁ ∷ raise₂ ∷ [] }
     {
@@ -90,180 +66,95 @@ impl LeducPoker {
     }
 
     // Start: the initial position.
-    pub fn initial_state() -> Moved
-        ensures { result ≡ started }
+    pub fn initial_state() -> LeducState
+        ensures { result ≡ started.state }
     {
-        Moved {
-            refusal: refusals::ACCEPTED,
-            state: LeducState::new(),
-        }
+        LeducState::new()
     }
 
     // Legal list: what a seat may do at its turn; nothing otherwise.
-    pub fn legal_actions(state: LeducState, agent: usize, out: &mut [u8]) -> Written
-        ensures answer { result ≡ listed state agent (length out.old) }
-        ensures output { out.new ≡ written (legal-refusal state agent (length out.old)) (legal_of state agent) out.old }
+    pub fn legal_actions(state: LeducState, agent: usize, out: &mut [u8]) -> Result<usize, Refusal>
+        ensures answer { written_by state result ≡ listed state agent (length out.old) }
+        ensures output { out.new ≡ written (number_of result) (legal_of state agent) out.old }
     {
-        if !is_reachable(state) {
-            return Written {
-                refusal: refusals::UNREACHABLE,
-                state,
-                count: 0,
-            };
+        let legal = state.reached()?.legal(agent);
+        if out.len() < legal.len() {
+            return Err(Refusal::Output);
         }
-        let legal = legal_list(state, agent);
-        let count = legal.count;
-        if out.len() < count {
-            return Written {
-                refusal: refusals::OUTPUT,
-                state,
-                count: 0,
-            };
-        }
-        let actions = legal.actions;
-        write_at(out, 0, &actions[..count]);
-        Written {
-            refusal: refusals::ACCEPTED,
-            state,
-            count,
-        }
+        copy_at(out, 0, legal);
+        Ok(legal.len())
     }
 
     // Deal: the card of an outcome among those left, ascending.
-    pub fn apply_chance_node(state: LeducState, outcome: usize) -> Moved
-        ensures { result ≡ dealt state outcome }
+    pub fn apply_chance_node(state: LeducState, outcome: usize) -> Result<LeducState, Refusal>
+        ensures { moved_by state result ≡ dealt state outcome }
     {
-        if !is_reachable(state) {
-            return Moved {
-                refusal: refusals::UNREACHABLE,
-                state,
-            };
+        let hand = state.reached()?;
+        if !hand.is_due() {
+            return Err(Refusal::Unfit);
         }
-        if !card_due(state) {
-            return Moved {
-                refusal: refusals::UNFIT,
-                state,
-            };
-        }
-        let card = next_card(state, outcome);
-        if 6 <= card {
-            return Moved {
-                refusal: refusals::UNFIT,
-                state,
-            };
-        }
-        Moved {
-            refusal: refusals::ACCEPTED,
-            state: with_card(state, (card % 256) as u8),
+        match hand.card_left(outcome) {
+            Some(card) => Ok(with_card(state, card as u8)),
+            None => Err(Refusal::Unfit),
         }
     }
 
     // Step: the seat whose turn it is acts; an illegal action becomes FOLD if that is legal, else CALL.
-    pub fn step(state: LeducState, action: usize) -> Moved
-        ensures { result ≡ stepped state action }
+    pub fn step(state: LeducState, action: usize) -> Result<LeducState, Refusal>
+        ensures { moved_by state result ≡ stepped state action }
     {
-        if !is_reachable(state) {
-            return Moved {
-                refusal: refusals::UNREACHABLE,
-                state,
-            };
+        let hand = state.reached()?;
+        if !hand.is_live() {
+            return Err(Refusal::Unfit);
         }
-        if !seat_acts(state) {
-            return Moved {
-                refusal: refusals::UNFIT,
-                state,
-            };
-        }
-        let made = step_action(state, action);
-        Moved {
-            refusal: refusals::ACCEPTED,
-            state: with_action(state, made),
-        }
+        let made = hand.action_made(action);
+        Ok(with_action(state, made))
     }
 
     // Key: what a seat that has a card knows.
-    pub fn information_state_key(state: LeducState, agent: usize, out: &mut [u8]) -> Written
-        ensures answer { result ≡ keyed state agent (length out.old) }
-        ensures output { out.new ≡ written (key-refusal state agent (length out.old)) (key_of state agent) out.old }
+    pub fn information_state_key(
+        state: LeducState,
+        agent: usize,
+        out: &mut [u8],
+    ) -> Result<usize, Refusal>
+        ensures answer { written_by state result ≡ keyed state agent (length out.old) }
+        ensures output { out.new ≡ written (number_of result) (key_of state agent) out.old }
     {
-        if !is_reachable(state) {
-            return Written {
-                refusal: refusals::UNREACHABLE,
-                state,
-                count: 0,
-            };
+        let hand = state.reached()?;
+        if hand.cards.len() <= agent {
+            return Err(Refusal::Unfit);
         }
-        if state.dealt <= agent {
-            return Written {
-                refusal: refusals::UNFIT,
-                state,
-                count: 0,
-            };
-        }
-        let bytes = 5 + state.acted1 + state.acted2;
+        let bytes = 5 + hand.first.len() + hand.second.len();
         if out.len() < bytes {
-            return Written {
-                refusal: refusals::OUTPUT,
-                state,
-                count: 0,
-            };
+            return Err(Refusal::Output);
         }
-        write_key(state, agent, out);
-        Written {
-            refusal: refusals::ACCEPTED,
-            state,
-            count: bytes,
-        }
+        write_key(&hand, agent, out);
+        Ok(bytes)
     }
 
     // Payoff: what each seat gains at the end of the hand.
-    pub fn payouts(state: LeducState) -> Payoffs
-        ensures { result ≡ paid state }
+    pub fn payouts(state: LeducState) -> Result<Payoffs, Refusal>
+        ensures { paid_by state result ≡ paid state }
     {
-        if !is_reachable(state) {
-            return no_payoffs(state, refusals::UNREACHABLE);
+        let hand = state.reached()?;
+        if !hand.is_over() {
+            return Err(Refusal::Unfit);
         }
-        if !hand_over(state) {
-            return no_payoffs(state, refusals::UNFIT);
-        }
-        let payoffs = state_payoffs(state);
-        Payoffs {
-            refusal: refusals::ACCEPTED,
-            state,
+        let gains = settled(&hand);
+        Ok(Payoffs {
             count: LeducPoker::SEATS,
-            payoffs: [payoffs.zero, payoffs.one, 0, 0, 0, 0, 0, 0, 0, 0],
-        }
+            payoffs: [gains[0], gains[1], 0, 0, 0, 0, 0, 0, 0, 0],
+        })
     }
 
     // Saved position with its end mark: 0 for a live hand, 1 for one that has ended.
-    pub fn validate_decoded_state(state: LeducState, done: u64) -> Moved
-        ensures { result ≡ checked state done }
+    pub fn validate_decoded_state(state: LeducState, done: u64) -> Result<(), Refusal>
+        ensures { record { refusal = number_of result; state = state } ≡ checked state done }
     {
-        let refusal = saved_refusal(state);
-        if refusal != refusals::ACCEPTED {
-            return Moved { refusal, state };
+        let hand = state.saved()?;
+        if done != u64::from(hand.is_over()) {
+            return Err(Refusal::EndMark);
         }
-        if done != end_mark(state) {
-            return Moved {
-                refusal: refusals::END_MARK,
-                state,
-            };
-        }
-        Moved {
-            refusal: refusals::ACCEPTED,
-            state,
-        }
-    }
-}
-
-// A refused payoff answer.
-fn no_payoffs(state: LeducState, refusal: u64) -> Payoffs
-    ensures { result ≡ record { refusal = refusal; state = state; count = 0; payoffs = replicate 10 (pos 0) } }
-{
-    Payoffs {
-        refusal,
-        state,
-        count: 0,
-        payoffs: [0i64; 10],
+        Ok(())
     }
 }

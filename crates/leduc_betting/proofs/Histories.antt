@@ -2,30 +2,29 @@
 use mathlib.Core.Path.{◌≡◌, refl, sym, ap, ◌∙◌}
 use mathlib.Core.Bool.{Bool, true, false, not, cond}
 use mathlib.Core.List.{List, [], ◌∷◌, ◌++◌, append-nil}
-use Prim.Native.Nat.{ℕ, zero, suc, ◌+◌, ◌≤◌, ◌<◌}
+use Prim.Native.Nat.{ℕ, zero, suc, ◌-◌, ◌≤◌, ◌<◌}
 use native.Mathlib.Omega.{arith}
-use native.Mathlib.Numerals.{add-one}
 use lib.Dec.{eqb, ltb}
-use lib.ListN.{length, get_or, drop, drop_of_length-le}
-use lib.Seq.{drop-cons}
+use lib.ListN.{length}
+use Rattle.std.specs.Prelude.{Option, Some, None, option_copied, slice_get}
+use Rattle.std.specs.Option.{option_eq}
+use Rattle.std.proofs.lemmas.Option.{none-some, slice_get-get_or, get_or_from_slice_get}
+use denote.Ref.{Bor}
 use Rattle.prelude.specs.Finite.{◌and◌, ◌or◌, those}
 use Rattle.prelude.proofs.Lists.{those_kept, those_passed}
 use borrow.Author.Tests.{ne_eqb, ltb-true, ltb-false, lt-ltb}
 use Rattle.prelude.proofs.Tests.{Tested, holds, fails, tested, or_none, true≢false}
-use Rattle.leduc_betting.proofs.Deals.{at_most_one}
 use Rattle.leduc_betting.specs.Betting.{FOLD, CALL, RAISE, ends_with, behind, raises, may, options}
 
--- what a place adds to the raises, as a loop counts
-pub raises_step : (h : List ℕ) (i : ℕ) → i < length h → raises (drop i h) ≡ cond (eqb (get_or h i 0) RAISE) 1 0 + raises (drop (i + 1) h)
-unfolding raises
-raises_step h i w = rw (add-one, drop-cons h i 0 w)
-
-pub raises_end : (h : List ℕ) (i : ℕ) → length h ≤ i → raises (drop i h) ≡ 0
-unfolding raises
-raises_end h i w = ap raises (drop_of_length-le h w)
-
-pub raise_at_most_one : (a : ℕ) → cond (eqb a RAISE) 1 0 ≤ 1
-raise_at_most_one a = at_most_one (eqb a RAISE)
+-- the last action, where there is one, beside a
+pub last_ends : (h : List ℕ) (a : ℕ) (r : Option (Bor ℕ)) (x : Bor ℕ) → x.now ≡ a → option_copied r ≡ slice_get h (length h - 1)
+    → option_eq (λ y z. eqb y.now z.now) r (Some x) ≡ ends_with a h
+unfolding ends_with ◌and◌
+last_ends [] a None x w e = refl
+last_ends [] a (Some y) x w e = absurd (none-some y.now (sym e))
+last_ends (b ∷ h) a None x w e = absurd (none-some _ (e ∙ slice_get-get_or (b ∷ h) (length (b ∷ h) - 1) 0 (omega arith)))
+last_ends (b ∷ h) a (Some y) x w e =
+    rw (w, lt-ltb 0 (length (b ∷ h)) (omega arith), get_or_from_slice_get (b ∷ h) (length (b ∷ h) - 1) y.now 0 (sym e)) refl
 
 -- ---- what is legal, action by action
 

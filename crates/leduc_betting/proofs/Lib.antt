@@ -3,3 +3,5 @@ pub mod Histories
 pub mod Deals
 pub mod Checks
 pub mod Rounds
+pub mod Branches
+pub mod Made

@@ -1,7 +1,7 @@
--- Leduc's betting (document 01, "The two games"; Southey et al. 2005): what depends on the histories alone.
+-- Leduc's betting (Southey et al. 2005): what depends on the histories alone.
 -- A history lists the actions of one round, from the first; h₁ and h₂ are those of the two rounds.
 -- `abbrev` and `unfoldable` tell the prover when it may put a definition in place of its name; a reader may pass over both.
-use Rattle.std.specs.Prelude.{Bool, true, not, cond, List, [], ◌∷◌, ◌++◌, ℕ, ◌+◌, ◌-◌, ◌%◌, eqb, leb, ltb, length, get_or}
+use Rattle.std.specs.Prelude.{Bool, true, not, cond, List, [], ◌∷◌, ◌++◌, ℕ, ◌-◌, ◌%◌, eqb, leb, ltb, length, get_or, ◌==◌, count_by}
 use Rattle.prelude.specs.Finite.{◌and◌, ◌or◌, some, those}
 
 -- ---- one round
@@ -37,8 +37,7 @@ behind h = ends_with RAISE h
 
 -- how often the round was raised
 unfoldable pub raises : List ℕ → ℕ
-raises [] = 0
-raises (a ∷ h) = cond (eqb a RAISE) 1 0 + raises h
+raises h = count_by (λ a. a == RAISE) h
 
 -- FOLD is legal only when behind, CALL always, RAISE while the round has fewer than 2 raises
 unfoldable pub may : List ℕ → ℕ → Bool

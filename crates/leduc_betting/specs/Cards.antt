@@ -1,22 +1,19 @@
--- Leduc's cards (document 01, "The two games"): 0 to 5, two of each rank; one for each seat, then a public one.
-use Rattle.std.specs.Prelude.{Bool, true, false, not, List, [], ◌∷◌, ◌++◌, ℕ, ◌/◌, leb, ltb, length, get_or, take}
+-- Leduc's cards: 0 to 5, two of each rank; one for each seat, then a public one.
+use Rattle.std.specs.Prelude.{Bool, not, List, [], ◌∷◌, ◌++◌, ℕ, ◌/◌, leb, ltb, length, get_or, take, Option, None, Some, is_none}
 use Rattle.prelude.specs.Finite.{◌and◌, some, those, has}
-use Rattle.leduc_betting.specs.declared.Public.{Public}
-use Rattle.leduc_betting.specs.declared.Public.TheVariants.{Hidden, Card}
 
 -- rank = card / 2 rounded down
 abbrev pub rank : ℕ → ℕ
 rank c = c / 2
 
 -- no public card lies there
-abbrev pub hidden : Public → Bool
-hidden Hidden = true
-hidden (Card c) = false
+abbrev pub hidden : Option ℕ → Bool
+hidden p = is_none p
 
 -- the cards dealt: the seats' and the public one
-abbrev pub seen : List ℕ → Public → List ℕ
-seen cs Hidden = cs
-seen cs (Card c) = cs ++ (c ∷ [])
+abbrev pub seen : List ℕ → Option ℕ → List ℕ
+seen cs None = cs
+seen cs (Some c) = cs ++ (c ∷ [])
 
 -- card c is left once the cards cs are dealt
 unfoldable pub left : List ℕ → ℕ → Bool

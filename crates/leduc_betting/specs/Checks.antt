@@ -1,4 +1,4 @@
--- The checks of a saved position's cards and histories (document 01, numbers 11 to 17), in the order in which they are made.
+-- The checks of a saved position's cards and histories, numbers 11 to 17, in the order in which they are made.
 use Rattle.std.specs.Prelude.{Bool, not, List, [], ◌∷◌, ◌++◌, ℕ, ltb}
 use Rattle.refusals.specs.Refusals.{Check, ◌refuses◌}
 use Rattle.refusals.specs.Refusals as Refusals

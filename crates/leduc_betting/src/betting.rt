@@ -1,144 +1,127 @@
 // The betting: what depends on the histories alone. A history is the part of the array that holds one round.
-ghost use Rattle.std.specs.Prelude.{◌≡◌, cond, [], ◌∷◌, eqb};
+ghost use Rattle.std.specs.Prelude.{◌≡◌, [], ◌∷◌};
 ghost use Rattle.refusals.specs.Refusals.{first};
-ghost use Rattle.leduc_betting.specs.Betting.{ends_with, folded, closes, open_round, raises, may, counted, ended, unknown};
+ghost use Rattle.refusals.specs.Outcomes.{number_of};
+ghost use Rattle.leduc_betting.specs.Betting.{ends_with, folded, closes, open_round, raises, may, counted, ended, unknown, options};
 ghost use Rattle.leduc_betting.specs.Checks.{action_checks};
 
-use prelude::wide;
+use refusals::Refusal;
 
 // Whether the round's last action is a.
 pub fn last_is(h: &[u8], a: u8) -> bool
     ensures { result ≡ ends_with a h.now }
 {
-    let n = h.len();
-    if n == 0 {
-        return false;
-    }
-    h[n - 1] == a
+    h.last() == Some(&a)
 }
 
 // Whether a seat has folded.
 pub fn has_fold(h: &[u8]) -> bool
     ensures { result ≡ folded h.now }
 {
-    prelude::contains(h, h.len(), crate::FOLD as usize)
+    prelude::contains(h, usize::from(crate::FOLD))
 }
 
 // Whether the round has closed: at a CALL that is its second or later action.
+#[tactic(auto, using(crate::proofs::Branches::branches), unfolding(crate::specs::Betting::closes))]
 pub fn round_over(h: &[u8]) -> bool
     ensures { result ≡ closes h.now }
 {
-    if h.len() < 2 {
-        return false;
-    }
-    last_is(h, crate::CALL)
+    2 <= h.len() && last_is(h, crate::CALL)
 }
 
 // Whether the round goes on.
+#[tactic(auto, using(crate::proofs::Branches::branches), unfolding(crate::specs::Betting::open_round))]
 pub fn is_open(h: &[u8]) -> bool
     ensures { result ≡ open_round h.now }
 {
-    if has_fold(h) {
-        return false;
-    }
-    !round_over(h)
+    !has_fold(h) && !round_over(h)
 }
 
 // How often the round was raised.
+#[tactic(auto, unfolding(crate::specs::Betting::raises))]
 pub fn raise_count(h: &[u8]) -> usize
     ensures { result ≡ raises h.now }
 {
-    let mut n = 0;
-    let mut i = 0;
-    while i < h.len() {
-        n += one_if_raise(h[i]);
-        i += 1;
-    }
-    n
-}
-
-fn one_if_raise(a: u8) -> usize
-    ensures { result ≡ cond (eqb a 2) 1 0 }
-{
-    if a == crate::RAISE { 1 } else { 0 }
+    h.iter().filter(|a| **a == crate::RAISE).count()
 }
 
 // Whether an action is legal in a round that goes on.
+#[tactic(auto, using(crate::proofs::Made::made))]
 pub fn is_legal(h: &[u8], a: usize) -> bool
     ensures { result ≡ may h.now a }
 {
-    if a == wide(crate::FOLD) {
-        return last_is(h, crate::RAISE);
+    if a == usize::from(crate::FOLD) {
+        last_is(h, crate::RAISE)
+    } else if a == usize::from(crate::RAISE) {
+        raise_count(h) < crate::RAISES
+    } else {
+        a == usize::from(crate::CALL)
     }
-    if a == wide(crate::RAISE) {
-        return raise_count(h) < crate::RAISES;
+}
+
+// The legal actions in a round that goes on, in ascending order.
+#[tactic(auto, using(crate::proofs::Made::listed))]
+pub fn options_of(h: &[u8]) -> &'static [u8]
+    ensures { result.now ≡ options h.now }
+{
+    match (last_is(h, crate::RAISE), raise_count(h) < crate::RAISES) {
+        (true, true) => &[crate::FOLD, crate::CALL, crate::RAISE],
+        (true, false) => &[crate::FOLD, crate::CALL],
+        (false, true) => &[crate::CALL, crate::RAISE],
+        (false, false) => &[crate::CALL],
     }
-    a == wide(crate::CALL)
 }
 
 // What a step makes of an action: an illegal one becomes FOLD if that is legal, else CALL.
+#[tactic(auto, using(crate::proofs::Made::made), unfolding(crate::specs::Betting::counted))]
 pub fn action_made(h: &[u8], a: usize) -> u8
     ensures { result ≡ counted h.now a }
 {
     if is_legal(h, a) {
-        return (a % 256) as u8;
+        a as u8
+    } else if is_legal(h, usize::from(crate::FOLD)) {
+        crate::FOLD
+    } else {
+        crate::CALL
     }
-    if is_legal(h, wide(crate::FOLD)) {
-        return crate::FOLD;
-    }
-    crate::CALL
 }
 
 // Whether an action is none of FOLD, CALL and RAISE.
 pub fn unknown_action(h: &[u8]) -> bool
     ensures { result ≡ unknown h.now }
 {
-    prelude::any_above(h, h.len(), crate::RAISE as usize)
+    prelude::any_above(h, usize::from(crate::RAISE))
 }
 
-// The refusal number of a round's actions: the first that stands after the round closed, or was not legal when made.
-pub fn round_refusal(h: &[u8], barred: bool, blind: bool) -> u64
-    ensures { result ≡ first (action_checks barred blind [] h.now) }
+// Refuses a round's first action that stands after the round closed, or was not legal when made. Barred: no action may stand in the round; blind: none is
+// legal there, for lack of the public card.
+pub fn check_round(h: &[u8], barred: bool, blind: bool) -> Result<(), Refusal>
+    ensures { number_of result ≡ first (action_checks barred blind [] h.now) }
 {
-    let mut i = 0;
-    while i < h.len() {
-        let r = action_refusal(&h[..i], wide(h[i]), barred, blind);
-        if r != refusals::ACCEPTED {
-            return r;
-        }
-        i += 1;
+    for (i, a) in h.iter().enumerate() {
+        check_action(&h[..i], usize::from(*a), barred, blind)?;
     }
-    refusals::ACCEPTED
+    Ok(())
 }
 
-// The refusal number of one action, after those made before it.
-fn action_refusal(before: &[u8], a: usize, barred: bool, blind: bool) -> u64
-    ensures { result ≡ first (action_checks barred blind before.now (a ∷ [])) }
+// Refuses one action, after those made before it.
+#[tactic(auto, using(crate::proofs::Branches::branches), unfolding(crate::specs::Checks::action_checks))]
+fn check_action(before: &[u8], a: usize, barred: bool, blind: bool) -> Result<(), Refusal>
+    ensures { number_of result ≡ first (action_checks barred blind before.now (a ∷ [])) }
 {
-    if barred {
-        return refusals::CLOSED;
+    if barred || !is_open(before) {
+        return Err(Refusal::Closed);
     }
-    if !is_open(before) {
-        return refusals::CLOSED;
+    if blind || !is_legal(before, a) {
+        return Err(Refusal::Illegal);
     }
-    if blind {
-        return refusals::ILLEGAL;
-    }
-    if !is_legal(before, a) {
-        return refusals::ILLEGAL;
-    }
-    refusals::ACCEPTED
+    Ok(())
 }
 
 // Whether the hand has ended: a seat has folded, or round 2 has closed.
+#[tactic(auto, using(crate::proofs::Branches::branches), unfolding(crate::specs::Betting::ended))]
 pub fn is_terminal(round1: &[u8], round2: &[u8]) -> bool
     ensures { result ≡ ended round1.now round2.now }
 {
-    if has_fold(round1) {
-        return true;
-    }
-    if has_fold(round2) {
-        return true;
-    }
-    round_over(round2)
+    has_fold(round1) || (has_fold(round2) || round_over(round2))
 }

@@ -1,85 +1,48 @@
 // The cards: 0 to 5, two of each rank.
-ghost use Rattle.std.specs.Prelude.{◌≡◌, cond, ◌≤◌, get_or, take};
-ghost use Rattle.prelude.specs.Finite.{has};
-ghost use Rattle.leduc_betting.specs.Cards.{seen, left, remaining, strange, twice};
+ghost use Rattle.std.specs.Prelude.{◌≡◌, ◌≤◌, length};
+ghost use Rattle.prelude.specs.internal.Places.{at_place};
+ghost use Rattle.leduc_betting.specs.Cards.{rank, remaining, seen, strange, twice};
 
-use crate::Public;
+use arrayvec::ArrayVec;
 
 // The cards dealt: the seats' and the public one.
-#[derive(Clone, Copy)]
-pub struct Seen {
-    pub cards: [u8; 3],
-    pub count: usize,
-}
-
-pub fn all_seen(cards: [u8; 2], dealt: usize, public: Public) -> Seen
-    requires { dealt ≤ 2 }
-    ensures within { result.count ≤ 3 }
-    ensures whole { take result.count result.cards ≡ seen (take dealt cards) public }
+pub fn all_seen(cards: &[u8], public: Option<u8>) -> ArrayVec<u8, 3>
+    requires { length cards.now ≤ 2 }
+    ensures { result.items ≡ seen cards.now public }
 {
-    let mut all = [cards[0], cards[1], 0];
-    match public {
-        Public::Hidden => Seen {
-            cards: all,
-            count: dealt,
-        },
-        Public::Card(c) => {
-            all[dealt] = c;
-            Seen {
-                cards: all,
-                count: dealt + 1,
-            }
-        }
+    let mut seen = ArrayVec::new();
+    seen.try_extend_from_slice(cards).unwrap();
+    if let Some(c) = public {
+        seen.push(c);
     }
-}
-
-// Whether card c is among cards.
-pub fn contains(cards: &[u8], c: usize) -> bool
-    ensures { result ≡ has c cards.now }
-{
-    prelude::contains(cards, cards.len(), c)
+    seen
 }
 
 // Whether a card is not in the deck.
 pub fn card_outside(cards: &[u8]) -> bool
     ensures { result ≡ strange cards.now }
 {
-    prelude::any_above(cards, cards.len(), crate::DECK as usize - 1)
+    prelude::any_above(cards, usize::from(crate::DECK) - 1)
 }
 
 // Whether a card appears twice.
+#[tactic(auto, unfolding(crate::specs::Cards::twice))]
 pub fn card_twice(cards: &[u8]) -> bool
     ensures { result ≡ twice cards.now }
 {
-    prelude::repeats(cards, cards.len())
+    prelude::repeats(cards)
 }
 
-// The card of an outcome among those left, ascending; 6 where there are not so many.
-pub fn nth_remaining(cards: &[u8], outcome: usize) -> usize
-    ensures { result ≡ get_or (remaining cards.now) outcome 6 }
+// The card of an outcome among those left, ascending; none where there are not so many.
+pub fn nth_remaining(cards: &[u8], outcome: usize) -> Option<usize>
+    ensures { result ≡ at_place (remaining cards.now) outcome }
 {
-    let mut c = 0;
-    let mut passed = 0;
-    while c < 6 {
-        let one = one_if_left(cards, c);
-        if outcome < passed + one {
-            return c;
-        }
-        passed += one;
-        c += 1;
-    }
-    c
+    prelude::nth_left(cards, usize::from(crate::DECK), outcome)
 }
 
-// 1 if card c is left, 0 if it is dealt or not in the deck.
-fn one_if_left(cards: &[u8], c: usize) -> usize
-    ensures { result ≡ cond (left cards.now c) 1 0 }
+// The rank of a card.
+pub fn rank(card: u8) -> u8
+    ensures { result ≡ rank card }
 {
-    if 6 <= c {
-        return 0;
-    }
-    if contains(cards, c) {
-        return 0;
-    }
-    1
+    card / 2
 }

@@ -3,7 +3,6 @@
 
 pub mod betting;
 pub mod cards;
-pub mod options;
 
 // The actions.
 pub const FOLD: u8 = 0;
@@ -17,10 +16,3 @@ pub const DECK: u8 = 6;
 
 // The raises of a round.
 pub const RAISES: usize = 2;
-
-// The public card, or none.
-#[derive(Clone, Copy)]
-pub enum Public {
-    Hidden,
-    Card(u8),
-}

@@ -1,12 +1,11 @@
--- Positions, and what is checked of them (document 01, "The two games" and numbers 10 to 17 and 19).
-use Rattle.std.specs.Prelude.{Bool, false, not, cond, List, [], ◌∷◌, ◌++◌, ℕ, ◌+◌, eqb, leb, ltb, ℤ, take, drop, set, replicate}
+-- Positions, and what is checked of them: numbers 10 to 17 and 19.
+use Rattle.std.specs.Prelude.{Bool, false, not, cond, List, [], ◌∷◌, ◌++◌, ℕ, ◌+◌, eqb, leb, ltb, ℤ, take, drop, set, replicate, None, Some}
 use Rattle.refusals.specs.Refusals.{Check, ◌refuses◌}
 use Rattle.refusals.specs.Refusals as Refusals
 use Rattle.prelude.specs.Finite.{◌and◌}
 use Rattle.leduc_betting.specs.Betting.{closes, in_play}
 use Rattle.leduc_betting.specs.Cards.{hidden, seen}
 use Rattle.leduc_betting.specs.Checks.{barred_by, card_checks, round_checks, public_checks}
-use Rattle.leduc_betting.specs.declared.Public.TheVariants.{Hidden, Card}
 use Rattle.leduc_rules.specs.Rules.{legal, payoff}
 use Rattle.leduc_rules.specs.Stakes.{ante, raise₁, raise₂}
 use Rattle.leduc_rules.specs.Reached.{possible}
@@ -29,7 +28,7 @@ round_two s = take s.acted2 (drop 4 s.history)
 
 -- the initial position
 abbrev pub initial : LeducState
-initial = record { cards = replicate 2 0; dealt = 0; public = Hidden; history = replicate 8 0; acted1 = 0; acted2 = 0 }
+initial = record { cards = replicate 2 0; dealt = 0; public = None; history = replicate 8 0; acted1 = 0; acted2 = 0 }
 
 -- one card more: a seat's, or the public one once both have theirs
 abbrev pub with_private : LeducState → ℕ → LeducState
@@ -44,7 +43,7 @@ with_private s c = record {
 
 abbrev pub with_public : LeducState → ℕ → LeducState
 with_public s c =
-    record { cards = s.cards; dealt = s.dealt; public = Card c; history = s.history; acted1 = s.acted1; acted2 = s.acted2 }
+    record { cards = s.cards; dealt = s.dealt; public = Some c; history = s.history; acted1 = s.acted1; acted2 = s.acted2 }
 
 abbrev pub with_card : LeducState → ℕ → LeducState
 with_card s c = cond (ltb s.dealt 2) (with_private s c) (with_public s c)

@@ -8,10 +8,10 @@ use native.Mathlib.Omega.{arith}
 use lib.Dec.{eqb, ltb}
 use lib.ListN.{length, get_or}
 use borrow.Author.Tests.{eqb-true, eqb-false, ltb-true, lt-ltb, le-ltb}
+use Rattle.std.specs.Prelude.{Option}
 use Rattle.prelude.specs.Finite.{◌and◌, ◌or◌, some}
 use Rattle.prelude.proofs.Tests.{Tested, holds, fails, tested, iff, true≢false, and_left, and_right, and_right_fails, or_cases}
 use Rattle.leduc_betting.specs.Betting.{CALL, RAISE, ends_with, folded, closes, behind, in_play, turn, played}
-use Rattle.leduc_betting.specs.declared.Public.{Public}
 use Rattle.leduc_betting.proofs.Rounds.{all_of, rounds, round_rule}
 use Rattle.leduc_rules.specs.Rules.{live, put_in, added, contribution}
 use Rattle.leduc_rules.specs.Moves.{Reached}
@@ -105,7 +105,7 @@ module _ (ante raise₁ raise₂ : ℕ) where
   in_second h₁ h₂ c e f =
       shifted (ante + added raise₁ h₁ (length h₂ % 2)) (λ (x, y). y) (in_round raise₂ h₂ e f) refl (ap (λ x. ante + x + added raise₂ h₂ (1 - length h₂ % 2)) (level_first h₁ (length h₂) c))
 
-  in_hand : (cs : List ℕ) (p : Public) (h₁ h₂ : List ℕ) → Reached cs p h₁ h₂ → live cs p h₁ h₂ ≡ true → Whole (behind (in_play h₁ h₂)) h₁ h₂ (turn h₁ h₂)
+  in_hand : (cs : List ℕ) (p : Option ℕ) (h₁ h₂ : List ℕ) → Reached cs p h₁ h₂ → live cs p h₁ h₂ ≡ true → Whole (behind (in_play h₁ h₂)) h₁ h₂ (turn h₁ h₂)
   unfolding in_play turn
   in_hand cs p h₁ h₂ r l = go (tested (closes h₁))
     where

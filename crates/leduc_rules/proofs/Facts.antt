@@ -9,6 +9,7 @@ use lib.IntN.{pos, ◌+ℤ◌, +ℤ_invr, +ℤ_invl}
 use lib.ListN.{length, get_or, take, drop}
 use lib.Seq.{take-append_seam, drop-append_seam}
 use borrow.Author.Tests.{eq-eqb, lt-ltb, ltb-true, leb-true, leb-false, not-true}
+use Rattle.std.specs.Prelude.{Option, None, Some}
 use Rattle.prelude.specs.Finite.{◌and◌, ◌or◌, some, has}
 use Rattle.prelude.proofs.Tests.{Tested, holds, fails, tested, both, and_left, and_right, and_left_fails, and_right_fails, and-rest, or_left, or_right, or_cases, or_false_right, true≢false}
 use Rattle.prelude.proofs.Lists.{those-ascending, has-those}
@@ -17,8 +18,6 @@ use Rattle.leduc_betting.specs.Betting.{folded, closes, may, options, in_play, t
 use Rattle.leduc_rules.specs.Rules.{folds, pairs, beats, wins, public-due, due, live, legal, key, contribution, payoff}
 use Rattle.leduc_betting.specs.Checks.{action_checks, barred_by}
 use Rattle.leduc_rules.specs.Facts.{LegalMoves, ZeroSum, Ascending, AllLeft, LongestRound, SameShape, KeyTells, KeyRecalls, PublicTold, SecondTooEarly}
-use Rattle.leduc_betting.specs.declared.Public.{Public}
-use Rattle.leduc_betting.specs.declared.Public.TheVariants.{Hidden, Card}
 use Rattle.leduc_betting.proofs.Histories.{may-small}
 use Rattle.leduc_betting.proofs.Rounds.{all_of, rounds, round_rule, closed-unfolded}
 use Rattle.leduc_rules.proofs.Gains.{gained}
@@ -36,7 +35,7 @@ unfolding all_of lone_folder rounds ◌and◌ ◌or◌ some folds folded
 all_lone = refl
 
 -- not both seats win
-module _ (cs : List ℕ) (p : Public) where
+module _ (cs : List ℕ) (p : Option ℕ) where
   one_beats : beats cs p 0 1 ≡ true → beats cs p 1 0 ≡ true → ⊥
   unfolding beats
   one_beats e f =
@@ -53,7 +52,7 @@ unfolding folds some
 nobody_folds s = refl
 
 -- where a seat has folded, it alone has
-module _ {cs : List ℕ} {p : Public} {h₁ h₂ : List ℕ} (w : Possible cs p h₁ h₂) where
+module _ {cs : List ℕ} {p : Option ℕ} {h₁ h₂ : List ℕ} (w : Possible cs p h₁ h₂) where
   lone : (h : List ℕ) → lone_folder h ≡ true → folds h 0 ≡ true → folds h 1 ≡ true → ⊥
   unfolding lone_folder
   lone h e a b = true≢false (folds h 0 and folds h 1) (both a b) (not-true (folds h 0 and folds h 1) (and_left (not (folds h 0 and folds h 1)) _ e))
@@ -196,11 +195,11 @@ key-recalls cs cs' p p' h₁ h₁' h₂ h₂' s s' e k =
     let (a, b, c, d, f) = key-tells cs cs' p p' h₁ h₁' h₂ h₂' s s' e in
     (cc, cc)
 
-card-known : (cs : List ℕ) (x : ℕ) {h₁ h₂ : List ℕ} → Possible cs (Card x) h₁ h₂ → x < 6
+card-known : (cs : List ℕ) (x : ℕ) {h₁ h₂ : List ℕ} → Possible cs (Some x) h₁ h₂ → x < 6
 card-known cs x w = leb-false 6 x (or_false_right (strange cs) (leb 6 x) (sym (strange_more cs x) ∙ w.in_deck))
 
 pub public-told : PublicTold
-public-told cs cs' Hidden Hidden h₁ h₁' h₂ h₂' r r' e = refl
-public-told cs cs' Hidden (Card x) h₁ h₁' h₂ h₂' r r' e = let l = card-known cs' x (reached_parts r') in absurd (omega arith)
-public-told cs cs' (Card x) Hidden h₁ h₁' h₂ h₂' r r' e = let l = card-known cs x (reached_parts r) in absurd (omega arith)
-public-told cs cs' (Card x) (Card y) h₁ h₁' h₂ h₂' r r' e = ap Card e
+public-told cs cs' None None h₁ h₁' h₂ h₂' r r' e = refl
+public-told cs cs' None (Some x) h₁ h₁' h₂ h₂' r r' e = let l = card-known cs' x (reached_parts r') in absurd (omega arith)
+public-told cs cs' (Some x) None h₁ h₁' h₂ h₂' r r' e = let l = card-known cs x (reached_parts r) in absurd (omega arith)
+public-told cs cs' (Some x) (Some y) h₁ h₁' h₂ h₂' r r' e = ap Some e

@@ -6,6 +6,7 @@ use Prim.Native.Nat.{ℕ, ◌≤◌}
 use lib.Dec.{eqb, ltb}
 use lib.ListN.{length}
 use borrow.Author.Tests.{eqb-true, ltb-false, le-ltb, not-true, not-false}
+use Rattle.std.specs.Prelude.{Option}
 use Rattle.refusals.specs.Refusals.{first, ◌refuses◌}
 use Rattle.refusals.proofs.Order.{fails_first, fails_rest}
 use Rattle.prelude.specs.Finite.{◌and◌, ◌or◌, some}
@@ -13,7 +14,6 @@ use Rattle.prelude.proofs.Tests.{Tested, holds, fails, tested, both, neither, or
 use Rattle.leduc_betting.specs.Betting.{closes, open_round, may, played, unknown}
 use Rattle.leduc_betting.specs.Cards.{hidden}
 use Rattle.leduc_betting.specs.Checks.{action_checks, barred_by, malformed, round_checks}
-use Rattle.leduc_betting.specs.declared.Public.{Public}
 use Rattle.leduc_betting.proofs.Checks.{played_first}
 use Rattle.leduc_betting.proofs.Rounds.{all_of, rounds, round_rule, closed-unfolded}
 use Rattle.leduc_rules.proofs.Reaching.{Possible}
@@ -59,7 +59,7 @@ played-known n h l e = neither (le-ltb 4 n l) (not-true (unknown h) (round_rule 
 pub first_passes : (n : ℕ) (h : List ℕ) → n ≤ 4 → played [] h ≡ true → first (round_checks false false n h) ≡ 0
 first_passes n h l e = rw (played-known n h l e) (eqb-true _ 0 (played_first [] h ∙ e))
 
-module _ {cs : List ℕ} {p : Public} {h₁ h₂ : List ℕ} (w : Possible cs p h₁ h₂) where
+module _ {cs : List ℕ} {p : Option ℕ} {h₁ h₂ : List ℕ} (w : Possible cs p h₁ h₂) where
   unbarred : hidden p ≡ false → barred_by h₁ ≡ false
   unfolding barred_by
   unbarred q =

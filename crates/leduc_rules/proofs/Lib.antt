@@ -7,3 +7,4 @@ pub mod Moves
 pub mod Facts
 pub mod Behind
 pub mod Lawful
+pub mod Play

@@ -10,10 +10,10 @@ use native.Mathlib.Numerals.{add-one}
 use lib.Dec.{eqb}
 use lib.ListN.{length, get_or, drop, drop_of_length-le}
 use lib.Seq.{drop-cons}
+use Rattle.std.specs.Prelude.{Option}
 use Rattle.prelude.proofs.Tests.{Tested, holds, fails, tested}
 use Rattle.leduc_betting.specs.Betting.{CALL, RAISE, closes}
 use Rattle.leduc_rules.specs.Rules.{after-action, put_in, added, contribution, wins, payoff}
-use Rattle.leduc_betting.specs.declared.Public.{Public}
 use Rattle.leduc_rules.specs.declared.Pot.{Pot}
 use Rattle.leduc_rules.specs.internal.Pots.{matched, bet, seated, after-round, pot_of, pot, BeginsLevel}
 use Rattle.leduc_rules.proofs.Gains.{gained}
@@ -141,7 +141,7 @@ module _ (ante raise₁ raise₂ : ℕ) (h₁ h₂ : List ℕ) where
 
 -- ---- the payoffs at today's stakes, from who wins and the pot
 
-module _ (cs : List ℕ) (p : Public) (h₁ h₂ : List ℕ) (w : BeginsLevel h₁ h₂) (x y : Bool) (q : Pot) (e : x ≡ wins cs p h₁ h₂ 0 1) (f : y ≡ wins cs p h₁ h₂ 1 0) (g : q ≡ pot 1 2 4 h₁ h₂) where
+module _ (cs : List ℕ) (p : Option ℕ) (h₁ h₂ : List ℕ) (w : BeginsLevel h₁ h₂) (x y : Bool) (q : Pot) (e : x ≡ wins cs p h₁ h₂ 0 1) (f : y ≡ wins cs p h₁ h₂ 1 0) (g : q ≡ pot 1 2 4 h₁ h₂) where
   paid_is : q ≡ pot_of (contribution 1 2 4 h₁ h₂ 0) (contribution 1 2 4 h₁ h₂ 1)
   paid_is = g ∙ pot-paid 1 2 4 h₁ h₂ w
 

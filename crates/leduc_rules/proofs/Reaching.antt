@@ -7,16 +7,16 @@ use native.Mathlib.Omega.{arith}
 use lib.Dec.{eqb}
 use lib.ListN.{length}
 use borrow.Author.Tests.{eqb-true, leb-true, not-true}
+use Rattle.std.specs.Prelude.{Option}
 use Rattle.prelude.specs.Finite.{◌and◌, ◌or◌, some}
 use Rattle.prelude.proofs.Tests.{and_left, and_right, or_cases, or_false_right, true≢false}
 use Rattle.leduc_betting.specs.Betting.{folded, closes, open_round, ended, played}
 use Rattle.leduc_rules.specs.Rules.{due, live}
 use Rattle.leduc_betting.specs.Cards.{hidden, seen, strange, twice}
 use Rattle.leduc_rules.specs.Reached.{possible}
-use Rattle.leduc_betting.specs.declared.Public.{Public}
 use Rattle.leduc_betting.proofs.Rounds.{open_short}
 
-pub record Possible (cs : List ℕ) (p : Public) (h₁ h₂ : List ℕ) : Type 0 where
+pub record Possible (cs : List ℕ) (p : Option ℕ) (h₁ h₂ : List ℕ) : Type 0 where
   pub few : length cs ≤ 2
   pub in_deck : strange (seen cs p) ≡ false
   pub once : twice (seen cs p) ≡ false
@@ -26,7 +26,7 @@ pub record Possible (cs : List ℕ) (p : Public) (h₁ h₂ : List ℕ) : Type 0
   pub shown-late : (hidden p or closes h₁) ≡ true
   pub blind_early : (not (hidden p) or eqb (length h₂) 0) ≡ true
 
-module _ (cs : List ℕ) (p : Public) (h₁ h₂ : List ℕ) where
+module _ (cs : List ℕ) (p : Option ℕ) (h₁ h₂ : List ℕ) where
   pub possible_parts : possible cs p h₁ h₂ ≡ true → Possible cs p h₁ h₂
   unfolding possible
   possible_parts e =
@@ -63,7 +63,7 @@ pub still_open : (h : List ℕ) → (folded h or closes h) ≡ false → open_ro
 unfolding open_round
 still_open h q = rw q
 
-module _ {cs : List ℕ} {p : Public} {h₁ h₂ : List ℕ} (w : Possible cs p h₁ h₂) where
+module _ {cs : List ℕ} {p : Option ℕ} {h₁ h₂ : List ℕ} (w : Possible cs p h₁ h₂) where
   -- before any action of round 1 there is none of round 2
   pub second-later : h₁ ≡ [] → h₂ ≡ []
   second-later e =

@@ -1,5 +1,4 @@
--- Leduc hold'em (document 01, "The two games"; Southey et al. 2005):
--- the deal, the keys and the money, and the positions that the rules reach.
+-- Leduc hold'em (Southey et al. 2005): the deal, the keys and the money, and the positions that the rules reach.
 pub mod Rules
 pub mod Stakes
 pub mod Reached

@@ -1,4 +1,4 @@
--- Today's stakes (document 01, "The two games").
+-- Today's stakes.
 use Rattle.std.specs.Prelude.{ℕ}
 
 -- every seat pays 1 before the deal,

@@ -2,7 +2,7 @@
 // The money is computed in the crate leduc_money; positions are in the crate leduc_positions, the calls on them in the crate leduc.
 #![tactic(auto)]
 
-pub mod play;
+pub mod hand;
 pub mod saved;
 
 // The seats.

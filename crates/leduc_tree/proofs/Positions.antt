@@ -9,6 +9,7 @@ use lib.Dec.{ltb}
 use lib.IntN.{ℤ, pos, ◌+ℤ◌, +ℤ_idl}
 use lib.ListN.{length}
 use borrow.Author.Tests.{eq-eqb, ltb-true, not-true}
+use Rattle.std.specs.Prelude.{Option, None, Some}
 use Rattle.prelude.specs.Finite.{sumℤ}
 use Rattle.prelude.proofs.Tests.{Tested, holds, fails, tested, true≢false, both, and_left, and_right, or_left, or_right, or_cases, or_false_left}
 use Rattle.game_tree.specs.Tree.{Tree, end, chance, decide, Trees, nil, cons}
@@ -18,8 +19,6 @@ use Rattle.game_tree.specs.Nodes.{nodes, nodes_all, node_of}
 use Rattle.game_tree.proofs.Counting.{In, in_left, in_right, in_append}
 use Rattle.game_tree.proofs.Nodes.{place_of, in_map, Along, along_append, along-length, along_at, length-nodes}
 use Rattle.game_tree.proofs.Numbers.{those_in}
-use Rattle.leduc_betting.specs.declared.Public.{Public}
-use Rattle.leduc_betting.specs.declared.Public.TheVariants.{Hidden, Card}
 use Rattle.leduc_betting.specs.Betting.{closes, may, options, in_play, turn, ended}
 use Rattle.leduc_betting.specs.Cards.{hidden, seen, left, remaining}
 use Rattle.leduc_betting.proofs.Histories.{may-small}
@@ -39,31 +38,31 @@ pub left_in : (cs : List ℕ) (c : ℕ) → left cs c ≡ true → In c (remaini
 unfolding remaining left
 left_in cs c e = those_in (left cs) 6 c (ltb-true c 6 (and_left (ltb c 6) _ e)) e
 
-legal_in : (cs : List ℕ) (p : Public) (h₁ h₂ : List ℕ) (a : ℕ) → live cs p h₁ h₂ ≡ true → may (in_play h₁ h₂) a ≡ true → In a (legal cs p h₁ h₂ (turn h₁ h₂))
+legal_in : (cs : List ℕ) (p : Option ℕ) (h₁ h₂ : List ℕ) (a : ℕ) → live cs p h₁ h₂ ≡ true → may (in_play h₁ h₂) a ≡ true → In a (legal cs p h₁ h₂ (turn h₁ h₂))
 unfolding legal options
 legal_in cs p h₁ h₂ a l e = rw (both l (eq-eqb (turn h₁ h₂) (turn h₁ h₂) refl)) (those_in (may (in_play h₁ h₂)) 3 a (let w = may-small (in_play h₁ h₂) a e in omega arith) e)
 
 -- ---- a card is due, or a seat acts, or the hand has ended: one of these only
-not_due : (cs : List ℕ) (p : Public) (h₁ h₂ : List ℕ) → live cs p h₁ h₂ ≡ true → due cs p h₁ h₂ ≡ false
+not_due : (cs : List ℕ) (p : Option ℕ) (h₁ h₂ : List ℕ) → live cs p h₁ h₂ ≡ true → due cs p h₁ h₂ ≡ false
 unfolding live
 not_due cs p h₁ h₂ l = or_false_left (due cs p h₁ h₂) (ended h₁ h₂) (not-true _ l)
 
-none_due : {cs : List ℕ} {p : Public} {h₁ h₂ : List ℕ} → Reached cs p h₁ h₂ → ended h₁ h₂ ≡ true → due cs p h₁ h₂ ≡ true → ⊥
+none_due : {cs : List ℕ} {p : Option ℕ} {h₁ h₂ : List ℕ} → Reached cs p h₁ h₂ → ended h₁ h₂ ≡ true → due cs p h₁ h₂ ≡ true → ⊥
 unfolding due public-due
 none_due {cs} {p} {h₁} {h₂} r e d =
     or_cases (ltb (length cs) 2) _ d (λ q. omega (arith, ltb-true (length cs) 2 q, ended-dealt (reached_parts r) e))
     (λ q. true≢false (ended h₁ h₂) e (not-true (ended h₁ h₂) (and_right (closes h₁) _ (and_right _ _ q))))
 
-seat-due : (cs : List ℕ) (p : Public) (h₁ h₂ : List ℕ) → ltb (length cs) 2 ≡ true → due cs p h₁ h₂ ≡ true
+seat-due : (cs : List ℕ) (p : Option ℕ) (h₁ h₂ : List ℕ) → ltb (length cs) 2 ≡ true → due cs p h₁ h₂ ≡ true
 unfolding due
 seat-due cs p h₁ h₂ e = or_left _ e
 
-table-due : (cs : List ℕ) (p : Public) (h₁ h₂ : List ℕ) → public-due p h₁ h₂ ≡ true → due cs p h₁ h₂ ≡ true
+table-due : (cs : List ℕ) (p : Option ℕ) (h₁ h₂ : List ℕ) → public-due p h₁ h₂ ≡ true → due cs p h₁ h₂ ≡ true
 unfolding due
 table-due cs p h₁ h₂ e = or_right (ltb (length cs) 2) e
 
 -- the public card comes once both seats have theirs
-both_dealt : {cs : List ℕ} {p : Public} {h₁ h₂ : List ℕ} → Reached cs p h₁ h₂ → public-due p h₁ h₂ ≡ true → ltb (length cs) 2 ≡ false
+both_dealt : {cs : List ℕ} {p : Option ℕ} {h₁ h₂ : List ℕ} → Reached cs p h₁ h₂ → public-due p h₁ h₂ ≡ true → ltb (length cs) 2 ≡ false
 unfolding public-due
 both_dealt {cs} {p} {h₁} {h₂} r d = go (tested (ltb (length cs) 2))
   where
@@ -80,7 +79,7 @@ module _ (ante raise₁ raise₂ : ℕ) where
   Of t q = Stands ante raise₁ raise₂ t q
 
   -- ---- each node follows the rules from its position
-  reached_of : (t : Tree) (cs : List ℕ) (p : Public) (h₁ h₂ : List ℕ) → Follows ante raise₁ raise₂ t cs p h₁ h₂ → Reached cs p h₁ h₂
+  reached_of : (t : Tree) (cs : List ℕ) (p : Option ℕ) (h₁ h₂ : List ℕ) → Follows ante raise₁ raise₂ t cs p h₁ h₂ → Reached cs p h₁ h₂
   unfolding Follows
   reached_of (end z) cs p h₁ h₂ g = g.0
   reached_of (chance f) cs p h₁ h₂ g = g.0
@@ -153,25 +152,25 @@ module _ (ante raise₁ raise₂ : ℕ) where
         at (inl w) u y = in_left z (places t x) (positions_all f qs) (u w)
         at (inr w) u y = in_right z (places t x) (positions_all f qs) (y w)
 
-  module _ (t : Tree) (g : Follows ante raise₁ raise₂ t [] Hidden [] []) where
-    come : (q z : Position) → In q (positions t [] Hidden [] []) → Comes q z → In z (positions t [] Hidden [] [])
-    come q z w c = next_in t (position [] Hidden [] []) g q z w c
+  module _ (t : Tree) (g : Follows ante raise₁ raise₂ t [] None [] []) where
+    come : (q z : Position) → In q (positions t [] None [] []) → Comes q z → In z (positions t [] None [] [])
+    come q z w c = next_in t (position [] None [] []) g q z w c
 
-    dealt_in : (cs : List ℕ) (p : Public) (h₁ h₂ : List ℕ) (c : ℕ) → left (seen cs p) c ≡ true
-        → In (cond (ltb (length cs) 2) (position (cs ++ (c ∷ [])) p h₁ h₂) (position cs (Card c) h₁ h₂)) (dealt cs p h₁ h₂)
+    dealt_in : (cs : List ℕ) (p : Option ℕ) (h₁ h₂ : List ℕ) (c : ℕ) → left (seen cs p) c ≡ true
+        → In (cond (ltb (length cs) 2) (position (cs ++ (c ∷ [])) p h₁ h₂) (position cs (Some c) h₁ h₂)) (dealt cs p h₁ h₂)
     unfolding dealt
-    dealt_in cs p h₁ h₂ c l = in_map (λ c. cond (ltb (length cs) 2) (position (cs ++ (c ∷ [])) p h₁ h₂) (position cs (Card c) h₁ h₂)) c (remaining (seen cs p)) (left_in (seen cs p) c l)
+    dealt_in cs p h₁ h₂ c l = in_map (λ c. cond (ltb (length cs) 2) (position (cs ++ (c ∷ [])) p h₁ h₂) (position cs (Some c) h₁ h₂)) c (remaining (seen cs p)) (left_in (seen cs p) c l)
 
-    acted_in : (cs : List ℕ) (p : Public) (h₁ h₂ : List ℕ) (a : ℕ) → live cs p h₁ h₂ ≡ true → may (in_play h₁ h₂) a ≡ true
+    acted_in : (cs : List ℕ) (p : Option ℕ) (h₁ h₂ : List ℕ) (a : ℕ) → live cs p h₁ h₂ ≡ true → may (in_play h₁ h₂) a ≡ true
         → In (cond (closes h₁) (position cs p h₁ (h₂ ++ (a ∷ []))) (position cs p (h₁ ++ (a ∷ [])) h₂)) (acted cs p h₁ h₂)
     unfolding acted
     acted_in cs p h₁ h₂ a l m = in_map (λ a. cond (closes h₁) (position cs p h₁ (h₂ ++ (a ∷ []))) (position cs p (h₁ ++ (a ∷ [])) h₂)) a (legal cs p h₁ h₂ (turn h₁ h₂)) (legal_in cs p h₁ h₂ a l m)
 
-    reached_in : {cs : List ℕ} {p : Public} {h₁ h₂ : List ℕ} → Reached cs p h₁ h₂ → In (position cs p h₁ h₂) (positions t [] Hidden [] [])
+    reached_in : {cs : List ℕ} {p : Option ℕ} {h₁ h₂ : List ℕ} → Reached cs p h₁ h₂ → In (position cs p h₁ h₂) (positions t [] None [] [])
     unfolding in_play
-    reached_in start = root_in t (position [] Hidden [] [])
+    reached_in start = root_in t (position [] None [] [])
     reached_in (deal {cs} {h₁} {h₂} {p} c r d l) = come (position cs p h₁ h₂) (position (cs ++ (c ∷ [])) p h₁ h₂) (reached_in r) (inl (seat-due cs p h₁ h₂ d, rw d at (dealt_in cs p h₁ h₂ c l)))
-    reached_in (reveal {cs} {h₁} {h₂} {p} c r d l) = come (position cs p h₁ h₂) (position cs (Card c) h₁ h₂) (reached_in r)
+    reached_in (reveal {cs} {h₁} {h₂} {p} c r d l) = come (position cs p h₁ h₂) (position cs (Some c) h₁ h₂) (reached_in r)
         (inl (table-due cs p h₁ h₂ d, rw (both_dealt r d) at (dealt_in cs p h₁ h₂ c l)))
     reached_in (act₁ {cs} {h₁} {h₂} {p} a r l c m) = come (position cs p h₁ h₂) (position cs p (h₁ ++ (a ∷ [])) h₂) (reached_in r) (inr (l, rw c at (acted_in cs p h₁ h₂ a l (rw c m))))
     reached_in (act₂ {cs} {h₁} {h₂} {p} a r l c m) = come (position cs p h₁ h₂) (position cs p h₁ (h₂ ++ (a ∷ []))) (reached_in r) (inr (l, rw c at (acted_in cs p h₁ h₂ a l (rw c m))))
@@ -182,17 +181,17 @@ module _ (ante raise₁ raise₂ : ℕ) where
   tree = tree_of_leduc ante raise₁ raise₂
 
   abbrev ps : List Position
-  ps = positions tree [] Hidden [] []
+  ps = positions tree [] None [] []
 
   along : Along (Stands ante raise₁ raise₂) (nodes tree) ps
-  along = nodes_follow ante raise₁ raise₂ tree (position [] Hidden [] []) (leduc-follows ante raise₁ raise₂)
+  along = nodes_follow ante raise₁ raise₂ tree (position [] None [] []) (leduc-follows ante raise₁ raise₂)
 
   as_many : length ps ≡ size tree
   as_many = along-length (Stands ante raise₁ raise₂) (nodes tree) ps along ∙ length-nodes tree
 
   -- the tree at a node follows the rules from its position
   pub node-follows : (a : ℕ) → a < size tree → Stands ante raise₁ raise₂ (node_of tree a) (position_of tree a)
-  node-follows a l = along_at (Stands ante raise₁ raise₂) (nodes tree) ps along a _ (position [] Hidden [] []) (rw (length-nodes tree) l)
+  node-follows a l = along_at (Stands ante raise₁ raise₂) (nodes tree) ps along a _ (position [] None [] []) (rw (length-nodes tree) l)
 
 pub nodes-reached : NodesReached
 nodes-reached ante raise₁ raise₂ = (
@@ -200,7 +199,7 @@ nodes-reached ante raise₁ raise₂ = (
   (λ a l. reached_of ante raise₁ raise₂ (node_of (tree ante raise₁ raise₂) a) _ _ _ _ (node-follows ante raise₁ raise₂ a l)),
   (λ cs p h₁ h₂ r.
       let i = reached_in ante raise₁ raise₂ (tree ante raise₁ raise₂) (leduc-follows ante raise₁ raise₂) r in
-      let (a, w, e) = place_of (ps ante raise₁ raise₂) (position cs p h₁ h₂) (position [] Hidden [] []) i in
+      let (a, w, e) = place_of (ps ante raise₁ raise₂) (position cs p h₁ h₂) (position [] None [] []) i in
       (a, rw (as_many ante raise₁ raise₂) at w, e)),
 )
 
@@ -220,4 +219,4 @@ module _ (ante raise₁ raise₂ : ℕ) where
     follows-balance_all (cons t f) (q ∷ qs) g = (follows-balance t q g.0, follows-balance_all f qs g.1)
 
 pub payoffs-balance : PayoffsBalance
-payoffs-balance ante raise₁ raise₂ = follows-balance ante raise₁ raise₂ (tree_of_leduc ante raise₁ raise₂) (position [] Hidden [] []) (leduc-follows ante raise₁ raise₂)
+payoffs-balance ante raise₁ raise₂ = follows-balance ante raise₁ raise₂ (tree_of_leduc ante raise₁ raise₂) (position [] None [] []) (leduc-follows ante raise₁ raise₂)

@@ -1,11 +1,9 @@
 -- The facts about Leduc's tree, statement by statement (document 01, "The tree and its sets"), each proved in proofs/Facts.antt, which
 -- assumes nothing. Throughout: any ante and raises. The counts, and what the reply theorem asks of the tree, stand in leduc_tree_facts.
-use Rattle.std.specs.Prelude.{◌≡◌, List, [], map, ℕ, ◌+◌, ◌<◌, ◌*◌, pos, length}
+use Rattle.std.specs.Prelude.{◌≡◌, List, [], map, ℕ, ◌+◌, ◌<◌, ◌*◌, pos, length, Option, None}
 use Rattle.prelude.specs.Finite.{sumℤ}
 use Rattle.game_tree.specs.Sets.{size, sets, set_actions}
 use Rattle.game_tree.specs.Shape.{EveryEnd}
-use Rattle.leduc_betting.specs.declared.Public.{Public}
-use Rattle.leduc_betting.specs.declared.Public.TheVariants.{Hidden}
 use Rattle.leduc_rules.specs.Moves.{Reached}
 use Rattle.leduc_tree.specs.Tree.{Position, start, payoff, next, below, fuel, tree_of_leduc}
 use Rattle.leduc_tree.specs.Positions.{position, positions, position_of}
@@ -14,7 +12,7 @@ use Rattle.leduc_tree.specs.Turns.{first_turns, decision_at, actions_in_order}
 
 -- 1. The tree follows the rules from the start: every node stands for a reachable position, ends just where the hand has ended.
 abbrev pub FollowsRules : Type 0
-FollowsRules = (ante raise₁ raise₂ : ℕ) → Follows ante raise₁ raise₂ (tree_of_leduc ante raise₁ raise₂) [] Hidden [] []
+FollowsRules = (ante raise₁ raise₂ : ℕ) → Follows ante raise₁ raise₂ (tree_of_leduc ante raise₁ raise₂) [] None [] []
 
 -- Its nodes, in order, stand for the reachable positions: each for one, and each of these has its node.
 abbrev pub Reachable : Position → Type 0
@@ -22,9 +20,9 @@ Reachable q = Reached q.cards q.public q.first q.second
 
 abbrev pub NodesReached : Type 0
 NodesReached = (ante raise₁ raise₂ : ℕ)
-    → (length (positions (tree_of_leduc ante raise₁ raise₂) [] Hidden [] []) ≡ size (tree_of_leduc ante raise₁ raise₂))
+    → (length (positions (tree_of_leduc ante raise₁ raise₂) [] None [] []) ≡ size (tree_of_leduc ante raise₁ raise₂))
     × ((a : ℕ) → a < size (tree_of_leduc ante raise₁ raise₂) → Reachable (position_of (tree_of_leduc ante raise₁ raise₂) a))
-    × ((cs : List ℕ) (p : Public) (h₁ h₂ : List ℕ) → Reached cs p h₁ h₂
+    × ((cs : List ℕ) (p : Option ℕ) (h₁ h₂ : List ℕ) → Reached cs p h₁ h₂
     → (a : ℕ) × (a < size (tree_of_leduc ante raise₁ raise₂)) × (position_of (tree_of_leduc ante raise₁ raise₂) a ≡ position cs p h₁ h₂))
 
 -- The payoffs of both seats add up to 0 at every end.

@@ -1,8 +1,7 @@
 -- What it is for a tree to follow Leduc's rules from a position, without fuel.
 -- Definitions only; nothing is assumed. cs are the seats' cards, p the public card, h₁ and h₂ the histories of the rounds.
-use Rattle.std.specs.Prelude.{◌≡◌, true, List, [], ◌∷◌, ℕ}
+use Rattle.std.specs.Prelude.{◌≡◌, true, List, [], ◌∷◌, ℕ, Option}
 use Rattle.game_tree.specs.Tree.{Tree, end, chance, decide, Trees, nil, cons}
-use Rattle.leduc_betting.specs.declared.Public.{Public}
 use Rattle.leduc_betting.specs.Betting.{turn, ended}
 use Rattle.leduc_rules.specs.Rules.{due, live, key, payoff}
 use Rattle.leduc_rules.specs.Moves.{Reached}
@@ -15,7 +14,7 @@ module _ (ante raise₁ raise₂ : ℕ) where
   unfoldable mutual
     unfolding dealt acted
 
-    pub Follows : Tree → List ℕ → Public → List ℕ → List ℕ → Type 0
+    pub Follows : Tree → List ℕ → Option ℕ → List ℕ → List ℕ → Type 0
     Follows (end z) cs p h₁ h₂ = Reached cs p h₁ h₂ × (ended h₁ h₂ ≡ true) × (z ≡ payoff ante raise₁ raise₂ cs p h₁ h₂)
     Follows (chance f) cs p h₁ h₂ = Reached cs p h₁ h₂ × (due cs p h₁ h₂ ≡ true) × FollowsAll f (dealt cs p h₁ h₂)
     Follows (decide j k f) cs p h₁ h₂ =

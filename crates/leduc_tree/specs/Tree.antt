@@ -1,10 +1,8 @@
 -- Leduc's tree: a child for each card left, ascending, or for each legal action in legal order; ends carry the payoffs
 -- (document 01, "The tree and its sets"). Definitions only; nothing is assumed.
-use Rattle.std.specs.Prelude.{Bool, cond, List, [], ◌∷◌, ◌++◌, map, ltb, ℤ, length}
+use Rattle.std.specs.Prelude.{Bool, cond, List, [], ◌∷◌, ◌++◌, map, ltb, ℤ, length, Option, None, Some}
 use Prim.Native.Nat.{ℕ, zero, suc, ◌+◌}
 use Rattle.game_tree.specs.Tree.{Key, Tree, end, chance, decide, Trees, nil, cons}
-use Rattle.leduc_betting.specs.declared.Public.{Public}
-use Rattle.leduc_betting.specs.declared.Public.TheVariants.{Hidden, Card}
 use Rattle.leduc_betting.specs.Betting as Betting
 use Rattle.leduc_rules.specs.Rules as Rules
 use Rattle.leduc_betting.specs.Betting.{closes, in_play, options, turn}
@@ -13,19 +11,19 @@ use Rattle.leduc_betting.specs.Cards.{seen, remaining}
 -- the seats' cards, the public card, and the histories of the two rounds
 pub record Position : Type 0 where
   pub cards : List ℕ
-  pub public : Public
+  pub public : Option ℕ
   pub first : List ℕ
   pub second : List ℕ
 
 -- no card dealt and no action made
 abbrev pub start : Position
-start = record { cards = []; public = Hidden; first = []; second = [] }
+start = record { cards = []; public = None; first = []; second = [] }
 
 -- card c dealt: to a seat that has none, else it is the public card
 abbrev pub dealt : Position → ℕ → Position
 dealt q c = cond (ltb (length q.cards) 2)
     (record { cards = q.cards ++ (c ∷ []); public = q.public; first = q.first; second = q.second })
-    (record { cards = q.cards; public = Card c; first = q.first; second = q.second })
+    (record { cards = q.cards; public = Some c; first = q.first; second = q.second })
 
 -- action a made: in round 2 once round 1 has closed
 abbrev pub acted : Position → ℕ → Position

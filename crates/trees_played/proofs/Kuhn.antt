@@ -20,7 +20,7 @@ use Rattle.kuhn_rules.specs.Moves.{start}
 use Rattle.kuhn_positions.specs.Positions.{cards_of, history_of, initial, counted, seats-out, reachable}
 use Rattle.kuhn_positions.specs.declared.KuhnState.{KuhnState}
 use Rattle.kuhn.specs.declared.KuhnPoker.{KuhnPoker}
-use Rattle.kuhn.specs.Calls.{deal-refusal, dealt, step_refusal, stepped, legal_of, key_of, payoff-answer, payoff-refusal, paid}
+use Rattle.kuhn.specs.Calls.{deal_refusal, dealt, step_refusal, stepped, legal_of, key_of, payoff-answer, payoff_refusal, paid}
 use Rattle.kuhn.specs.Facts.{Fit, OneCardMore, OneActionMore}
 use Rattle.kuhn.proofs.Decides.{moved_number}
 use Rattle.kuhn.proofs.Facts.{reachable_by_moves}
@@ -45,19 +45,19 @@ module _ (g : KuhnPoker) (least : 2 ≤ g.players) (most : g.players ≤ 10) whe
     passes = (reachable_by_moves n s).1 (z.within.0, z.within.1, z.reached)
 
     deal-accepted : (k : ℕ) → due n (cards_of s) ≡ true → k < length (remaining n (cards_of s)) → (dealt g s k).refusal ≡ 0
-    unfolding deal-refusal ◌and◌
-    deal-accepted k d l = moved_number (deal-refusal g s k) s _ ∙ rw (seats_in, passes, d, lt-ltb k (length (remaining n (cards_of s))) l) refl
+    unfolding deal_refusal ◌and◌
+    deal-accepted k d l = moved_number (deal_refusal g s k) s _ ∙ rw (seats_in, passes, d, lt-ltb k (length (remaining n (cards_of s))) l) refl
 
     deal-refused : (k : ℕ) → length (remaining n (cards_of s)) ≤ k → (dealt g s k).refusal ≡ 20
-    unfolding deal-refusal
-    deal-refused k l = moved_number (deal-refusal g s k) s _ ∙ rw (seats_in, passes, and_right_fails (due n (cards_of s)) (le-ltb k _ l)) refl
+    unfolding deal_refusal
+    deal-refused k l = moved_number (deal_refusal g s k) s _ ∙ rw (seats_in, passes, and_right_fails (due n (cards_of s)) (le-ltb k _ l)) refl
 
     step_accepted : (a : ℕ) → live n (cards_of s) (history_of s) ≡ true → (stepped g s a).refusal ≡ 0
     unfolding step_refusal
     step_accepted a l = moved_number (step_refusal g s) s _ ∙ rw (seats_in, passes, l) refl
 
-    payoff-accepted : over n (cards_of s) (history_of s) ≡ true → payoff-refusal g s ≡ 0
-    unfolding payoff-refusal
+    payoff-accepted : over n (cards_of s) (history_of s) ≡ true → payoff_refusal g s ≡ 0
+    unfolding payoff_refusal
     payoff-accepted o = rw (seats_in, passes, o) refl
 
     ended-paid : (p : ℕ → ℤ) → over n (cards_of s) (history_of s) ≡ true → p ≡ payoff 1 1 n (cards_of s) (history_of s)

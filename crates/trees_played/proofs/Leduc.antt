@@ -9,13 +9,13 @@ use lib.Dec.{ltb}
 use lib.IntN.{ℤ, pos}
 use lib.ListN.{length, drop, replicate}
 use borrow.Author.Tests.{eq-eqb, le-ltb, lt-ltb, ltb-true, ltb-false, ne_eqb}
+use Rattle.std.specs.Prelude.{Some}
 use Rattle.prelude.specs.Finite.{◌and◌}
 use Rattle.prelude.proofs.Tests.{Tested, holds, fails, tested, both, and_right_fails}
 use Rattle.game_tree.specs.Tree.{Tree, end, chance, decide, Trees, nil, cons}
 use Rattle.game_tree.specs.Nodes.{node_of}
 use Rattle.game_tree.proofs.Counting.{In}
 use Rattle.game_tree.proofs.Numbers.{in_those}
-use Rattle.leduc_betting.specs.declared.Public.TheVariants.{Card}
 use Rattle.leduc_betting.specs.Betting.{closes, may, options, counted, turn, ended}
 use Rattle.leduc_betting.specs.Cards.{remaining}
 use Rattle.leduc_rules.specs.Rules.{due, live, legal, payoff}
@@ -42,7 +42,7 @@ held s = position (cards_of s) s.public (round_one s) (round_two s)
 
 -- that with one card more, and with one action more
 abbrev with_card : LeducState → ℕ → Position
-with_card s c = cond (ltb (length (cards_of s)) 2) (position (cards_of s ++ (c ∷ [])) s.public (round_one s) (round_two s)) (position (cards_of s) (Card c) (round_one s) (round_two s))
+with_card s c = cond (ltb (length (cards_of s)) 2) (position (cards_of s ++ (c ∷ [])) s.public (round_one s) (round_two s)) (position (cards_of s) (Some c) (round_one s) (round_two s))
 
 abbrev with_action : LeducState → ℕ → Position
 with_action s a = cond (closes (round_one s)) (position (cards_of s) s.public (round_one s) (round_two s ++ (a ∷ []))) (position (cards_of s) s.public (round_one s ++ (a ∷ [])) (round_two s))

@@ -1,40 +1,44 @@
 -- Deal. Assumes nothing.
-use Rattle.leduc.proofs.Answers.{outcome-card, deal-unreachable, deal-idle, deal-past, deal-accepted, outcome_fits}
-use Prim.Native.Nat.{◌%◌}
 use mathlib.Core.Path.{sym, ap, ◌∙◌}
 use native.Mathlib.Omega.{arith}
-use Prim.Native.Nat.{◌<◌}
 use borrow.Author.Tests.{le-ltb, lt-ltb}
-use lib.ListN.{get_or}
-use Rattle.leduc_betting.specs.Cards.{remaining}
-use Rattle.leduc_positions.specs.Positions.{seen_of, with_card}
-use Rattle.leduc_positions.proofs.Positions.{reachable-short}
+use Rattle.std.proofs.lemmas.Result.{err_from_is_err_and}
+use Rattle.refusals.specs.declared.Refusal.TheVariants.{Unfit}
+use Rattle.prelude.specs.internal.Places.{at_place}
+use Rattle.refusals.proofs.Outcomes.{moved_ok, moved_err}
+use Rattle.leduc_betting.specs.Cards.{seen, remaining}
+use Rattle.leduc_rules.specs.Rules.{due}
+use Rattle.leduc_positions.specs.Positions.{with_card}
+use Rattle.leduc_positions.proofs.Positions.{of_hand}
+use Rattle.leduc.specs.Calls.{deal-refusal}
+use Rattle.leduc.proofs.Answers.{stopped, reached, placed_at, absent_at, in_deck, deal-idle, deal-past, deal-accepted}
 use Rattle.leduc.proofs.LeducPoker.apply_chance_node.Goals as goal
 
-pub returns-then-not-is_reachable : goal.returns-then-not-is_reachable
-returns-then-not-is_reachable c = rw (deal-unreachable c.args.state c.args.outcome (sym c.is_reachable.ensures ∙ c.if-not-is_reachable.true))
+pub returns-in_err-hand : goal.returns-in_err-hand
+unfolding deal-refusal
+returns-in_err-hand c =
+    let p = err_from_is_err_and c.from_residual.result c.from_residual.ensures.1 in
+    rw (p.1, p.2) (moved_err c.args.state _ _ _ (stopped c.args.state _ _ c.in_err-hand.ensures.number))
 
-pub card_due-requires : goal.card_due-requires
-card_due-requires c = let w = reachable-short c.args.state (sym c.is_reachable.ensures ∙ c.if-not-is_reachable.false) in
-    (w.dealt-short, w.first_short, w.second_short)
+pub returns-then-not-is_due : goal.returns-then-not-is_due
+returns-then-not-is_due c =
+    moved_err c.args.state Unfit _ _ (sym (deal-idle c.args.state (reached _ c.in_ok-hand.ensures.number) c.args.outcome
+    (sym (of_hand due c.in_ok-hand.ensures.hand) ∙ sym c.is_due.ensures ∙ c.if-not-is_due.true)))
 
-pub returns-then-not-card_due : goal.returns-then-not-card_due
-returns-then-not-card_due c = rw (deal-idle c.args.state (sym c.is_reachable.ensures ∙ c.if-not-is_reachable.false) c.args.outcome
-    (sym c.card_due.ensures ∙ c.if-not-card_due.true))
+pub overflow_cast-card : goal.overflow_cast-card
+overflow_cast-card c = omega (arith, in_deck _ _ _ (sym c.in-Some.ensures))
 
-pub next_card-card-requires : goal.next_card-card-requires
-next_card-card-requires c = (reachable-short c.args.state (sym c.is_reachable.ensures ∙ c.if-not-is_reachable.false)).dealt-short
+pub returns-in-Some : goal.returns-in-Some
+returns-in-Some c =
+    let s = c.args.state in
+    let (l, e) = placed_at _ _ _ (sym (c.in-Some.ensures ∙ ap (λ cs. at_place (remaining cs) c.args.outcome) (of_hand (λ cs p h₁ h₂. seen cs p) c.in_ok-hand.ensures.hand))) in
+    moved_ok s _ _ _ (deal-accepted s (reached _ c.in_ok-hand.ensures.number) c.args.outcome
+    (sym (of_hand due c.in_ok-hand.ensures.hand) ∙ sym c.is_due.ensures ∙ c.if-not-is_due.false) (lt-ltb _ _ l))
+    (c.with_card.ensures ∙ ap (with_card s) (sym e))
 
-pub returns-then-card-ge6 : goal.returns-then-card-ge6
-returns-then-card-ge6 c = let a = c.args in
-    rw (deal-past
-    a.state (sym c.is_reachable.ensures ∙ c.if-not-is_reachable.false) a.outcome (sym c.card_due.ensures ∙ c.if-not-card_due.false)
-    (outcome_fits a.state a.outcome ∙ le-ltb (get_or (remaining (seen_of a.state)) a.outcome 6) 6 (omega (arith, c.next_card-card.ensures))))
-
-pub returns : goal.returns
-returns c = let a = c.args in
-    let low : get_or (remaining (seen_of a.state)) a.outcome 6 < 6 = omega (arith, c.next_card-card.ensures) in
-    rw (deal-accepted a.state (sym c.is_reachable.ensures ∙ c.if-not-is_reachable.false) a.outcome (sym c.card_due.ensures ∙
-    c.if-not-card_due.false) (outcome_fits a.state a.outcome ∙ lt-ltb (get_or (remaining (seen_of a.state)) a.outcome 6) 6 low))
-    (ap (λ t. record { refusal = 0; state = t })
-    (c.with_card.ensures ∙ ap (with_card a.state) (ap (λ x. x % 256) c.next_card-card.ensures ∙ outcome-card a.state a.outcome low)))
+pub returns-in-None : goal.returns-in-None
+returns-in-None c =
+    let s = c.args.state in
+    let l = absent_at _ _ (sym (c.in-None.ensures ∙ ap (λ cs. at_place (remaining cs) c.args.outcome) (of_hand (λ cs p h₁ h₂. seen cs p) c.in_ok-hand.ensures.hand))) in
+    moved_err s Unfit _ _ (sym (deal-past s (reached _ c.in_ok-hand.ensures.number) c.args.outcome
+    (sym (of_hand due c.in_ok-hand.ensures.hand) ∙ sym c.is_due.ensures ∙ c.if-not-is_due.false) (le-ltb _ _ l)))

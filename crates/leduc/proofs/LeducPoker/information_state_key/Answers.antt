@@ -1,56 +1,37 @@
 -- Key. Assumes nothing.
-use mathlib.Core.Path.{sym, ap, ◌∙◌}
+use mathlib.Core.Path.{sym, ap}
 use native.Mathlib.Omega.{arith}
 use lib.ListN.{length}
-use Rattle.leduc_positions.proofs.Positions.{reachable-short, cards-counted, first_counted, second-counted}
+use Rattle.leduc_positions.specs.Positions.{cards_of, round_one, round_two}
+use Rattle.refusals.specs.declared.Refusal.TheVariants.{Unfit, Output}
+use Rattle.std.proofs.lemmas.Result.{err_from_is_err_and}
+use Rattle.refusals.proofs.Outcomes.{written_ok, written_err}
+use Rattle.leduc.specs.Calls.{key-refusal}
+use Rattle.leduc.proofs.Answers.{stopped, reached, key-unfit, key-no-room, key-accepted}
 use Rattle.leduc.proofs.Writing.{key-length}
-use Rattle.leduc.proofs.Answers.{key-unreachable, key-unfit, key-no-room, key-accepted}
-use borrow.Author.Rules.{rules}
 use Rattle.leduc.proofs.LeducPoker.information_state_key.Goals as goal
 
-pub returns-then-not-is_reachable : goal.returns-then-not-is_reachable
-returns-then-not-is_reachable c = let a = c.args in
-    let e = key-unreachable a.state a.agent (length a.out.now) (sym c.is_reachable.ensures ∙ c.if-not-is_reachable.true) in record {
-      answer = rw e;
-      output = rw e;
-    }
+pub returns-in_err-hand-clause-answer : goal.returns-in_err-hand-clause-answer
+unfolding key-refusal
+returns-in_err-hand-clause-answer c =
+    let p = err_from_is_err_and c.from_residual.result c.from_residual.ensures.1 in
+    rw (p.1, p.2) (written_err c.args.state _ _ _ (stopped c.args.state _ _ c.in_err-hand.ensures.number))
 
-pub returns-then-state-agent : goal.returns-then-state-agent
-returns-then-state-agent c = let a = c.args in
-    let r = sym c.is_reachable.ensures ∙ c.if-not-is_reachable.false in let n = cards-counted a.state (search rules) (search rules) r in
-    let e = key-unfit a.state r a.agent (length a.out.now) (omega arith) in record {
-      answer = rw e;
-      output = rw e;
-    }
+pub returns-then-hand-agent-clause-answer : goal.returns-then-hand-agent-clause-answer
+returns-then-hand-agent-clause-answer c =
+    let dealt = ap length c.in_ok-hand.ensures.hand.cards in
+    written_err c.args.state Unfit _ _ (sym (key-unfit c.args.state (reached _ c.in_ok-hand.ensures.number) c.args.agent (length c.args.out.now) (omega arith)))
 
-pub overflow_add-bytes : goal.overflow_add-bytes
-overflow_add-bytes c = omega (arith, (reachable-short c.args.state (sym c.is_reachable.ensures ∙ c.if-not-is_reachable.false)).first_short)
+pub returns-then-out-bytes-clause-answer : goal.returns-then-out-bytes-clause-answer
+returns-then-out-bytes-clause-answer c =
+    let w = c.in_ok-hand.ensures.hand in
+    let size = key-length (cards_of c.args.state) c.args.state.public (round_one c.args.state) (round_two c.args.state) c.args.agent in
+    let dealt = ap length w.cards in let one = ap length w.first in let two = ap length w.second in
+    written_err c.args.state Output _ _ (sym (key-no-room c.args.state (reached _ c.in_ok-hand.ensures.number) c.args.agent (length c.args.out.now) (omega arith) (omega arith)))
 
-pub overflow_add-bytes-2 : goal.overflow_add-bytes-2
-overflow_add-bytes-2 c = let w = reachable-short c.args.state (sym c.is_reachable.ensures ∙ c.if-not-is_reachable.false) in
-    omega (arith, w.first_short, w.second_short)
-
-pub returns-then-out-bytes : goal.returns-then-out-bytes
-returns-then-out-bytes c = let a = c.args in
-    let r = sym c.is_reachable.ensures ∙ c.if-not-is_reachable.false in let n = cards-counted a.state (search rules) (search rules) r in
-    let k = key-length a.state a.agent (first_counted a.state (search rules) (search rules) r)
-    (second-counted a.state (search rules) (search rules) r) in
-    let e = key-no-room a.state r a.agent (length a.out.now) (omega arith) (omega arith) in record {
-      answer = rw e;
-      output = rw e;
-    }
-
-pub write_key-requires : goal.write_key-requires
-write_key-requires c = let w = reachable-short c.args.state (sym c.is_reachable.ensures ∙ c.if-not-is_reachable.false) in
-    (search rules, w.dealt-short, w.first_short, w.second_short, search rules)
-
-pub returns : goal.returns
-returns c = let a = c.args in
-    let r = sym c.is_reachable.ensures ∙ c.if-not-is_reachable.false in let n = cards-counted a.state (search rules) (search rules) r in
-    let k = key-length a.state a.agent (first_counted a.state (search rules) (search rules) r)
-    (second-counted a.state (search rules) (search rules) r) in
-    let e = key-accepted a.state r a.agent (length a.out.now) (omega arith) (omega arith) in
-    record {
-      answer = rw e (ap (λ x. record { refusal = 0; state = a.state; count = x }) (sym k));
-      output = rw e c.write_key.ensures;
-    }
+pub returns-clause-answer : goal.returns-clause-answer
+returns-clause-answer c =
+    let w = c.in_ok-hand.ensures.hand in
+    let size = key-length (cards_of c.args.state) c.args.state.public (round_one c.args.state) (round_two c.args.state) c.args.agent in
+    let dealt = ap length w.cards in let one = ap length w.first in let two = ap length w.second in
+    written_ok c.args.state _ _ _ (key-accepted c.args.state (reached _ c.in_ok-hand.ensures.number) c.args.agent (length c.args.out.now) (omega arith) (omega arith)) (omega arith)

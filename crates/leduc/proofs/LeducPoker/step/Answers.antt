@@ -1,32 +1,38 @@
 -- Step. Assumes nothing.
 use mathlib.Core.Path.{sym, ap, ◌∙◌}
-use Rattle.leduc_positions.specs.Positions.{with_action}
-use Rattle.leduc_positions.proofs.Positions.{reachable-short, room_to_act}
-use Rattle.leduc.proofs.Answers.{step_unreachable, step-idle, step_accepted}
 use borrow.Author.Rules.{rules}
+use Rattle.std.proofs.lemmas.Result.{err_from_is_err_and}
+use Rattle.refusals.specs.declared.Refusal.TheVariants.{Unfit}
+use Rattle.refusals.proofs.Outcomes.{moved_ok, moved_err}
+use Rattle.leduc_betting.specs.Betting.{counted, in_play}
+use Rattle.leduc_rules.specs.Rules.{live}
+use Rattle.leduc_positions.specs.Positions.{with_action}
+use Rattle.leduc_positions.proofs.Positions.{of_hand, room_to_act}
+use Rattle.leduc.specs.Calls.{step_refusal}
+use Rattle.leduc.proofs.Answers.{stopped, reached, step-idle, step_accepted}
 use Rattle.leduc.proofs.LeducPoker.step.Goals as goal
 
-pub returns-then-not-is_reachable : goal.returns-then-not-is_reachable
-returns-then-not-is_reachable c = rw (step_unreachable c.args.state (sym c.is_reachable.ensures ∙ c.if-not-is_reachable.true))
+pub returns-in_err-hand : goal.returns-in_err-hand
+unfolding step_refusal
+returns-in_err-hand c =
+    let p = err_from_is_err_and c.from_residual.result c.from_residual.ensures.1 in
+    rw (p.1, p.2) (moved_err c.args.state _ _ _ (stopped c.args.state _ _ c.in_err-hand.ensures.number))
 
-pub seat_acts-requires : goal.seat_acts-requires
-seat_acts-requires c = let w = reachable-short c.args.state (sym c.is_reachable.ensures ∙ c.if-not-is_reachable.false) in
-    (w.dealt-short, w.first_short, w.second_short)
-
-pub returns-then-not-seat_acts : goal.returns-then-not-seat_acts
-returns-then-not-seat_acts c = rw (step-idle c.args.state (sym c.is_reachable.ensures ∙ c.if-not-is_reachable.false) (sym c.seat_acts.ensures ∙ c.if-not-seat_acts.true))
-
-pub step_action-made-requires : goal.step_action-made-requires
-step_action-made-requires c = let w = reachable-short c.args.state (sym c.is_reachable.ensures ∙ c.if-not-is_reachable.false) in
-    (w.first_short, w.second_short)
+pub returns-then-not-is_live : goal.returns-then-not-is_live
+returns-then-not-is_live c =
+    moved_err c.args.state Unfit _ _ (sym (step-idle c.args.state (reached _ c.in_ok-hand.ensures.number)
+    (sym (of_hand live c.in_ok-hand.ensures.hand) ∙ sym c.is_live.ensures ∙ c.if-not-is_live.true)))
 
 pub with_action-requires : goal.with_action-requires
-with_action-requires c = let e = sym c.is_reachable.ensures ∙ c.if-not-is_reachable.false in (
-  (reachable-short c.args.state e).first_short,
-  room_to_act c.args.state (search rules) (search rules) e (sym c.seat_acts.ensures ∙ c.if-not-seat_acts.false),
+with_action-requires c = (
+  c.in_ok-hand.ensures.hand.short.1,
+  room_to_act c.args.state (search rules) (search rules) (reached _ c.in_ok-hand.ensures.number)
+      (sym (of_hand live c.in_ok-hand.ensures.hand) ∙ sym c.is_live.ensures ∙ c.if-not-is_live.false),
 )
 
 pub returns : goal.returns
-returns c = rw (step_accepted c.args.state
-    (sym c.is_reachable.ensures ∙ c.if-not-is_reachable.false) (sym c.seat_acts.ensures ∙ c.if-not-seat_acts.false))
-    (ap (λ t. record { refusal = 0; state = t }) (c.with_action.ensures ∙ ap (with_action c.args.state) c.step_action-made.ensures))
+returns c =
+    moved_ok c.args.state _ _ _ (step_accepted c.args.state (reached _ c.in_ok-hand.ensures.number)
+    (sym (of_hand live c.in_ok-hand.ensures.hand) ∙ sym c.is_live.ensures ∙ c.if-not-is_live.false))
+    (c.with_action.ensures ∙ ap (with_action c.args.state) (c.action_made-made.ensures
+    ∙ of_hand (λ cs p h₁ h₂. counted (in_play h₁ h₂) c.args.action) c.in_ok-hand.ensures.hand))

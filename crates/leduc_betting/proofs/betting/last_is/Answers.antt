@@ -1,15 +1,7 @@
 -- Whether the round's last action is a. Assumes nothing.
-use borrow.Author.Tests.{le-ltb, lt-ltb}
-use native.Mathlib.Omega.{arith}
-use lib.ListN.{length}
-use Rattle.prelude.specs.Finite.{◌and◌}
-use Rattle.leduc_betting.specs.Betting.{ends_with}
+use mathlib.Core.Path.{refl, ◌∙◌}
+use Rattle.leduc_betting.proofs.Histories.{last_ends}
 use Rattle.leduc_betting.proofs.betting.last_is.Goals as goal
 
-pub returns-then-n-eq0 : goal.returns-then-n-eq0
-unfolding ends_with ◌and◌
-returns-then-n-eq0 c = rw (le-ltb 0 (length c.args.h.now) (omega arith))
-
 pub returns : goal.returns
-unfolding ends_with ◌and◌
-returns c = rw (lt-ltb 0 (length c.args.h.now) (omega arith))
+returns c = c.eq.ensures ∙ last_ends _ _ c.last.result _ refl c.last.ensures.value

@@ -1,0 +1,2 @@
+-- For the tactics that the functions name.
+pub mod Places
