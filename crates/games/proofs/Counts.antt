@@ -1,16 +1,14 @@
 -- The constant counts are those of the definitions. Assumes nothing.
 use mathlib.Core.Path.{◌≡◌, refl, sym, ap, ◌∙◌}
 use mathlib.Core.Bool.{Bool, true, false, cond}
-use mathlib.Core.List.{List, [], ◌∷◌}
-use Prim.Native.Nat.{ℕ, zero, suc, ◌+◌, ◌-◌, ◌*◌, ◌≤◌, ◌<◌}
-use native.Mathlib.Nat as NatL
+use mathlib.Core.List.{List}
+use Prim.Native.Nat.{ℕ, zero, suc, ◌+◌, ◌≤◌, ◌<◌}
 use native.Mathlib.Omega.{arith}
 use lib.Dec.{eqb, ltb}
 use borrow.Author.Tests.{eq-eqb, ne_eqb, eqb-true, eqb-false, ltb-false}
 use lib.ListN.{length, get_or, take, replicate, length-replicate, get_or-replicate}
 use Rattle.prelude.specs.Finite.{◌or◌, places}
 use Rattle.prelude.proofs.Tests.{Tested, holds, fails, tested, or_false_left, or_false_right}
-use Rattle.kuhn_tree.specs.Tree as Kuhn
 use Rattle.kuhn_tree.specs.Counts.{deal_nodes, kuhn_nodes, kuhn_sets, kuhn_entries}
 use Rattle.leduc_tree.specs.Turns.{actions_in_order}
 use Rattle.leduc_tree.specs.Counts.{leduc_nodes, leduc_sets, leduc_entries}
@@ -18,8 +16,7 @@ use Rattle.leduc_set_actions.proofs.Facts.{threes, actions_at, in_words, actions
 use Rattle.games.specs.Seats.{seats-out}
 use Rattle.games.specs.Facts.{nodes_of, sets_of, entries_of}
 use Rattle.games.specs.internal.Actions.{actions_of}
-use Rattle.games.specs.Games.{is_kuhn, C, m}
-use Rattle.games.specs.declared.Game.{Game}
+use Rattle.games.specs.Games.{Game, is_kuhn}
 use Rattle.games.proofs.Totals.{total, total_same, total_more, total_most}
 
 -- what holds of each number from 2 to 10
@@ -37,29 +34,14 @@ each_seats P a b c d e f g h i (suc (suc (suc (suc (suc (suc (suc (suc (suc zero
 each_seats P a b c d e f g h i (suc (suc (suc (suc (suc (suc (suc (suc (suc (suc zero)))))))))) u v = i
 each_seats P a b c d e f g h i (suc (suc (suc (suc (suc (suc (suc (suc (suc (suc (suc n))))))))))) u v = absurd (omega arith)
 
-abbrev pub nodes-table : List ℕ
-nodes-table = 0 ∷ 0 ∷ 58 ∷ 617 ∷ 7886 ∷ 116437 ∷ 1944020 ∷ 36196001 ∷ 743801770 ∷ 16727745701 ∷ 408816620312 ∷ []
-
-abbrev pub sets-table : List ℕ
-sets-table = 0 ∷ 0 ∷ 12 ∷ 48 ∷ 160 ∷ 480 ∷ 1344 ∷ 3584 ∷ 9216 ∷ 23040 ∷ 56320 ∷ []
-
-abbrev pub fans-table : List ℕ
-fans-table = 0 ∷ 0 ∷ 6 ∷ 24 ∷ 120 ∷ 720 ∷ 5040 ∷ 40320 ∷ 362880 ∷ 3628800 ∷ 39916800 ∷ []
-
-pub nodes_right : (n : ℕ) → 2 ≤ n → n ≤ 10 → get_or nodes-table n 0 ≡ kuhn_nodes n
-unfolding deal_nodes
-nodes_right = each_seats (λ n. get_or nodes-table n 0 ≡ kuhn_nodes n) refl refl refl refl refl refl refl refl refl
-
-pub sets_right : (n : ℕ) → 2 ≤ n → n ≤ 10 → get_or sets-table n 0 ≡ kuhn_sets n
-sets_right = each_seats (λ n. get_or sets-table n 0 ≡ kuhn_sets n) refl refl refl refl refl refl refl refl refl
-
-fans_right : (n : ℕ) → 2 ≤ n → n ≤ 10 → get_or fans-table n 0 ≡ Kuhn.C n
-unfolding Kuhn.C
-fans_right = each_seats (λ n. get_or fans-table n 0 ≡ Kuhn.C n) refl refl refl refl refl refl refl refl refl
-
 -- with more than six seats there are too many nodes
-pub six-seats : (n : ℕ) → 2 ≤ n → n ≤ 10 → get_or nodes-table n 0 ≤ 4000000 → n ≤ 6
-six-seats = each_seats (λ n. get_or nodes-table n 0 ≤ 4000000 → n ≤ 6) (λ h. omega arith) (λ h. omega arith) (λ h. omega arith) (λ h. omega arith) (λ h. omega arith) (λ h. omega arith) (λ h. omega arith) (λ h. omega arith) (λ h. omega arith)
+pub six-seats : (n : ℕ) → 2 ≤ n → n ≤ 10 → kuhn_nodes n ≤ 4000000 → n ≤ 6
+unfolding deal_nodes
+six-seats = each_seats (λ n. kuhn_nodes n ≤ 4000000 → n ≤ 6) (λ h. omega arith) (λ h. omega arith) (λ h. omega arith) (λ h. omega arith) (λ h. omega arith)
+    (λ h. omega arith) (λ h. omega arith) (λ h. omega arith) (λ h. omega arith)
+
+few_sets : (n : ℕ) → 2 ≤ n → n ≤ 10 → kuhn_sets n ≤ 56320
+few_sets = each_seats (λ n. kuhn_sets n ≤ 56320) (omega arith) (omega arith) (omega arith) (omega arith) (omega arith) (omega arith) (omega arith) (omega arith) (omega arith)
 
 -- the seats of Kuhn, once number 2 is settled
 module _ (g : Game) (k : g.number ≡ 0) where
@@ -72,24 +54,14 @@ module _ (g : Game) (k : g.number ≡ 0) where
   pub kuhn_most : seats-out g ≡ false → g.seats ≤ 10
   kuhn_most e = ltb-false 10 g.seats (or_false_right (ltb g.seats 2) (ltb 10 g.seats) (seats-kuhn e))
 
-  pub kuhn-nodes : seats-out g ≡ false → get_or nodes-table g.seats 0 ≡ nodes_of g
-  kuhn-nodes e = nodes_right g.seats (kuhn_least e) (kuhn_most e) ∙ ap (λ t. cond t (kuhn_nodes g.seats) leduc_nodes) (sym (eq-eqb g.number 0 k))
+  pub kuhn-nodes : nodes_of g ≡ kuhn_nodes g.seats
+  kuhn-nodes = ap (λ t. cond t (kuhn_nodes g.seats) leduc_nodes) (eq-eqb g.number 0 k)
 
-  pub kuhn-sets : seats-out g ≡ false → get_or sets-table g.seats 0 ≡ sets_of g
-  kuhn-sets e = sets_right g.seats (kuhn_least e) (kuhn_most e) ∙ ap (λ t. cond t (kuhn_sets g.seats) leduc_sets) (sym (eq-eqb g.number 0 k))
-
-  pub kuhn-entries : 2 * sets_of g ≡ entries_of g
-  kuhn-entries = ap (λ t. 2 * cond t (kuhn_sets g.seats) leduc_sets) (eq-eqb g.number 0 k) ∙ NatL.mul_comm 2 (kuhn_sets g.seats) ∙ ap (λ t. cond t (kuhn_entries g.seats) leduc_entries) (sym (eq-eqb g.number 0 k))
-
-  pub kuhn-fans : seats-out g ≡ false → get_or fans-table g.seats 0 ≡ C g
-  kuhn-fans e = fans_right g.seats (kuhn_least e) (kuhn_most e) ∙ ap (λ t. cond t (Kuhn.C g.seats) 120) (sym (eq-eqb g.number 0 k))
-
-  pub kuhn-turns : 2 * g.seats - 1 ≡ m g
-  kuhn-turns = ap (λ t. cond t (2 * g.seats - 1) 8) (sym (eq-eqb g.number 0 k))
+  kuhn-sets : sets_of g ≡ kuhn_sets g.seats
+  kuhn-sets = ap (λ t. cond t (kuhn_sets g.seats) leduc_sets) (eq-eqb g.number 0 k)
 
   pub sets_at_most : seats-out g ≡ false → sets_of g ≤ 56320
-  sets_at_most e = rw (← (kuhn-sets e)) (each_seats (λ n. get_or sets-table n 0 ≤ 56320) (omega arith) (omega arith) (omega arith) (omega arith)
-      (omega arith) (omega arith) (omega arith) (omega arith) (omega arith) g.seats (kuhn_least e) (kuhn_most e))
+  sets_at_most e = rw kuhn-sets (few_sets g.seats (kuhn_least e) (kuhn_most e))
 
   pub kuhn-actions : (x : ℕ) → x < sets_of g → 2 ≡ get_or (actions_of g) x 0
   unfolding actions_of
@@ -99,17 +71,8 @@ module _ (g : Game) (k : g.number ≡ 0 → ⊥) where
   pub leduc-nodes : leduc_nodes ≡ nodes_of g
   leduc-nodes = ap (λ t. cond t (kuhn_nodes g.seats) leduc_nodes) (sym (ne_eqb g.number 0 k))
 
-  pub leduc-entries : leduc_entries ≡ entries_of g
-  leduc-entries = ap (λ t. cond t (kuhn_entries g.seats) leduc_entries) (sym (ne_eqb g.number 0 k))
-
   pub leduc-sets : leduc_sets ≡ sets_of g
   leduc-sets = ap (λ t. cond t (kuhn_sets g.seats) leduc_sets) (sym (ne_eqb g.number 0 k))
-
-  pub leduc-fans : 120 ≡ C g
-  leduc-fans = ap (λ t. cond t (Kuhn.C g.seats) 120) (sym (ne_eqb g.number 0 k))
-
-  pub leduc-turns : 8 ≡ m g
-  leduc-turns = ap (λ t. cond t (2 * g.seats - 1) 8) (sym (ne_eqb g.number 0 k))
 
   pub leduc-actions : (x : ℕ) → get_or actions_in_order x 0 ≡ get_or (actions_of g) x 0
   unfolding actions_of

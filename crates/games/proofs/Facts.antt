@@ -1,10 +1,11 @@
 -- The games' trees have as many nodes and entries as the constants say, and their sets these actions. Assumes nothing.
 use mathlib.Core.Path.{◌≡◌, refl, sym, ap, ap₂, subst, ◌∙◌}
-use mathlib.Core.Bool.{true, false, not, cond}
+use mathlib.Core.Bool.{Bool, true, false, not, cond}
 use mathlib.Core.List.{List, [], ◌∷◌, map}
-use Prim.Native.Nat.{ℕ, ◌≤◌, ◌<◌}
+use Prim.Native.Nat.{ℕ, zero, suc, ◌+◌, ◌≤◌, ◌<◌}
+use native.Mathlib.Nat as NatL
 use native.Mathlib.Omega.{arith}
-use lib.Dec.{eqb, ltb, leb}
+use lib.Dec.{eqb, ltb}
 use borrow.Author.Tests.{eq-eqb, ne_eqb, eqb-true, eqb-false, not-false}
 use lib.ListN.{length, replicate, length-map}
 use Rattle.prelude.specs.Finite.{◌or◌}
@@ -32,14 +33,13 @@ use Rattle.leduc_tree_facts.proofs.Facts as LeducFacts
 use Rattle.leduc_tree.specs.Turns.{actions_in_order}
 use Rattle.leduc_tree.proofs.Facts.{actions_in_order_lem}
 use Rattle.leduc_tree.specs.Counts.{leduc_nodes, leduc_sets, leduc_entries}
-use Rattle.games.specs.Games.{tree_of, C, m, most_parts, root_units}
+use Rattle.games.specs.Games.{Game, is_kuhn, tree_of, C, m, root_units}
 use Rattle.games.specs.Seats.{seats-out}
 use Rattle.games.specs.Facts.{nodes_of, sets_of, entries_of, Counted, kuhn, leduc, TableOfCounts, Fit, GamesFit, ReplyBest}
 use Rattle.games.specs.Facts.{UnitsExact, UnitsAddUp, OwnEntriesFree, open_to, BestDecides, DecidesAlike}
 use Rattle.games.specs.Facts.{FinerRivals, FinerOfD, FinerReply, ConvZero}
 use Rattle.games.specs.internal.Facts.{ActionsListed}
 use Rattle.games.specs.internal.Actions.{actions_of}
-use Rattle.games.specs.declared.Game.{Game}
 use Rattle.games.proofs.Counts.{kuhn_least}
 
 leduc-counts : (size (tree_of_leduc 1 2 4) ≡ leduc_nodes) × (length (set_actions (tree_of_leduc 1 2 4)) ≡ leduc_sets) × (entries (tree_of_leduc 1 2 4) ≡ leduc_entries)
@@ -55,21 +55,12 @@ kuhn-set-actions : (n : ℕ) → 1 ≤ n → set_actions (tree_of_kuhn 1 1 n) �
 kuhn-set-actions n w = all_two (sets (tree_of_kuhn 1 1 n)) (every→sets (λ j k a. a ≡ 2) (tree_of_kuhn 1 1 n) (kuhn-every 1 1 n (λ j k a. a ≡ 2) (λ j c h. refl))) ∙ ap (λ k. replicate k 2) (counted 1 1 n w).1
 
 module _ (g : Game) where
-  pub kuhn-out : g.number ≡ 0 → seats-out g ≡ (ltb g.seats 2 or ltb 10 g.seats)
-  kuhn-out k = ap (λ t. cond t (ltb g.seats 2 or ltb 10 g.seats) (not (eqb g.seats 2))) (eq-eqb g.number 0 k)
-
   pub leduc-out : (g.number ≡ 0 → ⊥) → seats-out g ≡ not (eqb g.seats 2)
   leduc-out k = ap (λ t. cond t (ltb g.seats 2 or ltb 10 g.seats) (not (eqb g.seats 2))) (ne_eqb g.number 0 k)
 
   -- Leduc has two seats, once number 2 is settled
   pub leduc_two : (g.number ≡ 0 → ⊥) → seats-out g ≡ false → g.seats ≡ 2
   leduc_two k out = eqb-true g.seats 2 (not-false (eqb g.seats 2) (sym (leduc-out k) ∙ out))
-
-  pub kuhn_parts : g.number ≡ 0 → most_parts g ≡ cond (leb g.seats 4) 64 16
-  kuhn_parts k = ap (λ t. cond t (cond (leb g.seats 4) 64 16) 64) (eq-eqb g.number 0 k)
-
-  pub leduc_parts : (g.number ≡ 0 → ⊥) → most_parts g ≡ 64
-  leduc_parts k = ap (λ t. cond t (cond (leb g.seats 4) 64 16) 64) (ne_eqb g.number 0 k)
 
   pub kuhn-tree_is : g.number ≡ 0 → tree_of g ≡ tree_of_kuhn 1 1 g.seats
   unfolding tree_of
@@ -185,3 +176,18 @@ finer-reply g D E i table known out w d e v =
 pub conv_zero : ConvZero
 conv_zero g D table known out d v =
     let f = games_fit g known out in nash_conv_zero (tree_of g) (C g) (m g) D g.seats table d f.splits f.recall f.actions v
+
+-- ---- the root has units
+
+factorial-positive : (n : ℕ) → 0 < KuhnTree.factorial n
+unfolding KuhnTree.factorial
+factorial-positive zero = omega arith
+factorial-positive (suc n) = NatL.mul-pos {m = suc n} (omega arith) (factorial-positive n)
+
+pub fans-positive : (g : Game) → 0 < C g
+unfolding KuhnTree.C
+fans-positive g = at (is_kuhn g)
+  where
+    at : (t : Bool) → 0 < cond t (KuhnTree.C g.seats) 120
+    at true = factorial-positive (g.seats + 1)
+    at false = omega arith

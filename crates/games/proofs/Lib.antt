@@ -4,3 +4,4 @@ pub mod Counts
 pub mod Facts
 pub mod Paths
 pub mod Known
+pub mod Numbered

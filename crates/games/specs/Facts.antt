@@ -13,9 +13,8 @@ use Rattle.game_tree.specs.Table.{Table, strategy_of, ValidTable, KeepsTable, ta
 use Rattle.game_tree.specs.Table.{FinerRival, finer_worth, Equilibrium}
 use Rattle.game_tree.specs.TableTheorem.{finer_reply}
 use Rattle.kuhn_tree.specs.Counts.{kuhn_nodes, kuhn_sets, kuhn_entries}
-use Rattle.games.specs.Games.{is_kuhn, tree_of, C, m, root_units}
+use Rattle.games.specs.Games.{Game, is_kuhn, tree_of, C, m, root_units}
 use Rattle.games.specs.Seats.{seats-out}
-use Rattle.games.specs.declared.Game.{Game}
 use Rattle.kuhn_rules.specs.Stakes as K
 use Rattle.leduc_rules.specs.Stakes as L
 use Rattle.kuhn_tree.specs.Facts as Kuhn

@@ -5,7 +5,10 @@ use Rattle.kuhn_rules.specs.Stakes as K
 use Rattle.leduc_rules.specs.Stakes as L
 use Rattle.kuhn_tree.specs.Tree as Kuhn
 use Rattle.leduc_tree.specs.Tree as Leduc
-use Rattle.games.specs.declared.Game.{Game}
+
+pub record Game : Type 0 where
+  pub number : ℕ
+  pub seats : ℕ
 
 -- the game of a number and a seat count
 abbrev pub game_of : (number seats : ℕ) → Game

@@ -2,7 +2,7 @@
 use Rattle.std.specs.Prelude.{◌≡◌, false, ◌≤◌}
 use Rattle.games.specs.Seats.{seats-out}
 use Rattle.games.specs.Facts.{nodes_of}
-use Rattle.games.specs.declared.Game.{Game}
+use Rattle.games.specs.Games.{Game}
 
 pub record Known (g : Game) : Type 0 where
   pub known : g.number ≤ 1

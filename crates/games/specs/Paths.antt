@@ -3,9 +3,8 @@
 use Rattle.std.specs.Prelude.{◌≡◌, false, ℕ, ◌*◌, ◌≤◌, max}
 use Rattle.game_tree.specs.Tree.{Tree, end, chance, decide, Trees, nil, cons, fan}
 use Rattle.game_tree.specs.Sets.{height}
-use Rattle.games.specs.Games.{tree_of, C, m}
+use Rattle.games.specs.Games.{Game, tree_of, C, m}
 use Rattle.games.specs.Seats.{seats-out}
-use Rattle.games.specs.declared.Game.{Game}
 
 -- the largest product of the fans of chance nodes on a path
 unfoldable mutual

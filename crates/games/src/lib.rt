@@ -1,53 +1,114 @@
-// The games by number, and their counts.
+// The games, and what is counted of their trees.
 #![tactic(auto)]
 
-ghost use Rattle.std.specs.Prelude.{◌≡◌, false, ◌≤◌, ◌<◌, ltb, get_or};
-ghost use Rattle.games.specs.Games.{most_parts, C, m};
-ghost use Rattle.games.specs.Seats.{seats-out};
+pub mod seats;
+
+ghost use Rattle.std.specs.Prelude.{◌≡◌, [], ◌∷◌, ◌≤◌, ◌<◌, IfOk, get_or};
+ghost use Rattle.refusals.specs.Outcomes.{number_of};
+ghost use Rattle.refusals.specs.Refusals.{first};
+ghost use Rattle.games.specs.Games.{game_of, most_parts, C, m};
+ghost use Rattle.games.specs.internal.Numbered.{numbered};
+ghost use Rattle.games.specs.Checks.{game_check, seats_check};
 ghost use Rattle.games.specs.Facts.{nodes_of, sets_of, entries_of};
 ghost use Rattle.games.specs.internal.Actions.{actions_of};
 
-// A game: its number, 0 for Kuhn and 1 for Leduc, and its seats.
+use crate::seats::Seats;
+use refusals::Refusal;
+
+// A game with its seats.
 #[derive(Clone, Copy)]
-pub struct Game {
-    pub number: usize,
-    pub seats: usize,
+pub enum Game {
+    Kuhn(Seats),
+    Leduc,
 }
 
-// The nodes, sets and entries of Kuhn with 2 to 10 seats, from place 2.
-const KUHN_NODES: [usize; 11] = [
-    0,
-    0,
-    58,
-    617,
-    7886,
-    116437,
-    1944020,
-    36196001,
-    743801770,
-    16727745701,
-    408816620312,
+// The nodes, sets and entries of a game's tree, and of its units C, the fans of a hand's chance nodes multiplied, and m, the most actions in a hand.
+#[derive(Clone, Copy)]
+struct Measures {
+    nodes: usize,
+    sets: usize,
+    entries: usize,
+    fans: u64,
+    turns: usize,
+}
+
+// Those of Kuhn, from 2 seats to 10.
+const KUHN: [Measures; 9] = [
+    Measures {
+        nodes: 58,
+        sets: 12,
+        entries: 24,
+        fans: 6,
+        turns: 3,
+    },
+    Measures {
+        nodes: 617,
+        sets: 48,
+        entries: 96,
+        fans: 24,
+        turns: 5,
+    },
+    Measures {
+        nodes: 7886,
+        sets: 160,
+        entries: 320,
+        fans: 120,
+        turns: 7,
+    },
+    Measures {
+        nodes: 116437,
+        sets: 480,
+        entries: 960,
+        fans: 720,
+        turns: 9,
+    },
+    Measures {
+        nodes: 1944020,
+        sets: 1344,
+        entries: 2688,
+        fans: 5040,
+        turns: 11,
+    },
+    Measures {
+        nodes: 36196001,
+        sets: 3584,
+        entries: 7168,
+        fans: 40320,
+        turns: 13,
+    },
+    Measures {
+        nodes: 743801770,
+        sets: 9216,
+        entries: 18432,
+        fans: 362880,
+        turns: 15,
+    },
+    Measures {
+        nodes: 16727745701,
+        sets: 23040,
+        entries: 46080,
+        fans: 3628800,
+        turns: 17,
+    },
+    Measures {
+        nodes: 408816620312,
+        sets: 56320,
+        entries: 112640,
+        fans: 39916800,
+        turns: 19,
+    },
 ];
 
-const KUHN_SETS: [usize; 11] = [0, 0, 12, 48, 160, 480, 1344, 3584, 9216, 23040, 56320];
-
-// C of Kuhn's units, (n + 1)!, with 2 to 10 seats, from place 2.
-const KUHN_C: [u64; 11] = [
-    0, 0, 6, 24, 120, 720, 5040, 40320, 362880, 3628800, 39916800,
-];
-
-const LEDUC_NODES: usize = 9457;
-
-const LEDUC_SETS: usize = 936;
-
-const LEDUC_ENTRIES: usize = 2184;
-
-// C of Leduc's units, and m: the most actions in a hand.
-const LEDUC_C: u64 = 120;
-
-const LEDUC_M: usize = 8;
+const LEDUC: Measures = Measures {
+    nodes: 9457,
+    sets: 936,
+    entries: 2184,
+    fans: 120,
+    turns: 8,
+};
 
 impl Game {
+    // The games' numbers.
     pub const KUHN: usize = 0;
 
     pub const LEDUC: usize = 1;
@@ -55,103 +116,95 @@ impl Game {
     // The words of work memory that a node takes.
     pub const WORDS: usize = 12;
 
-    // Whether no game has the number.
-    pub fn is_unknown(self) -> bool
-        ensures { result ≡ ltb 1 self.number }
+    // The game of a number and a seat count: number 1 where no game has the number, number 2 where it has not so many seats.
+    pub fn by_number(number: usize, seats: usize) -> Result<Game, Refusal>
+        ensures refused { number_of result ≡ first (game_check (game_of number seats) ∷ seats_check (game_of number seats) ∷ []) }
+        ensures made { IfOk result (λ game. numbered game ≡ game_of number seats) }
     {
-        Self::LEDUC < self.number
+        match number {
+            Self::KUHN if 2 <= seats && seats <= 10 => Ok(Game::Kuhn(Seats { count: seats })),
+            Self::LEDUC if seats == 2 => Ok(Game::Leduc),
+            Self::KUHN | Self::LEDUC => Err(Refusal::Seats),
+            _ => Err(Refusal::Game),
+        }
     }
 
-    // Whether the seat count is outside 2 to 10 for Kuhn, or not 2 for Leduc.
-    pub fn seats_outside(self) -> bool
-        ensures { result ≡ seats-out self }
+    // How many seats play.
+    pub fn seats(self) -> usize
+        ensures { result ≡ (numbered self).seats }
     {
-        let seats = self.seats;
-        if self.number != Self::KUHN {
-            return seats != 2;
+        match self {
+            Game::Kuhn(seats) => seats.count,
+            Game::Leduc => 2,
         }
-        if seats < 2 {
-            return true;
-        }
-        10 < seats
     }
 
     // The most parts per set: 64, or 16 for Kuhn with more than 4 seats.
     pub fn most_parts(self) -> usize
-        ensures { result ≡ most_parts self }
+        ensures { result ≡ most_parts (numbered self) }
     {
-        if self.number != Self::KUHN {
-            return 64;
+        match self {
+            Game::Kuhn(seats) if 4 < seats.count => 16,
+            _ => 64,
         }
-        if self.seats <= 4 { 64 } else { 16 }
+    }
+
+    fn measures(self) -> Measures
+        ensures nodes { result.nodes ≡ nodes_of (numbered self) }
+        ensures sets { result.sets ≡ sets_of (numbered self) }
+        ensures entries { result.entries ≡ entries_of (numbered self) }
+        ensures fans { result.fans ≡ C (numbered self) }
+        ensures turns { result.turns ≡ m (numbered self) }
+    {
+        match self {
+            Game::Kuhn(seats) => KUHN[seats.count - 2],
+            Game::Leduc => LEDUC,
+        }
     }
 
     // How many nodes the game's tree has.
     pub fn nodes(self) -> usize
-        requires { seats-out self ≡ false }
-        ensures { result ≡ nodes_of self }
+        ensures { result ≡ nodes_of (numbered self) }
     {
-        let seats = self.seats;
-        if self.number == Self::KUHN {
-            return KUHN_NODES[seats];
-        }
-        LEDUC_NODES
+        self.measures().nodes
     }
 
     // How many sets it has.
     pub fn sets(self) -> usize
-        requires { seats-out self ≡ false }
-        ensures { result ≡ sets_of self }
+        ensures { result ≡ sets_of (numbered self) }
     {
-        let seats = self.seats;
-        if self.number == Self::KUHN {
-            return KUHN_SETS[seats];
-        }
-        LEDUC_SETS
+        self.measures().sets
     }
 
     // How many entries a table has.
     pub fn entries(self) -> usize
-        requires { seats-out self ≡ false }
-        ensures { result ≡ entries_of self }
+        ensures { result ≡ entries_of (numbered self) }
     {
-        if self.number == Self::KUHN {
-            return 2 * self.sets();
-        }
-        LEDUC_ENTRIES
+        self.measures().entries
     }
 
     // How many actions a set has.
     pub fn actions(self, set: usize) -> usize
-        requires { set < sets_of self }
-        ensures { (result ≡ get_or (actions_of self) set 0) × (result ≤ 3) }
+        requires { set < sets_of (numbered self) }
+        ensures { (result ≡ get_or (actions_of (numbered self)) set 0) × (result ≤ 3) }
     {
-        if self.number == Self::KUHN {
-            return 2;
+        match self {
+            Game::Kuhn(_) => 2,
+            Game::Leduc => leduc_set_actions::actions(set),
         }
-        leduc_set_actions::actions(set)
     }
 
     // C of the units: the fans of a hand's chance nodes, multiplied.
     pub fn fans(self) -> u64
-        requires { seats-out self ≡ false }
-        ensures { result ≡ C self }
+        ensures { result ≡ C (numbered self) }
     {
-        let seats = self.seats;
-        if self.number == Self::KUHN {
-            return KUHN_C[seats];
-        }
-        LEDUC_C
+        self.measures().fans
     }
 
     // m of the units: the most actions in a hand.
     pub fn turns(self) -> usize
-        requires { seats-out self ≡ false }
-        ensures { result ≡ m self }
+        ensures { result ≡ m (numbered self) }
     {
-        if self.number == Self::KUHN {
-            return 2 * self.seats - 1;
-        }
-        LEDUC_M
+        self.measures().turns
     }
 }

@@ -1,7 +1,7 @@
 -- Every call's checks have numbers above 0, so each call is accepted exactly if no test of them holds. Assumes nothing.
 use Prim.Native.Nat.{ℕ}
 use Rattle.refusals.proofs.Facts.{first_decides}
-use Rattle.games.specs.declared.Game.{Game}
+use Rattle.games.specs.Games.{Game}
 use Rattle.tree_refusals.specs.Checks.{listing_checks, evaluation_checks, reply_checks, value_checks, values_checks}
 use Rattle.tree_refusals.specs.Facts.{CallsDecide}
 

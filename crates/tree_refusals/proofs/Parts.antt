@@ -1,7 +1,7 @@
 -- Sums of parts, as a loop adds them up. Assumes nothing.
 use mathlib.Core.Path.{◌≡◌, refl, sym, ap, ap₂, ◌∙◌}
 use mathlib.Core.Bool.{Bool, true, false, cond}
-use mathlib.Core.List.{List}
+use mathlib.Core.List.{List, [], ◌∷◌}
 use Prim.Native.Nat.{ℕ, zero, suc, ◌+◌, ◌-◌, ◌≤◌, ◌<◌}
 use native.Mathlib.Numerals.{add-one}
 use native.Mathlib.Omega.{arith}
@@ -9,28 +9,21 @@ use lib.Dec.{eqb}
 use borrow.Author.Tests.{eq-eqb, ne_eqb}
 use lib.ListN.{length, get_or, take, drop, length-drop, drop_of_length-le}
 use lib.Seq.{length-take-le, get_or-take, drop-cons, drop-drop}
+use Rattle.std.specs.List as List
+use Rattle.std.proofs.lemmas.List.Sums.{sum_by-cons}
 use Rattle.game_tree.specs.Sums.{parts}
 use Rattle.game_tree.specs.Table.{add_up}
-use Rattle.games.specs.declared.Game.{Game}
+use Rattle.games.specs.Games.{Game}
 use Rattle.games.specs.Facts.{sets_of, entries_of}
 use Rattle.games.specs.internal.Actions.{actions_of}
 use Rattle.games.proofs.Totals.{total, total_more}
 use Rattle.games.proofs.Counts.{in_actions, part_room}
 
-pub parts_none : (p : ℕ → ℕ) → 0 ≡ parts 0 p
+-- the sum of a list is that of its parts
+pub sum_is_parts : (xs : List ℕ) → List.sum xs ≡ parts (length xs) (λ a. get_or xs a 0)
 unfolding parts
-parts_none p = refl
-
-last_part : (n : ℕ) (p : ℕ → ℕ) → parts (suc n) p ≡ parts n p + p n
-unfolding parts
-last_part zero p = omega arith
-last_part (suc n) p = let e = last_part n (λ a. p (suc a)) in omega arith
-
-pub parts_more : (n : ℕ) (p : ℕ → ℕ) → parts (n + 1) p ≡ parts n p + p n
-parts_more n p = rw add-one (last_part n p)
-
-pub parts_all : (a n : ℕ) (p : ℕ → ℕ) → a ≤ n → n ≤ a → parts a p ≡ parts n p
-parts_all a n p h k = let e : a ≡ n = omega arith in ap (λ i. parts i p) e
+sum_is_parts [] = refl
+sum_is_parts (x ∷ xs) = sum_by-cons (λ n. n) x xs ∙ ap (λ n. x + n) (sum_is_parts xs)
 
 -- parts that agree below n add up to the same
 pub parts_same : (n : ℕ) (p q : ℕ → ℕ) → ((a : ℕ) → a < n → p a ≡ q a) → parts n p ≡ parts n q
@@ -96,7 +89,10 @@ module _ (g : Game) (table : List ℕ) (i at n : ℕ) (e : length table ≡ entr
   pub next_part : at + n ≡ total (take (i + 1) (actions_of g))
   next_part = ap₂ ◌+◌ f m ∙ total_more (actions_of g) i (in_actions g i w)
 
-  module _ (D r : ℕ) (a : add_up D (actions_of g) table ≡ rest D (actions_of g) table i) (q : r ≡ parts (length part) (λ b. get_or part b 0)) where
+  module _ (D r : ℕ) (a : add_up D (actions_of g) table ≡ rest D (actions_of g) table i) (s : r ≡ List.sum part) where
+    q : r ≡ parts (length part) (λ b. get_or part b 0)
+    q = s ∙ sum_is_parts part
+
     pub sum_differs : (r ≡ D → ⊥) → false ≡ add_up D (actions_of g) table
     sum_differs h = sym (a ∙ rest_fails D (actions_of g) table i (in_actions g i w) part part_is (part_room g table i e w) (λ z. h (q ∙ z)))
 

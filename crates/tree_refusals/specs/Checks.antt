@@ -6,17 +6,8 @@ use Rattle.refusals.specs.Refusals as Refusals
 use Rattle.prelude.specs.Finite.{◌or◌}
 use Rattle.game_tree.specs.Sets.{size, set_count, set_actions, entries}
 use Rattle.game_tree.specs.Table.{Table, add_up}
-use Rattle.games.specs.declared.Game.{Game}
-use Rattle.games.specs.Games.{tree_of, most_parts}
-use Rattle.games.specs.Seats.{seats-out}
-
--- 1: the game's number
-abbrev pub game_check : Game → Check
-game_check g = ltb 1 g.number refuses Refusals.game
-
--- 2: its seats
-abbrev pub seats_check : Game → Check
-seats_check g = seats-out g refuses Refusals.seats
+use Rattle.games.specs.Games.{Game, tree_of, most_parts}
+pub use Rattle.games.specs.Checks.{game_check, seats_check}
 
 -- 3: its tree
 abbrev pub tree_check : Game → Check

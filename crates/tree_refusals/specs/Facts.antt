@@ -3,7 +3,7 @@
 use Rattle.std.specs.Prelude.{ℕ}
 use Rattle.refusals.specs.Facts.{Decides}
 use Rattle.game_tree.specs.Table.{Table}
-use Rattle.games.specs.declared.Game.{Game}
+use Rattle.games.specs.Games.{Game}
 use Rattle.tree_refusals.specs.Checks.{listing_checks, evaluation_checks, reply_checks, value_checks, values_checks}
 use Rattle.tree_refusals.specs.Checks.{listing-refusal, evaluation_refusal, reply-refusal, value-refusal, values_refusal}
 

@@ -1,130 +1,134 @@
 // The checks, each by its number; 1 to 4 together, since each needs those before it, and so 7 and 8 of a table.
-ghost use Rattle.std.specs.Prelude.{◌≡◌, false, [], ◌∷◌, ◌*◌, ◌≤◌, ◌<◌, length, get_or};
+ghost use Rattle.std.specs.Prelude.{◌≡◌, [], ◌∷◌, ◌*◌, ◌≤◌, ◌<◌, IfOk, length, sum};
+ghost use Rattle.refusals.specs.Outcomes.{number_of};
 ghost use Rattle.refusals.specs.internal.Settled.{Settled};
-ghost use Rattle.game_tree.specs.Sums.{parts};
 ghost use Rattle.game_tree.specs.Sets.{entries};
-ghost use Rattle.game_tree.specs.Table.{add_up, ValidTable};
-ghost use Rattle.games.specs.Games.{tree_of, most_parts};
-ghost use Rattle.games.specs.Seats.{seats-out};
+ghost use Rattle.game_tree.specs.Table.{add_up};
+ghost use Rattle.games.specs.Games.{game_of, tree_of, most_parts};
+ghost use Rattle.games.specs.internal.Numbered.{numbered};
 ghost use Rattle.games.specs.Facts.{nodes_of, entries_of};
 ghost use Rattle.games.specs.internal.Actions.{actions_of};
 ghost use Rattle.games.specs.Known.{Known};
 ghost use Rattle.tree_refusals.specs.Checks.{tree_checks, seat_check, parts_check, length_check, sum_check, output_check};
+ghost use Rattle.tree_refusals.specs.Accepted.{AcceptedTable};
+ghost use Rattle.tree_refusals.specs.internal.Accepted.{AcceptedProfile};
 
+use crate::accepted::{GameProfile, GameTable};
 use games::Game;
+use refusals::Refusal;
 
 // The most nodes of a tree.
 const MOST_NODES: usize = 4000000;
 
-// 1 to 4: what refuses a game with so many words of work memory.
-pub fn tree_refusal(g: Game, memory: usize) -> u64
-    ensures { Settled (tree_checks g memory) (Known g × (12 * nodes_of g ≤ memory)) result }
+// 1 to 4: the game of a number and a seat count, with so many words of work memory.
+pub fn check_tree(number: usize, seats: usize, memory: usize) -> Result<Game, Refusal>
+    ensures made { IfOk result (λ game. numbered game ≡ game_of number seats) }
+    ensures refused { Settled (tree_checks (game_of number seats) memory)
+        (Known (game_of number seats) × (12 * nodes_of (game_of number seats) ≤ memory)) (number_of result) }
 {
-    if g.is_unknown() {
-        return refusals::GAME;
-    }
-    if g.seats_outside() {
-        return refusals::SEATS;
-    }
-    let nodes = g.nodes();
+    let game = Game::by_number(number, seats)?;
+    let nodes = game.nodes();
     if MOST_NODES < nodes {
-        return refusals::TREE;
+        return Err(Refusal::Tree);
     }
     if memory < Game::WORDS * nodes {
-        return refusals::MEMORY;
+        return Err(Refusal::Memory);
     }
-    refusals::ACCEPTED
+    Ok(game)
 }
 
-// 5: what refuses a seat.
-pub fn seat_refusal(g: Game, seat: usize) -> u64
-    ensures { Settled (seat_check g seat ∷ []) (seat < g.seats) result }
+// 5: a seat.
+pub fn check_seat(game: Game, seat: usize) -> Result<(), Refusal>
+    ensures { Settled (seat_check (numbered game) seat ∷ []) (seat < (numbered game).seats) (number_of result) }
 {
-    if g.seats <= seat {
-        return refusals::SEAT;
+    if game.seats() <= seat {
+        return Err(Refusal::Seat);
     }
-    refusals::ACCEPTED
+    Ok(())
 }
 
-// 6: what refuses D, the parts per set.
-pub fn parts_refusal(g: Game, d: usize) -> u64
-    ensures { Settled (parts_check g d ∷ []) ((1 ≤ d) × (d ≤ most_parts g)) result }
+// 6: D, the parts per set.
+fn check_parts(game: Game, d: usize) -> Result<(), Refusal>
+    ensures { Settled (parts_check (numbered game) d ∷ []) ((1 ≤ d) × (d ≤ most_parts (numbered game))) (number_of result) }
 {
-    if d == 0 {
-        return refusals::PARTS;
+    if d == 0 || game.most_parts() < d {
+        return Err(Refusal::Parts);
     }
-    if g.most_parts() < d {
-        return refusals::PARTS;
-    }
-    refusals::ACCEPTED
+    Ok(())
 }
 
-// 7: what refuses a table or a profile of n entries.
-pub fn length_refusal(g: Game, n: usize) -> u64
-    requires { Known g }
-    ensures { Settled (length_check g n ∷ []) (n ≡ entries (tree_of g)) result }
+// 7: a table or a profile of n entries.
+fn check_length(game: Game, n: usize) -> Result<(), Refusal>
+    ensures { Settled (length_check (numbered game) n ∷ []) (n ≡ entries (tree_of (numbered game))) (number_of result) }
 {
-    if n != g.entries() {
-        return refusals::TABLE;
+    if n != game.entries() {
+        return Err(Refusal::Table);
     }
-    refusals::ACCEPTED
+    Ok(())
 }
 
 // The parts of one set, which are the given part of a table, added up in more than a byte.
 fn part_sum(part: &[u8]) -> usize
     requires { length part.now ≤ 3 }
-    ensures { result ≡ parts (length part.now) (λ a. get_or part.now a 0) }
+    ensures { result ≡ sum part.now }
 {
-    let mut sum = 0;
-    let mut a = 0;
-    while a < part.len() {
-        sum += part[a] as usize;
-        a += 1;
-    }
-    sum
+    part.iter().map(|p| usize::from(*p)).sum()
 }
 
 // Whether the parts of each set add up to d.
-fn adds_up(g: Game, table: &[u8], d: usize) -> bool
-    requires { (seats-out g ≡ false) × (length table.now ≡ entries_of g) }
-    ensures { result ≡ add_up d (actions_of g) table.now }
+fn adds_up(game: Game, table: &[u8], d: usize) -> bool
+    requires { length table.now ≡ entries_of (numbered game) }
+    ensures { result ≡ add_up d (actions_of (numbered game)) table.now }
 {
-    let sets = g.sets();
-    let mut set = 0;
     let mut at = 0;
-    while set < sets {
-        let end = at + g.actions(set);
+    for set in 0..game.sets() {
+        let end = at + game.actions(set);
         if part_sum(&table[at..end]) != d {
             return false;
         }
         at = end;
-        set += 1;
     }
     true
 }
 
-// 7 and 8: what refuses a table with d parts in each set.
-pub fn table_refusal(g: Game, d: usize, table: &[u8]) -> u64
-    requires { Known g }
-    ensures { Settled (length_check g (length table.now) ∷ sum_check g d table.now ∷ [])
-        (ValidTable (tree_of g) d table.now) result }
+// 6 to 8: a table with d parts in each set.
+pub fn check_table<'a>(game: Game, d: usize, table: &'a [u8]) -> Result<GameTable<'a>, Refusal>
+    requires { Known (numbered game) }
+    ensures made { IfOk result (λ t. (numbered t.game ≡ numbered game) × (t.parts ≡ d) × (t.entries.now ≡ table.now)) }
+    ensures refused { Settled (parts_check (numbered game) d ∷ length_check (numbered game) (length table.now) ∷ sum_check (numbered game) d table.now ∷ [])
+        (AcceptedTable (numbered game) d table.now) (number_of result) }
 {
-    let refusal = length_refusal(g, table.len());
-    if refusal != refusals::ACCEPTED {
-        return refusal;
+    check_parts(game, d)?;
+    check_length(game, table.len())?;
+    if !adds_up(game, table, d) {
+        return Err(Refusal::Sum);
     }
-    if !adds_up(g, table, d) {
-        return refusals::SUM;
-    }
-    refusals::ACCEPTED
+    Ok(GameTable {
+        game,
+        parts: d,
+        entries: table,
+    })
 }
 
-// 9: what refuses an output of room bytes, for n.
-pub fn output_refusal(n: usize, room: usize) -> u64
-    ensures { Settled (output_check n room ∷ []) (n ≤ room) result }
+// 7: a profile.
+pub fn check_profile<'a>(game: Game, profile: &'a [f64]) -> Result<GameProfile<'a>, Refusal>
+    requires { Known (numbered game) }
+    ensures made { IfOk result (λ p. (numbered p.game ≡ numbered game) × (p.entries.now ≡ profile.now)) }
+    ensures refused { Settled (length_check (numbered game) (length profile.now) ∷ []) (AcceptedProfile (numbered game) profile.now) (number_of result) }
+{
+    check_length(game, profile.len())?;
+    Ok(GameProfile {
+        game,
+        entries: profile,
+    })
+}
+
+// 9: an output of room bytes, for n.
+pub fn check_output(n: usize, room: usize) -> Result<(), Refusal>
+    ensures { Settled (output_check n room ∷ []) (n ≤ room) (number_of result) }
 {
     if room < n {
-        return refusals::OUTPUT;
+        return Err(Refusal::Output);
     }
-    refusals::ACCEPTED
+    Ok(())
 }

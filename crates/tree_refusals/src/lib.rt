@@ -1,92 +1,109 @@
-// What refuses a call that needs a game's tree, settled before a word of work memory is written. The checks of the tree come first; behind them each stands by
-// itself, and the earliest refusal decides.
+// What a call that needs a game's tree is given, checked before a word of work memory is written: the tree first, and behind it the rest in the order of the
+// numbers. The first refusal decides.
 #![tactic(auto)]
 
+pub mod accepted;
 pub mod checks;
 
-ghost use Rattle.std.specs.Prelude.{◌*◌, ◌≤◌, ◌<◌, length};
+ghost use Rattle.std.specs.Prelude.{◌≡◌, ◌*◌, ◌≤◌, ◌<◌, IfOk, length};
+ghost use Rattle.refusals.specs.Outcomes.{number_of};
 ghost use Rattle.refusals.specs.internal.Settled.{Settled};
 ghost use Rattle.game_tree.specs.Sets.{set_count, entries};
-ghost use Rattle.games.specs.Games.{tree_of};
+ghost use Rattle.games.specs.Games.{game_of, tree_of};
+ghost use Rattle.games.specs.internal.Numbered.{numbered};
 ghost use Rattle.games.specs.Facts.{nodes_of};
 ghost use Rattle.games.specs.Known.{Known};
 ghost use Rattle.tree_refusals.specs.Checks.{listing_checks, evaluation_checks, reply_checks, value_checks, values_checks};
 ghost use Rattle.tree_refusals.specs.Accepted.{AcceptedTable};
 ghost use Rattle.tree_refusals.specs.internal.Accepted.{AcceptedProfile};
 
-use crate::checks::{
-    length_refusal, output_refusal, parts_refusal, seat_refusal, table_refusal, tree_refusal,
-};
+use crate::accepted::{GameProfile, GameTable};
+use crate::checks::{check_output, check_profile, check_seat, check_table, check_tree};
 use games::Game;
-use refusals::earlier;
+use refusals::Refusal;
 
-// What refuses a listing into an output of room bytes, with so many words of work memory (enumerate_infosets): 1 to 4, then 9.
-pub fn listing_refusal(g: Game, memory: usize, room: usize) -> u64
-    ensures { Settled (listing_checks g memory room) (Known g × (24 * set_count (tree_of g) ≤ room)) result }
+// The game of a listing into an output of room bytes, with so many words of work memory (enumerate_infosets): 1 to 4, then 9.
+pub fn check_listing(
+    number: usize,
+    seats: usize,
+    memory: usize,
+    room: usize,
+) -> Result<Game, Refusal>
+    ensures made { IfOk result (λ game. numbered game ≡ game_of number seats) }
+    ensures refused { Settled (listing_checks (game_of number seats) memory room)
+        (Known (game_of number seats) × (24 * set_count (tree_of (game_of number seats)) ≤ room)) (number_of result) }
 {
-    let refusal = tree_refusal(g, memory);
-    if refusal != refusals::ACCEPTED {
-        return refusal;
-    }
-    output_refusal(listing_records::RECORD * g.sets(), room)
+    let game = check_tree(number, seats, memory)?;
+    check_output(listing_records::RECORD * game.sets(), room)?;
+    Ok(game)
 }
 
-// What refuses a call that evaluates all seats of a table with d parts in each set (worths, nash_conv_units): 1 to 4, then 6 to 8.
-pub fn evaluation_refusal(g: Game, memory: usize, d: usize, table: &[u8]) -> u64
-    ensures { Settled (evaluation_checks g memory d table.now)
-        (AcceptedTable g d table.now × (12 * nodes_of g ≤ memory)) result }
+// The table of a call that evaluates all seats of one with d parts in each set (worths, nash_conv_units): 1 to 4, then 6 to 8.
+pub fn check_evaluation<'a>(
+    number: usize,
+    seats: usize,
+    memory: usize,
+    d: usize,
+    table: &'a [u8],
+) -> Result<GameTable<'a>, Refusal>
+    ensures made { IfOk result (λ t. (numbered t.game ≡ game_of number seats) × (t.parts ≡ d) × (t.entries.now ≡ table.now)) }
+    ensures refused { Settled (evaluation_checks (game_of number seats) memory d table.now)
+        (AcceptedTable (game_of number seats) d table.now × (12 * nodes_of (game_of number seats) ≤ memory)) (number_of result) }
 {
-    let refusal = tree_refusal(g, memory);
-    if refusal != refusals::ACCEPTED {
-        return refusal;
-    }
-    let refusal = parts_refusal(g, d);
-    earlier(refusal, table_refusal(g, d, table))
+    let game = check_tree(number, seats, memory)?;
+    check_table(game, d, table)
 }
 
-// What refuses a call that evaluates one seat of a table into an output of room bytes (best_reply): 1 to 9.
-pub fn reply_refusal(
-    g: Game,
+// The table of a call that evaluates one seat into an output of room bytes (best_reply): 1 to 9.
+pub fn check_reply<'a>(
+    number: usize,
+    seats: usize,
     memory: usize,
     seat: usize,
     d: usize,
-    table: &[u8],
+    table: &'a [u8],
     room: usize,
-) -> u64
-    ensures { Settled (reply_checks g memory seat d table.now room)
-        (AcceptedTable g d table.now × (12 * nodes_of g ≤ memory) × (seat < g.seats) × (entries (tree_of g) ≤ room)) result }
+) -> Result<GameTable<'a>, Refusal>
+    ensures made { IfOk result (λ t. (numbered t.game ≡ game_of number seats) × (t.parts ≡ d) × (t.entries.now ≡ table.now)) }
+    ensures refused { Settled (reply_checks (game_of number seats) memory seat d table.now room)
+        (AcceptedTable (game_of number seats) d table.now × (12 * nodes_of (game_of number seats) ≤ memory) × (seat < seats)
+        × (entries (tree_of (game_of number seats)) ≤ room)) (number_of result) }
 {
-    let refusal = tree_refusal(g, memory);
-    if refusal != refusals::ACCEPTED {
-        return refusal;
-    }
-    let refusal = seat_refusal(g, seat);
-    let refusal = earlier(refusal, parts_refusal(g, d));
-    let refusal = earlier(refusal, table_refusal(g, d, table));
-    earlier(refusal, output_refusal(g.entries(), room))
+    let game = check_tree(number, seats, memory)?;
+    check_seat(game, seat)?;
+    let table = check_table(game, d, table)?;
+    check_output(game.entries(), room)?;
+    Ok(table)
 }
 
-// What refuses a call that evaluates one seat of a profile (best_response_value): 1 to 5, then 7.
-pub fn value_refusal(g: Game, memory: usize, seat: usize, profile: &[f64]) -> u64
-    ensures { Settled (value_checks g memory seat (length profile.now))
-        (AcceptedProfile g profile.now × (12 * nodes_of g ≤ memory) × (seat < g.seats)) result }
+// The profile of a call that evaluates one seat (best_response_value): 1 to 5, then 7.
+pub fn check_value<'a>(
+    number: usize,
+    seats: usize,
+    memory: usize,
+    seat: usize,
+    profile: &'a [f64],
+) -> Result<GameProfile<'a>, Refusal>
+    ensures made { IfOk result (λ p. (numbered p.game ≡ game_of number seats) × (p.entries.now ≡ profile.now)) }
+    ensures refused { Settled (value_checks (game_of number seats) memory seat (length profile.now))
+        (AcceptedProfile (game_of number seats) profile.now × (12 * nodes_of (game_of number seats) ≤ memory) × (seat < seats)) (number_of result) }
 {
-    let refusal = tree_refusal(g, memory);
-    if refusal != refusals::ACCEPTED {
-        return refusal;
-    }
-    let refusal = seat_refusal(g, seat);
-    earlier(refusal, length_refusal(g, profile.len()))
+    let game = check_tree(number, seats, memory)?;
+    check_seat(game, seat)?;
+    check_profile(game, profile)
 }
 
-// What refuses a call that evaluates all seats of a profile (best_response_values, profile_values, nash_conv, exploitability): 1 to 4, then 7.
-pub fn values_refusal(g: Game, memory: usize, profile: &[f64]) -> u64
-    ensures { Settled (values_checks g memory (length profile.now))
-        (AcceptedProfile g profile.now × (12 * nodes_of g ≤ memory)) result }
+// The profile of a call that evaluates all seats (best_response_values, profile_values, nash_conv, exploitability): 1 to 4, then 7.
+pub fn check_values<'a>(
+    number: usize,
+    seats: usize,
+    memory: usize,
+    profile: &'a [f64],
+) -> Result<GameProfile<'a>, Refusal>
+    ensures made { IfOk result (λ p. (numbered p.game ≡ game_of number seats) × (p.entries.now ≡ profile.now)) }
+    ensures refused { Settled (values_checks (game_of number seats) memory (length profile.now))
+        (AcceptedProfile (game_of number seats) profile.now × (12 * nodes_of (game_of number seats) ≤ memory)) (number_of result) }
 {
-    let refusal = tree_refusal(g, memory);
-    if refusal != refusals::ACCEPTED {
-        return refusal;
-    }
-    length_refusal(g, profile.len())
+    let game = check_tree(number, seats, memory)?;
+    check_profile(game, profile)
 }

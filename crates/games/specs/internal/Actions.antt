@@ -2,8 +2,7 @@
 use Rattle.std.specs.Prelude.{cond, List, ℕ, replicate}
 use Rattle.kuhn_tree.specs.Counts.{kuhn_sets}
 use Rattle.leduc_tree.specs.Turns.{actions_in_order}
-use Rattle.games.specs.Games.{is_kuhn}
-use Rattle.games.specs.declared.Game.{Game}
+use Rattle.games.specs.Games.{Game, is_kuhn}
 
 -- two in each of Kuhn's sets, in Leduc's those of its first positions
 unfoldable pub actions_of : Game → List ℕ

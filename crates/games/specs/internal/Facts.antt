@@ -1,10 +1,9 @@
 -- What holds of Actions, proved in proofs/Facts.antt.
 use Rattle.std.specs.Prelude.{◌≡◌, false}
 use Rattle.game_tree.specs.Sets.{set_actions}
-use Rattle.games.specs.Games.{tree_of}
+use Rattle.games.specs.Games.{Game, tree_of}
 use Rattle.games.specs.Seats.{seats-out}
 use Rattle.games.specs.internal.Actions.{actions_of}
-use Rattle.games.specs.declared.Game.{Game}
 
 -- and its sets, in order, these actions
 abbrev pub ActionsListed : Type 0

@@ -1,8 +1,7 @@
 -- Of Accepted, what stands between functions.
 use Rattle.std.specs.Prelude.{◌≡◌, List, Float, length}
 use Rattle.game_tree.specs.Sets.{entries}
-use Rattle.games.specs.declared.Game.{Game}
-use Rattle.games.specs.Games.{tree_of}
+use Rattle.games.specs.Games.{Game, tree_of}
 use Rattle.games.specs.Known.{Known}
 
 -- a profile that numbers 1 to 3 and 7 let through
