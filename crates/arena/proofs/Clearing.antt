@@ -1,43 +1,42 @@
 -- Words that are cleared. Assumes nothing.
-use mathlib.Core.Path.{◌≡◌, refl, ◌∙◌}
-use mathlib.Core.Logic.{◌⊎◌, inl, inr}
-use mathlib.Core.List.{List}
-use Prim.Native.Nat.{ℕ, ◌+◌, ◌≤◌, ◌<◌}
-use native.Mathlib.Omega.{arith}
-use lib.Dec.{eqb, ltb}
-use lib.ListN.{length, get_or, set, length-set, get_or-eq_default}
-use lib.Seq.{get_or-set_same, get_or-set_other}
-use borrow.Author.Tests.{ltb-true, ltb-false, eqb-true, eqb-false}
+use Rattle.std.proofs.Common.{rules, ◌≡◌, ◌∙◌, ◌⊎◌, ℕ, ◌-◌, ◌<◌, ◌≤◌, List, length, get_or, replicate, min, take, drop, ap, inl, inr, arith, ltb, ltb-true, ltb-false}
+use Rattle.std.proofs.lemmas.List.{places}
+use borrow.Rule.Slice.PartMut.{put_mid}
+use lib.ListN.{get_or-eq_default}
 use Rattle.prelude.proofs.Tests.{Tested, holds, fails, tested}
 use Rattle.arena.specs.internal.Index.{Cleared}
 
-pub set_zero : (w : List ℕ) (i : ℕ) → get_or (set w i 0) i 0 ≡ 0
-set_zero w i = at (tested (ltb i (length w)))
+module _ (lo e : ℕ) (w ys : List ℕ) (m : lo < e) (r : e ≤ length w) (z : ys ≡ replicate (e - lo) 0) where
+  below : (i : ℕ) → i < lo → get_or (put_mid lo (e - lo) w ys) i 0 ≡ get_or w i 0
+  below i h = search (rules, places)
+
+  inside : (i : ℕ) → lo ≤ i → i < e → get_or (put_mid lo (e - lo) w ys) i 0 ≡ 0
+  inside i g h = search (rules, places)
+
+  beyond : (i : ℕ) → e ≤ i → get_or (put_mid lo (e - lo) w ys) i 0 ≡ get_or w i 0
+  beyond i h = search (rules, places)
+
+  long : length (put_mid lo (e - lo) w ys) ≡ length w
+  long = search (rules, places)
+
+-- the words as far as place e are filled, which is hi or where they end
+pub cleared : (lo hi e : ℕ) (w ys : List ℕ) → e ≡ min hi (length w) → lo < e → ys ≡ replicate (length (take (e - lo) (drop lo w))) 0
+    → Cleared lo hi w (put_mid lo (e - lo) w ys)
+cleared lo hi e w ys q m y = record { zero = zero; kept = record { words = kept; long = long lo e w ys m r z } }
   where
-    at : Tested (ltb i (length w)) → get_or (set w i 0) i 0 ≡ 0
-    at (holds h) = get_or-set_same w i 0 0 (ltb-true i (length w) h)
-    at (fails h) = get_or-eq_default (set w i 0) 0 (rw (length-set w i 0) (ltb-false i (length w) h))
+    r : e ≤ length w
+    r = omega arith
 
-pub clear_none : (lo : ℕ) (w : List ℕ) → Cleared lo lo w w
-clear_none lo w = record { zero = λ i a b. absurd (omega arith); kept = record { words = λ i o. refl; long = refl } }
+    z : ys ≡ replicate (e - lo) 0
+    z = y ∙ ap (λ n. replicate n 0) (search (rules, places))
 
-pub clear_more : (lo i : ℕ) (old w new : List ℕ) → lo ≤ i → Cleared lo i old w → new ≡ set w i 0 → Cleared lo (i + 1) old new
-clear_more lo i old w new h c e = rw e (record {
-  zero = zeros;
-  kept = record { words = λ j o. get_or-set_other w i j 0 0 (outside j o) ∙ c.kept.words j (wider j o); long = length-set w i 0 ∙ c.kept.long };
-})
-  where
-    outside : (j : ℕ) → (j < lo) ⊎ (i + 1 ≤ j) → j ≡ i → ⊥
-    outside j (inl l) q = omega arith
-    outside j (inr l) q = omega arith
-
-    wider : (j : ℕ) → (j < lo) ⊎ (i + 1 ≤ j) → (j < lo) ⊎ (i ≤ j)
-    wider j (inl l) = inl l
-    wider j (inr l) = inr (omega arith)
-
-    zeros : (j : ℕ) → lo ≤ j → j < i + 1 → get_or (set w i 0) j 0 ≡ 0
-    zeros j a b = at (tested (eqb j i))
+    zero : (i : ℕ) → lo ≤ i → i < hi → get_or (put_mid lo (e - lo) w ys) i 0 ≡ 0
+    zero i a b = at (tested (ltb i e))
       where
-        at : Tested (eqb j i) → get_or (set w i 0) j 0 ≡ 0
-        at (holds q) = rw (eqb-true j i q) (set_zero w i)
-        at (fails q) = get_or-set_other w i j 0 0 (eqb-false j i q) ∙ c.zero j a (omega (arith, eqb-false j i q))
+        at : Tested (ltb i e) → get_or (put_mid lo (e - lo) w ys) i 0 ≡ 0
+        at (holds h) = inside lo e w ys m r z i a (ltb-true i e h)
+        at (fails h) = beyond lo e w ys m r z i (ltb-false i e h) ∙ get_or-eq_default w 0 (omega (arith, ltb-false i e h))
+
+    kept : (i : ℕ) → (i < lo) ⊎ (hi ≤ i) → get_or (put_mid lo (e - lo) w ys) i 0 ≡ get_or w i 0
+    kept i (inl h) = below lo e w ys m r z i h
+    kept i (inr h) = beyond lo e w ys m r z i (omega arith)

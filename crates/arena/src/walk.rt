@@ -2,7 +2,7 @@
 ghost use Rattle.std.specs.Prelude.{◌<◌};
 ghost use Rattle.arena.specs.internal.Walk.{Behind, Fan};
 
-use crate::words::{END, kind, next, word};
+use crate::words::{Node, kind, next, word};
 
 // Every place is below this number.
 pub const PLACES: usize = 4194304;
@@ -13,10 +13,10 @@ pub fn behind(w: &[u64], a: usize) -> usize
     ensures { Behind w.now a result }
 {
     let x = word(w, a);
-    if kind(x) == END {
-        return (a + 1) % PLACES;
+    match kind(x) {
+        Node::End => (a + 1) % PLACES,
+        _ => next(x),
     }
-    next(x)
 }
 
 // How many trees stand between place a and place end.

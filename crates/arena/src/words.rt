@@ -1,22 +1,32 @@
 // The word of a node, and reading, writing and clearing words.
-ghost use Rattle.std.specs.Prelude.{◌≡◌, ◌+◌, ◌*◌, ◌<◌, ◌≤◌, get_or, set};
+ghost use Rattle.std.specs.Prelude.{◌≡◌, ◌+◌, ◌*◌, ◌<◌, ◌≤◌, ◌↔◌, get_or, set};
 ghost use Rattle.arena.specs.internal.Index.{Cleared};
-ghost use Rattle.arena.specs.internal.Words.{kind_of, actor_of, actions_of, set_of, next_of, later_of, decision_word, chance_word, PLACES};
+ghost use Rattle.arena.specs.internal.Words.{END, CHANCE, DECISION, kind_of, actor_of, actions_of, set_of, next_of, later_of, decision_word, chance_word, PLACES};
 
-pub const END: u64 = 0;
-
-pub const CHANCE: u64 = 1;
-
-pub const DECISION: u64 = 2;
+// The kinds of nodes.
+#[derive(Clone, Copy, Debug, PartialEq, Eq)]
+pub enum Node {
+    End,
+    Chance,
+    Decision,
+    Unknown,
+}
 
 // Places of the tree in memory: a word has 21 bits for one.
 pub const PLACES: u64 = 2097152;
 
-// What a node is.
-pub fn kind(x: u64) -> u64
-    ensures { result ≡ kind_of x }
+// What the node with word x is; no word of a tree is of an unknown kind.
+pub fn kind(x: u64) -> Node
+    ensures end { (result ≡ Node.End) ↔ (kind_of x ≡ END) }
+    ensures chance { (result ≡ Node.Chance) ↔ (kind_of x ≡ CHANCE) }
+    ensures decision { (result ≡ Node.Decision) ↔ (kind_of x ≡ DECISION) }
 {
-    x % 4
+    match x % 4 {
+        0 => Node::End,
+        1 => Node::Chance,
+        2 => Node::Decision,
+        _ => Node::Unknown,
+    }
 }
 
 // The seat that acts.
@@ -90,14 +100,13 @@ pub fn put(w: &mut [u64], i: usize, x: u64)
     }
 }
 
-// Writes 0 at places lo to hi.
+// Writes 0 at places lo to hi, as far as there are any.
 pub fn clear(w: &mut [u64], lo: usize, hi: usize)
     requires { lo ≤ hi }
     ensures { Cleared lo hi w.old w.new }
 {
-    let mut i = lo;
-    while i < hi {
-        put(w, i, 0);
-        i += 1;
+    let end = hi.min(w.len());
+    if lo < end {
+        w[lo..end].fill(0);
     }
 }

@@ -224,14 +224,3 @@ pub linked-start : (nodes heads : ℕ) (old w : List ℕ) (a : ℕ) → a ≡ 0 
     → Coded n code m bare t → Numbered code m bare old t → Indexed n heads w t
 linked-start nodes heads old w a z h l n code m bare t e f c g = let s : size t ≤ PLACES = rw e h in
     rw (← f, ← e) (from_start n code m bare old t s c g w (subst (λ i. From n code m bare old t s c g i w) z (l n code m bare t e f s c g)))
-
-pub linked_long : (nodes heads a : ℕ) (w : List ℕ) → length (linked nodes heads a w) ≡ length w
-unfolding linked
-linked_long nodes heads a w = at (is_known w nodes (get_or w a 0))
-  where
-    x : ℕ
-    x = relinked (get_or w a 0) (entry_of w nodes (get_or w a 0)) (get_or w (heads + entry_of w nodes (get_or w a 0)) 0 % PLACES)
-
-    at : (b : Bool) → length (cond b (set (set w a x) (heads + entry_of w nodes (get_or w a 0)) a) w) ≡ length w
-    at true = length-set (set w a x) (heads + entry_of w nodes (get_or w a 0)) a ∙ length-set w a x
-    at false = refl

@@ -5,16 +5,16 @@ ghost use Rattle.std.specs.Prelude.{◌≡◌, ◌≤◌, ◌<◌};
 ghost use Rattle.arena_index.specs.internal.Indexing.{Numbers, Links, Indexes, Met, pushed, linked};
 ghost use Rattle.arena.specs.internal.Words.{PLACES};
 
-use arena::words::{DECISION, PLACES, actions, actor, decision, kind, next, put, set, word};
+use arena::words::{Node, PLACES, actions, actor, decision, kind, next, put, set, word};
 
 // Enters the set of word x, if it is a decision's and new, with the next entry; the entry after it.
 fn meet(w: &mut [u64], nodes: usize, x: u64, entry: usize) -> usize
     requires { (nodes ≤ PLACES) × (entry ≤ 8388608) }
     ensures { Met nodes x entry w.old w.new result }
 {
-    if kind(x) != DECISION {
+    let Node::Decision = kind(x) else {
         return entry;
-    }
+    };
     let at = nodes + set(x);
     if word(w, at) != 0 {
         return entry;
@@ -29,11 +29,9 @@ fn number(w: &mut [u64], nodes: usize)
     ensures { Numbers nodes w.old w.new }
 {
     let mut entry = 0;
-    let mut a = 0;
-    while a < nodes {
+    for a in 0..nodes {
         let x = word(w, a);
         entry = meet(w, nodes, x, entry);
-        a += 1;
     }
 }
 
@@ -58,9 +56,9 @@ fn link_node(w: &mut [u64], nodes: usize, heads: usize, a: usize)
     ensures { w.new ≡ linked nodes heads a w.old }
 {
     let x = word(w, a);
-    if kind(x) != DECISION {
+    let Node::Decision = kind(x) else {
         return;
-    }
+    };
     let known = word(w, nodes + set(x)) as usize;
     if known == 0 {
         return;
@@ -73,9 +71,7 @@ fn link(w: &mut [u64], nodes: usize, heads: usize)
     requires { (nodes ≤ PLACES) × (heads ≤ 4194304) }
     ensures { Links nodes heads w.old w.new }
 {
-    let mut a = nodes;
-    while 0 < a {
-        a -= 1;
+    for a in (0..nodes).rev() {
         link_node(w, nodes, heads, a);
     }
 }

@@ -1,24 +1,24 @@
 -- The room of a game's stored tree, and of what stands behind it. Assumes nothing.
 use mathlib.Core.Path.{◌≡◌, refl, sym, ◌∙◌, subst}
 use mathlib.Core.List.{List, [], ◌∷◌}
-use Prim.Native.Nat.{ℕ, zero, suc, ◌+◌, ◌*◌, ◌≤◌}
+use Prim.Native.Nat.{ℕ, zero, suc, ◌+◌, ◌-◌, ◌*◌, ◌≤◌}
 use native.Mathlib.Omega.{arith}
 use lib.Dec.{eqb}
 use lib.ListN.{get_or}
-use borrow.Author.Tests.{eq-eqb, ne_eqb, eqb-true}
+use borrow.Author.Tests.{eq-eqb, eqb-true}
 use Rattle.prelude.proofs.Tests.{Tested, holds, fails, tested}
 use Rattle.game_tree.specs.Tree.{Tree, end, chance, decide}
 use Rattle.kuhn_tree.specs.Counts.{deal_nodes, kuhn_nodes, kuhn_entries, kuhn_sets}
 use Rattle.kuhn_tree.proofs.Shape.{deals, kuhn-deals}
 use Rattle.kuhn_arena_layout.specs.internal.Layout.{code_count}
 use Rattle.leduc_tree_facts.proofs.Facts as Leduc-facts
-use Rattle.games.specs.declared.Game.{Game}
-use Rattle.games.specs.Games.{tree_of}
+use Rattle.games.specs.Games.{Game, tree_of}
 use Rattle.games.specs.Facts.{nodes_of, entries_of, sets_of}
 use Rattle.games.specs.Known.{Known}
 use Rattle.games.proofs.Known.{kuhn_two, kuhn-six}
 use Rattle.kuhn_arena_layout.proofs.Start.{by_seats}
 use Rattle.arena_store.specs.internal.Stored.{codes_of}
+use Rattle.arena_walks.specs.declared.Places.{Places}
 use Rattle.arena_store.specs.internal.Places.{kept_at, places_of}
 
 -- a chance node
@@ -48,17 +48,14 @@ kuhn_room = by_seats (λ n. Room (kuhn_nodes n) (code_count n) (kuhn_entries n) 
 
 -- the codes as a program holds them
 abbrev pub kuhn-codes : List ℕ
-kuhn-codes = 0 ∷ 0 ∷ 24 ∷ 128 ∷ 640 ∷ 3072 ∷ 14336 ∷ []
+kuhn-codes = 24 ∷ 128 ∷ 640 ∷ 3072 ∷ 14336 ∷ []
 
-kuhn-codes_are : (n : ℕ) → 2 ≤ n → n ≤ 6 → get_or kuhn-codes n 0 ≡ code_count n
-kuhn-codes_are = by_seats (λ n. get_or kuhn-codes n 0 ≡ code_count n) refl refl refl refl refl
+kuhn-codes_are : (n : ℕ) → 2 ≤ n → n ≤ 6 → get_or kuhn-codes (n - 2) 0 ≡ code_count n
+kuhn-codes_are = by_seats (λ n. get_or kuhn-codes (n - 2) 0 ≡ code_count n) refl refl refl refl refl
 
 module _ (g : Game) (a : Known g) where
-  pub codes-kuhn : g.number ≡ 0 → get_or kuhn-codes g.seats 0 ≡ codes_of g
+  pub codes-kuhn : g.number ≡ 0 → get_or kuhn-codes (g.seats - 2) 0 ≡ codes_of g
   codes-kuhn k = kuhn-codes_are g.seats (kuhn_two g a k) (kuhn-six g a k) ∙ sym (rw (eq-eqb g.number 0 k) refl)
-
-  pub codes-leduc : (g.number ≡ 0 → ⊥) → 10164 ≡ codes_of g
-  codes-leduc k = sym (rw (ne_eqb g.number 0 k) refl)
 
   pub roomy : Roomy g
   roomy = at (tested (eqb g.number 0))
@@ -81,6 +78,6 @@ module _ (g : Game) (a : Known g) where
       at (holds t) = let k = eqb-true g.number 0 t in rw t (subst Deals (sym (kuhn-deals 1 1 g.seats)) (kuhn g.seats (kuhn_two g a k)))
       at (fails t) = rw t (subst Deals (sym (Leduc-facts.deals_first 1 2 4)) tt)
 
--- the places by the numbers in hand
-pub places_are : (g : Game) (n m E : ℕ) → n ≡ nodes_of g → m ≡ codes_of g → E ≡ entries_of g → record { heads = n + m; reach = n + m + E; kept = n + m + E + n } ≡ places_of g
-places_are g n m E p q r = rw (p, q, r)
+-- the places are near
+pub places_near : (g : Game) → Known g → (p : Places) → p ≡ places_of g → (p.heads ≤ 8388608) × (p.reach ≤ 8388608) × (p.kept ≤ 8388608)
+places_near g a p q = rw q (omega (arith, (roomy g a).near), omega (arith, (roomy g a).near), omega (arith, (roomy g a).near))

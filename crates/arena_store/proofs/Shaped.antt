@@ -17,8 +17,7 @@ use Rattle.leduc_tree.specs.Tree as Leduc
 use Rattle.leduc_tree.specs.Counts.{leduc_nodes}
 use Rattle.leduc_tree_facts.proofs.Facts as Leduc-proofs
 use Rattle.kuhn_arena_layout.proofs.Start.{nodes-few}
-use Rattle.games.specs.declared.Game.{Game}
-use Rattle.games.specs.Games.{tree_of}
+use Rattle.games.specs.Games.{Game, tree_of}
 use Rattle.games.specs.Known.{Known}
 use Rattle.games.proofs.Facts.{nodes_are, games_fit}
 use Rattle.games.proofs.Known.{kuhn_two, kuhn-six, leduc_two}

@@ -14,8 +14,7 @@ use Rattle.arena.specs.internal.Words.{CHANCE, kind_of}
 use Rattle.arena.specs.internal.Held.{Says, Held}
 use Rattle.arena.specs.internal.Index.{Alike, later_in, Indexed}
 use Rattle.arena_walks.specs.internal.Stage.{Stage, Memo}
-use Rattle.games.specs.declared.Game.{Game}
-use Rattle.games.specs.Games.{tree_of}
+use Rattle.games.specs.Games.{Game, tree_of}
 use Rattle.games.specs.Facts.{nodes_of, entries_of}
 use Rattle.games.specs.Known.{Known}
 use Rattle.games.proofs.Facts.{games_fit, nodes_are, entries_are}

@@ -21,14 +21,12 @@ use Rattle.arena_index.specs.internal.Indexing.{Indexes}
 use Rattle.kuhn_rules.specs.Stakes as Kuhn-stakes
 use Rattle.leduc_rules.specs.Stakes.{ante, raise₁, raise₂}
 use Rattle.kuhn_tree.specs.Tree.{tree_of_kuhn}
-use Rattle.kuhn_tree.specs.Counts.{kuhn_nodes}
 use Rattle.leduc_tree.specs.Tree.{tree_of_leduc}
 use Rattle.kuhn_arena_layout.specs.internal.Layout as Kuhn
 use Rattle.kuhn_arena_layout.proofs.Apart as Kuhn-codes
 use Rattle.leduc_arena_layout.specs.internal.Codes as Leduc
 use Rattle.leduc_arena_layout.proofs.Sets as Leduc-codes
-use Rattle.games.specs.declared.Game.{Game}
-use Rattle.games.specs.Games.{tree_of}
+use Rattle.games.specs.Games.{Game, tree_of}
 use Rattle.games.specs.Facts.{nodes_of, entries_of}
 use Rattle.games.specs.Known.{Known}
 use Rattle.games.proofs.Facts.{nodes_are, entries_are}
@@ -49,9 +47,6 @@ indexed_same n h v w t some l e x = record {
 module _ (g : Game) (a : Known g) where
   -- ---- laid out
   module _ (k : g.number ≡ 0) where
-    pub kuhn-nodes : nodes_of g ≡ kuhn_nodes g.seats
-    kuhn-nodes = rw (eq-eqb g.number 0 k)
-
     pub kuhn_built : (v w : List ℕ) (r : ℕ) → Built g.seats (Kuhn.code_of g.seats) 0 v w (tree_of_kuhn Kuhn-stakes.ante Kuhn-stakes.stake g.seats) r → Built g.seats (code_of g) 0 v w (tree_of g) r
     unfolding tree_of
     kuhn_built v w r b = rw (eq-eqb g.number 0 k) b

@@ -2,8 +2,7 @@
 -- free after an accepted call").
 use Rattle.std.specs.Prelude.{◌≡◌, List, ℕ, zero, suc, ◌*◌, length, drop}
 use Rattle.game_tree.specs.Sets.{size}
-use Rattle.games.specs.declared.Game.{Game}
-use Rattle.games.specs.Games.{tree_of}
+use Rattle.games.specs.Games.{Game, tree_of}
 
 -- by the refusal number: beyond 12 words per node all it held, if the call was accepted; all it held, if it was refused
 abbrev pub MemoryAfter : ℕ → Game → (old new : List ℕ) → Type 0

@@ -1,48 +1,43 @@
 // A hand of Kuhn's tree, laid out in work memory.
 #![tactic(auto)]
 
-ghost use Rattle.std.specs.Prelude.{◌-◌};
+ghost use Rattle.std.specs.Prelude.{◌-◌, length};
 ghost use Rattle.game_tree.specs.Sets.{size};
 ghost use Rattle.arena.specs.internal.Built.{Built, Room};
-ghost use Rattle.kuhn_arena_layout.specs.internal.Layout.{code_of, history_at, cards_in, before_at, Passing};
+ghost use Rattle.kuhn_arena_layout.specs.internal.Layout.{code_of, history_at, before_at, Passing};
 
 use arena::words::put;
 use kuhn_arena_bets::after_bet;
-use kuhn_arena_words::{decision_word, end_word, following, highest, unit};
+use kuhn_arena_words::{Money, decision_word, highest, unit};
 
 // The word of an end at which each of six seats has lost its ante.
 const ANTES: u64 = 0xFCFCFCFCFCFC;
 
 // Lays out a hand without a bet from a seat's turn on, at place at; the place behind it.
-pub fn before_bet(
-    w: &mut [u64],
-    at: usize,
-    n: usize,
-    cards: u64,
-    number: usize,
-    seat: usize,
-) -> usize
-    requires passing { Passing n (cards_in n cards) (history_at number) seat number }
-    requires room { Room at w.old (size (before_at n cards number (n - seat))) }
-    ensures { Built n (code_of n) at w.old w.new (before_at n cards number (n - seat)) result }
+pub fn before_bet(w: &mut [u64], at: usize, cards: &[u8], number: usize, seat: usize) -> usize
+    requires passing { Passing (length cards.now) cards.now (history_at number) seat number }
+    requires room { Room at w.old (size (before_at (length cards.now) cards.now number (length cards.now - seat))) }
+    ensures { Built (length cards.now) (code_of (length cards.now)) at w.old w.new
+        (before_at (length cards.now) cards.now number (length cards.now - seat)) result }
 {
+    let n = cards.len();
     if seat == n {
-        put(w, at, end_word(ANTES, n as u64, highest(n, cards)));
+        let antes = Money {
+            lost: ANTES,
+            pot: n as u64,
+            winner: highest(cards),
+        };
+        put(w, at, antes.end_word());
         return at + 1;
     }
-    let bet = before_bet(w, at + 1, n, cards, 2 * number + 1, seat + 1);
-    let behind = after_bet(
-        w,
-        bet,
-        n,
-        cards,
-        2 * number + 2,
-        following(n, seat),
-        n - 1,
-        ANTES - unit(seat),
-        n as u64 + 1,
-        seat,
-    );
-    put(w, at, decision_word(n, cards, number, seat, behind));
+    let bet = before_bet(w, at + 1, cards, 2 * number + 1, seat + 1);
+    let first_bet = Money {
+        lost: ANTES - unit(seat),
+        pot: n as u64 + 1,
+        winner: seat,
+    };
+    let after = (seat + 1) % n;
+    let behind = after_bet(w, bet, cards, 2 * number + 2, after, n - 1, first_bet);
+    put(w, at, decision_word(cards, number, seat, behind));
     behind
 }

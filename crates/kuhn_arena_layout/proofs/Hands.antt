@@ -21,8 +21,8 @@ use Rattle.arena.proofs.Building.{size_some, built_end, built_decide, row_none, 
 use Rattle.kuhn_rules.specs.Rules.{PASS, BET, turn, bet-made, after-bet, ended, bets, key, contribution, wins, payoff}
 use Rattle.kuhn_rules.specs.Stakes.{ante, stake}
 use Rattle.kuhn_tree.proofs.Shape.{hand}
-use Rattle.kuhn_arena_layout.specs.internal.Layout.{code_of, history_at, card_at, cards_in, after_bet, before_bet, after_at, before_at, unit_of, losses, Dealt, Betting, Passing, Top}
-use Rattle.kuhn_arena_layout.proofs.Numbers.{history_pass, history-bet, number_of, card_of, set_sum}
+use Rattle.kuhn_arena_layout.specs.internal.Layout.{code_of, history_at, after_bet, before_bet, after_at, before_at, unit_of, losses, Dealt, Betting, Passing, Top}
+use Rattle.kuhn_arena_layout.proofs.Numbers.{history_pass, history-bet, number_of, set_sum}
 use Rattle.kuhn_arena_layout.proofs.Bets.{longer, after-bet_more, after-bet_first, no_bets, bets_pass, bets-bet, contribution_pass, contribution-bet, paid-ante, sum_one_more, sum_ones, wins-quiet, opened_more, opened-bet, quiet_pass, wins_first, wins_pass, wins-bet}
 use Rattle.kuhn_arena_layout.proofs.Ends.{losses-few, pot-few, losses_pass, losses-bet, losses-quiet, end_kind, end_pays}
 
@@ -170,27 +170,26 @@ whole_hand n cs one = ap (λ k. hand ante stake n cs k (ended n []) []) (let e :
 
 -- ---- a node, laid out
 -- the decision at a position, over the trees after a pass and a bet
-abbrev pub node : (n cards number : ℕ) → Tree → Tree → Tree
-node n cards number t u = decide (turn n (history_at number)) (key (cards_in n cards) (history_at number) (turn n (history_at number))) (cons t (cons u nil))
+abbrev pub node : ℕ → List ℕ → ℕ → Tree → Tree → Tree
+node n cards number t u = decide (turn n (history_at number)) (key cards (history_at number) (turn n (history_at number))) (cons t (cons u nil))
 
 -- the word of a decision says what the node is
-decision_says : (n cards number seat at next : ℕ) (f : Trees) → n ≤ 6 → seat < n → seat ≡ turn n (history_at number) → number ≤ 2046 → next < PLACES → fan f ≡ 2
-    → next ≡ at + size (decide (turn n (history_at number)) (key (cards_in n cards) (history_at number) (turn n (history_at number))) f)
-    → Says n (code_of n) unlinked (decision_word seat 2 (number * (n + 1) + card_at cards seat) next 0) at (decide (turn n (history_at number)) (key (cards_in n cards) (history_at number) (turn n (history_at number))) f)
+decision_says : (n : ℕ) (cards : List ℕ) (number seat at next : ℕ) (f : Trees) → n ≤ 6 → seat < n → get_or cards seat 0 < 256 → seat ≡ turn n (history_at number) → number ≤ 2046 → next < PLACES → fan f ≡ 2
+    → next ≡ at + size (decide (turn n (history_at number)) (key cards (history_at number) (turn n (history_at number))) f)
+    → Says n (code_of n) unlinked (decision_word seat 2 (number * (n + 1) + get_or cards seat 0) next 0) at (decide (turn n (history_at number)) (key cards (history_at number) (turn n (history_at number))) f)
 unfolding Says code_of
-decision_says n cards number seat at next f six seated acts small few fans behind =
-    let card-few : card_at cards seat < 16 = omega arith in
-    let set-few : number * (n + 1) + card_at cards seat < 16384 = set_sum n number (card_at cards seat) six small (omega arith) in (
-      kind_of_lem seat 2 (number * (n + 1) + card_at cards seat) next 0 (omega arith) (omega arith) set-few few (omega arith),
-      actor_of_lem seat 2 (number * (n + 1) + card_at cards seat) next 0 (omega arith) (omega arith) set-few few (omega arith) ∙ acts,
-      actions_of_lem seat 2 (number * (n + 1) + card_at cards seat) next 0 (omega arith) (omega arith) set-few few (omega arith) ∙ sym fans,
-      set_of_lem seat 2 (number * (n + 1) + card_at cards seat) next 0 (omega arith) (omega arith) set-few few (omega arith)
-          ∙ ap₂ (λ x y. x * (n + 1) + y) (sym (number_of number)) (sym (card_of n cards seat seated) ∙ ap (λ i. get_or (cards_in n cards) i 0) acts),
-      next_of_lem seat 2 (number * (n + 1) + card_at cards seat) next 0 (omega arith) (omega arith) set-few few (omega arith) ∙ behind,
-      later_of_lem seat 2 (number * (n + 1) + card_at cards seat) next 0 (omega arith) (omega arith) set-few few (omega arith),
+decision_says n cards number seat at next f six seated byte acts small few fans behind =
+    let set-few : number * (n + 1) + get_or cards seat 0 < 16384 = set_sum n number (get_or cards seat 0) six small byte in (
+      kind_of_lem seat 2 (number * (n + 1) + get_or cards seat 0) next 0 (omega arith) (omega arith) set-few few (omega arith),
+      actor_of_lem seat 2 (number * (n + 1) + get_or cards seat 0) next 0 (omega arith) (omega arith) set-few few (omega arith) ∙ acts,
+      actions_of_lem seat 2 (number * (n + 1) + get_or cards seat 0) next 0 (omega arith) (omega arith) set-few few (omega arith) ∙ sym fans,
+      set_of_lem seat 2 (number * (n + 1) + get_or cards seat 0) next 0 (omega arith) (omega arith) set-few few (omega arith)
+          ∙ ap₂ (λ x y. x * (n + 1) + y) (sym (number_of number)) (ap (λ i. get_or cards i 0) acts),
+      next_of_lem seat 2 (number * (n + 1) + get_or cards seat 0) next 0 (omega arith) (omega arith) set-few few (omega arith) ∙ behind,
+      later_of_lem seat 2 (number * (n + 1) + get_or cards seat 0) next 0 (omega arith) (omega arith) set-few few (omega arith),
     )
 
-module _ (n cards number : ℕ) {at : ℕ} {w : List ℕ} {whole t u : Tree} (e : whole ≡ node n cards number t u) (g : Room at w (size whole)) where
+module _ (n : ℕ) (cards : List ℕ) (number : ℕ) {at : ℕ} {w : List ℕ} {whole t u : Tree} (e : whole ≡ node n cards number t u) (g : Room at w (size whole)) where
   node-size : size whole ≡ suc (size t + size u)
   unfolding size
   node-size = ap size e ∙ ap (λ x. suc (size t + x)) (NatL.add-zero (size u))
@@ -214,11 +213,11 @@ module _ (n cards number : ℕ) {at : ℕ} {w : List ℕ} {whole t u : Tree} (e 
       row = let one : at + 1 ≡ suc at = omega arith in row_more n (code_of n) (suc at) w v y (cons t nil) u r q
           (row_more n (code_of n) (suc at) w w v nil t (suc at) r (row_none n (code_of n) (suc at) w) (subst (λ j. Built n (code_of n) j w v t r) one b)) c
 
-      pub lays_decision : (seat x : ℕ) (new : List ℕ) → n ≤ 6 → seat < n → seat ≡ turn n (history_at number) → number ≤ 2046
-          → x ≡ decision_word seat 2 (number * (n + 1) + card_at cards seat) q 0 → new ≡ set y at x → Built n (code_of n) at w new whole q
+      pub lays_decision : (seat x : ℕ) (new : List ℕ) → n ≤ 6 → seat < n → get_or cards seat 0 < 256 → seat ≡ turn n (history_at number) → number ≤ 2046
+          → x ≡ decision_word seat 2 (number * (n + 1) + get_or cards seat 0) q 0 → new ≡ set y at x → Built n (code_of n) at w new whole q
       unfolding fan
-      lays_decision seat x new six seated acts small f i = rw e (built_decide n (code_of n) at x w y new (turn n (history_at number)) (key (cards_in n cards) (history_at number) (turn n (history_at number))) (cons t (cons u nil)) q row
-          (omega (arith, g.words, size_some whole)) i (rw f (decision_says n cards number seat at q (cons t (cons u nil)) six seated acts small behind-few refl (behind ∙ ap (λ z. at + size z) e))))
+      lays_decision seat x new six seated byte acts small f i = rw e (built_decide n (code_of n) at x w y new (turn n (history_at number)) (key cards (history_at number) (turn n (history_at number))) (cons t (cons u nil)) q row
+          (omega (arith, g.words, size_some whole)) i (rw f (decision_says n cards number seat at q (cons t (cons u nil)) six seated byte acts small behind-few refl (behind ∙ ap (λ z. at + size z) e))))
 
 -- an end, laid out
 lays_end : (n : ℕ) (cs h : List ℕ) (at pot win x : ℕ) (w new : List ℕ) (whole : Tree) → whole ≡ end (payoff ante stake n cs h) → Room at w (size whole) → Dealt n cs → win < n → wins n cs h win ≡ true
@@ -228,18 +227,18 @@ lays_end n cs h at pot win x w new whole e g d seated leads stakes f i = rw e (b
     (rw f (end_kind n cs h d win seated leads pot stakes, end_pays n cs h d win seated leads pot stakes)))
 
 -- ---- after a bet
-module _ (cards number : ℕ) {n seat r pays pot win at : ℕ} {w : List ℕ} (b : Betting n (cards_in n cards) (history_at number) seat r pays pot win)
+module _ (cards : List ℕ) (number : ℕ) {n seat r pays pot win at : ℕ} {w : List ℕ} (b : Betting n cards (history_at number) seat r pays pot win)
     (g : Room at w (size (after_at n cards number r))) where
   pub after_ends : r ≡ 0 → (x : ℕ) (new : List ℕ) → x ≡ pays + pot * unit_of win → new ≡ set w at x → Built n (code_of n) at w new (after_at n cards number r) (at + 1)
   unfolding after_at after_bet
-  after_ends z x new e i = lays_end n (cards_in n cards) (history_at number) at pot win x w new (after_at n cards number r) (rw z refl) g b.deal b.seated b.leads b.stakes (e ∙ ap (λ y. y + pot * unit_of win) b.lost) i
+  after_ends z x new e i = lays_end n cards (history_at number) at pot win x w new (after_at n cards number r) (rw z refl) g b.deal b.seated b.leads b.stakes (e ∙ ap (λ y. y + pot * unit_of win) b.lost) i
 
   pub after_goes_on : (r ≡ 0 → ⊥) → after_at n cards number r ≡ node n cards number (after_at n cards (2 * number + 1) (r - 1)) (after_at n cards (2 * number + 2) (r - 1))
   unfolding after_at
-  after_goes_on z = by_one r z ∙ ap₂ (λ h k. node n cards number (after_bet n (cards_in n cards) (r - 1) h) (after_bet n (cards_in n cards) (r - 1) k)) (sym (history_pass number)) (sym (history-bet number))
+  after_goes_on z = by_one r z ∙ ap₂ (λ h k. node n cards number (after_bet n cards (r - 1) h) (after_bet n cards (r - 1) k)) (sym (history_pass number)) (sym (history-bet number))
     where
-      by_one : (k : ℕ) → (k ≡ 0 → ⊥) → after_bet n (cards_in n cards) k (history_at number)
-          ≡ node n cards number (after_bet n (cards_in n cards) (k - 1) (history_at number ++ (PASS ∷ []))) (after_bet n (cards_in n cards) (k - 1) (history_at number ++ (BET ∷ [])))
+      by_one : (k : ℕ) → (k ≡ 0 → ⊥) → after_bet n cards k (history_at number)
+          ≡ node n cards number (after_bet n cards (k - 1) (history_at number ++ (PASS ∷ []))) (after_bet n cards (k - 1) (history_at number ++ (BET ∷ [])))
       by_one zero z = absurd (z refl)
       by_one (suc k) z = let q : suc k - 1 ≡ k = omega arith in rw q refl
 
@@ -249,93 +248,34 @@ module _ (cards number : ℕ) {n seat r pays pot win at : ℕ} {w : List ℕ} (b
   pub after-seat : (seat < n) × (n ≤ 6)
   after-seat = (seat_in b, b.deal.most)
 
-  module _ (z : r ≡ 0 → ⊥) (after : ℕ) (f : after ≡ (seat + 1) % n) where
-    pub after_pass : Betting n (cards_in n cards) (history_at (2 * number + 1)) after (r - 1) pays pot win
-    after_pass = rw (f, history_pass number) (betting_pass b z)
+  module _ (z : r ≡ 0 → ⊥) where
+    pub after_pass : Betting n cards (history_at (2 * number + 1)) ((seat + 1) % n) (r - 1) pays pot win
+    after_pass = rw (history_pass number) (betting_pass b z)
 
-    pub after-unit : (unit : ℕ) → unit ≡ unit_of seat → unit ≤ pays
-    after-unit unit e = rw e (unit_in b z)
+    pub after-unit : unit_of seat ≤ pays
+    after-unit = unit_in b z
 
-    pub after_raise : (unit top : ℕ) → unit ≡ unit_of seat → top ≡ cond (ltb (card_at cards win) (card_at cards seat)) seat win
-        → Betting n (cards_in n cards) (history_at (2 * number + 2)) after (r - 1) (pays - unit) (pot + 1) top
-    after_raise unit top e i = rw (f, e, history-bet number) (betting_bet b z top
-        (i ∙ ap₂ (λ x y. cond (ltb x y) seat win) (sym (card_of n cards win b.seated)) (sym (card_of n cards seat after-seat.0))))
-
-  -- one action is left
-  module _ (e : r ≡ 1) where
-    pub one_betting : Betting n (cards_in n cards) (history_at number) seat 1 pays pot win
-    one_betting = rw e at b
-
-    pub one_room : Room at w (size (after_at n cards number 1))
-    one_room = rw e at g
-
-    pub one_built : (v : List ℕ) (q : ℕ) → Built n (code_of n) at w v (after_at n cards number 1) q → Built n (code_of n) at w v (after_at n cards number r) q
-    one_built v q c = rw e c
-
-pub some_left : (r : ℕ) → 1 ≤ r → r ≡ 0 → ⊥
-some_left r l e = omega arith
-
--- ---- the last action after a bet
-module _ (cards number : ℕ) {n seat pays pot win at : ℕ} {w : List ℕ} (b : Betting n (cards_in n cards) (history_at number) seat 1 pays pot win)
-    (g : Room at w (size (after_at n cards number 1))) where
-  one : ◌≡◌ {A = ℕ} 1 0 → ⊥
-  one e = omega arith
-
-  abbrev after : ℕ
-  after = (seat + 1) % n
-
-  last_node : after_at n cards number 1 ≡ node n cards number (after_at n cards (2 * number + 1) 0) (after_at n cards (2 * number + 2) 0)
-  last_node = after_goes_on cards number b g one
-
-  last_passed : Betting n (cards_in n cards) (history_at (2 * number + 1)) after 0 pays pot win
-  last_passed = after_pass cards number b g one after refl
-
-  pub last_unit : (unit : ℕ) → unit ≡ unit_of seat → unit ≤ pays
-  last_unit = after-unit cards number b g one after refl
-
-  module _ (x : ℕ) (v : List ℕ) (e : x ≡ pays + pot * unit_of win) (i : v ≡ set w (at + 1) x) where
-    first_end : Built n (code_of n) (at + 1) w v (after_at n cards (2 * number + 1) 0) (at + 1 + 1)
-    first_end = after_ends cards (2 * number + 1) last_passed (first_room n cards number last_node g) refl x v e i
-
-    module _ (unit top : ℕ) (f : unit ≡ unit_of seat) (k : top ≡ cond (ltb (card_at cards win) (card_at cards seat)) seat win) where
-      last_bet : Betting n (cards_in n cards) (history_at (2 * number + 2)) after 0 (pays - unit) (pot + 1) top
-      last_bet = after_raise cards number b g one after refl unit top f k
-
-      last_room : Room (at + 1 + 1) v (size (after_at n cards (2 * number + 2) 0))
-      last_room = second_room n cards number last_node g first_end
-
-      pub last_words : (pays - unit < 1125899906842624) × (pot + 1 ≤ 12) × (top < 6)
-      last_words = after-words cards (2 * number + 2) last_bet last_room
-
-      module _ (y : ℕ) (u : List ℕ) (q : y ≡ pays - unit + (pot + 1) * unit_of top) (j : u ≡ set v (at + 2) y) where
-        second_end : Built n (code_of n) (at + 1 + 1) v u (after_at n cards (2 * number + 2) 0) (at + 3)
-        second_end = subst (λ p. Built n (code_of n) (at + 1 + 1) v u (after_at n cards (2 * number + 2) 0) p) (let s : at + 1 + 1 + 1 ≡ at + 3 = omega arith in s)
-            (after_ends cards (2 * number + 2) last_bet last_room refl y u q (j ∙ ap (λ p. set v p y) (let s : at + 2 ≡ at + 1 + 1 = omega arith in s)))
-
-        pub last_few : at + 3 < PLACES
-        last_few = behind-few n cards number last_node g first_end second_end
-
-        pub last_decision : (z : ℕ) (new : List ℕ) → number ≤ 2046 → z ≡ decision_word seat 2 (number * (n + 1) + card_at cards seat) (at + 3) 0 → new ≡ set u at z → Built n (code_of n) at w new (after_at n cards number 1) (at + 3)
-        last_decision z new small = lays_decision n cards number last_node g first_end second_end seat z new b.deal.most
-            (after-seat cards number b g).0 b.acts small
+    pub after_raise : (lost more top : ℕ) → lost ≡ pays - unit_of seat → more ≡ pot + 1 → top ≡ cond (ltb (get_or cards win 0) (get_or cards seat 0)) seat win
+        → Betting n cards (history_at (2 * number + 2)) ((seat + 1) % n) (r - 1) lost more top
+    after_raise lost more top e f i = rw (e, f, history-bet number) (betting_bet b z top i)
 
 -- ---- before a bet
-module _ (cards : ℕ) {n number seat at : ℕ} {w : List ℕ} (p : Passing n (cards_in n cards) (history_at number) seat number)
+module _ (cards : List ℕ) {n number seat at : ℕ} {w : List ℕ} (p : Passing n cards (history_at number) seat number)
     (g : Room at w (size (before_at n cards number (n - seat)))) where
   pub before_ends : seat ≡ n → (x top : ℕ) (new : List ℕ) → Top n cards top → x ≡ 278163506396412 + n * unit_of top → new ≡ set w at x → Built n (code_of n) at w new (before_at n cards number (n - seat)) (at + 1)
   unfolding before_at before_bet
-  before_ends z x top new f e i = lays_end n (cards_in n cards) (history_at number) at n top x w new (before_at n cards number (n - seat)) (let q : n - seat ≡ 0 = omega arith in rw q refl) g p.deal f.seated
-      (wins-quiet n (cards_in n cards) (history_at number) top p.quiet (λ q l. rw (card_of n cards q l, card_of n cards top f.seated) (f.highest q l)))
+  before_ends z x top new f e i = lays_end n cards (history_at number) at n top x w new (before_at n cards number (n - seat)) (let q : n - seat ≡ 0 = omega arith in rw q refl) g p.deal f.seated
+      (wins-quiet n cards (history_at number) top p.quiet f.highest)
       (sym (sum_ones n (contribution ante stake n (history_at number)) (paid-ante n (history_at number) p.quiet))) (e ∙ ap (λ y. y + n * unit_of top) (sym (losses-quiet n (history_at number) p.quiet))) i
 
   pub before_goes_on : (seat ≡ n → ⊥) → before_at n cards number (n - seat) ≡ node n cards number (before_at n cards (2 * number + 1) (n - (seat + 1))) (after_at n cards (2 * number + 2) (n - 1))
   unfolding before_at after_at
   before_goes_on z = by_one (n - seat) (λ q. z (omega (arith, q, p.few)))
-      ∙ ap₂ (λ h k. node n cards number (before_bet n (cards_in n cards) (n - seat - 1) h) (after_bet n (cards_in n cards) (n - 1) k)) (sym (history_pass number)) (sym (history-bet number))
-      ∙ ap (λ k. node n cards number (before_bet n (cards_in n cards) k (history_at (2 * number + 1))) (after_bet n (cards_in n cards) (n - 1) (history_at (2 * number + 2)))) (let q : n - seat - 1 ≡ n - (seat + 1) = omega arith in q)
+      ∙ ap₂ (λ h k. node n cards number (before_bet n cards (n - seat - 1) h) (after_bet n cards (n - 1) k)) (sym (history_pass number)) (sym (history-bet number))
+      ∙ ap (λ k. node n cards number (before_bet n cards k (history_at (2 * number + 1))) (after_bet n cards (n - 1) (history_at (2 * number + 2)))) (let q : n - seat - 1 ≡ n - (seat + 1) = omega arith in q)
     where
-      by_one : (k : ℕ) → (k ≡ 0 → ⊥) → before_bet n (cards_in n cards) k (history_at number)
-          ≡ node n cards number (before_bet n (cards_in n cards) (k - 1) (history_at number ++ (PASS ∷ []))) (after_bet n (cards_in n cards) (n - 1) (history_at number ++ (BET ∷ [])))
+      by_one : (k : ℕ) → (k ≡ 0 → ⊥) → before_bet n cards k (history_at number)
+          ≡ node n cards number (before_bet n cards (k - 1) (history_at number ++ (PASS ∷ []))) (after_bet n cards (n - 1) (history_at number ++ (BET ∷ [])))
       by_one zero z = absurd (z refl)
       by_one (suc k) z = let q : suc k - 1 ≡ k = omega arith in rw q refl
 
@@ -349,8 +289,8 @@ module _ (cards : ℕ) {n number seat at : ℕ} {w : List ℕ} (p : Passing n (c
     pub before-number : number ≤ 31
     before-number = number-few p z
 
-    pub before_pass : Passing n (cards_in n cards) (history_at (2 * number + 1)) (seat + 1) (2 * number + 1)
+    pub before_pass : Passing n cards (history_at (2 * number + 1)) (seat + 1) (2 * number + 1)
     before_pass = rw (history_pass number) (passing_pass p z)
 
-    pub before_raise : (after unit : ℕ) → after ≡ (seat + 1) % n → unit ≡ unit_of seat → Betting n (cards_in n cards) (history_at (2 * number + 2)) after (n - 1) (278163506396412 - unit) (n + 1) seat
-    before_raise after unit f e = rw (f, e, history-bet number) (betting_first p z)
+    pub before_raise : (unit : ℕ) → unit ≡ unit_of seat → Betting n cards (history_at (2 * number + 2)) ((seat + 1) % n) (n - 1) (278163506396412 - unit) (n + 1) seat
+    before_raise unit e = rw (e, history-bet number) (betting_first p z)

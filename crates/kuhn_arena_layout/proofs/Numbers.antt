@@ -1,19 +1,15 @@
--- Histories and cards as numbers. Assumes nothing.
+-- Histories as numbers, and the highest card. Assumes nothing.
 use mathlib.Core.Path.{◌≡◌, refl, sym, ap, ap₂, ◌∙◌}
 use mathlib.Core.Bool.{cond}
 use mathlib.Core.List.{List, [], ◌∷◌, ◌++◌}
 use Prim.Native.Nat.{ℕ, zero, suc, ◌+◌, ◌*◌, ◌-◌, ◌/◌, ◌%◌, ◌^◌, ◌≤◌, ◌<◌}
 use native.Mathlib.Nat as NatL
 use native.Mathlib.Omega.{arith}
-use lib.ListN.{length, get_or}
-use lib.Pow.{pow-add, pow_pos}
-use lib.Seq.{take_all}
-use lib.Dec.{eqb, ltb}
+use lib.ListN.{get_or}
+use lib.Dec.{ltb}
 use borrow.Author.Tests.{ltb-true, ltb-false}
-use Rattle.prelude.specs.Finite.{places, has, some}
-use Rattle.prelude.proofs.Tests.{Tested, holds, fails, tested, below_cases, some_same}
-use Rattle.prelude.proofs.Lists.{length-places, get_d_places, places_same, has-take}
-use Rattle.kuhn_arena_layout.specs.internal.Layout.{number_from, last_actions, history_at, card_at, cards_in, Top}
+use Rattle.prelude.proofs.Tests.{Tested, holds, fails, tested, below_cases}
+use Rattle.kuhn_arena_layout.specs.internal.Layout.{number_from, last_actions, history_at, Top}
 
 -- ---- histories
 number-after : (c : ℕ) (h : List ℕ) (a : ℕ) → number_from c (h ++ (a ∷ [])) ≡ 2 * number_from c h + a + 1
@@ -71,61 +67,18 @@ last_left h zero z b = absurd (z refl)
 last_left h (suc k) z b = let c : (2 * h + 4) * 2 ^ k ≤ 4096 = rw (doubled h k) at b in
     omega (arith, NatL.le-mul_of_pos_right {m = 2 ^ k} (2 * h + 4) (NatL.one-le-pow k 2 (omega arith)))
 
--- ---- cards
-module _ (n x : ℕ) where
-  pub cards_long : length (cards_in n x) ≡ n
-  unfolding cards_in
-  cards_long = length-places n (card_at x)
+-- ---- the highest of the first cards
+pub top_one : (cs : List ℕ) → Top 1 cs 0
+top_one cs = record { seated = omega arith; highest = λ q l. below_cases q 0 l (λ k. absurd (omega arith)) (λ e. rw e (NatL.le_refl _)) }
 
-  pub card_of : (i : ℕ) → i < n → get_or (cards_in n x) i 0 ≡ card_at x i
-  unfolding cards_in
-  card_of i l = get_d_places n (card_at x) i 0 l
-
-  -- which of them is a card
-  pub cards_have : (c : ℕ) → has c (cards_in n x) ≡ some n (λ i. eqb (card_at x i) c)
-  cards_have c = ap (has c) (sym (take_all n (cards_in n x) (omega (arith, cards_long)))) ∙ has-take c n (cards_in n x) (omega (arith, cards_long))
-      ∙ some_same n (λ i. eqb (get_or (cards_in n x) i 0) c) (λ i. eqb (card_at x i) c) (λ i l. ap (λ d. eqb d c) (card_of i l))
-
--- the highest of the first cards
-pub top_one : (x : ℕ) → Top 1 x 0
-top_one x = record { seated = omega arith; highest = λ q l. below_cases q 0 l (λ k. absurd (omega arith)) (λ e. rw e (NatL.le_refl _)) }
-
-pub top_more : (k x t r : ℕ) → Top k x t → r ≡ cond (ltb (card_at x t) (card_at x k)) k t → Top (k + 1) x r
-top_more k x t r p e = at (tested (ltb (card_at x t) (card_at x k)))
+pub top_more : (k : ℕ) (cs : List ℕ) (t r : ℕ) → Top k cs t → r ≡ cond (ltb (get_or cs t 0) (get_or cs k 0)) k t → Top (k + 1) cs r
+top_more k cs t r p e = at (tested (ltb (get_or cs t 0) (get_or cs k 0)))
   where
-    at : Tested (ltb (card_at x t) (card_at x k)) → Top (k + 1) x r
-    at (holds u) = let q : r ≡ k = e ∙ rw u refl in let l = ltb-true (card_at x t) (card_at x k) u in
+    at : Tested (ltb (get_or cs t 0) (get_or cs k 0)) → Top (k + 1) cs r
+    at (holds u) = let q : r ≡ k = e ∙ rw u refl in let l = ltb-true (get_or cs t 0) (get_or cs k 0) u in
         rw q (record { seated = omega arith; highest = λ i m. below_cases i k (omega arith) (λ v. NatL.le_trans (p.highest i v) (omega arith)) (λ v. rw v (NatL.le_refl _)) })
-    at (fails u) = let q : r ≡ t = e ∙ rw u refl in let l = ltb-false (card_at x t) (card_at x k) u in
+    at (fails u) = let q : r ≡ t = e ∙ rw u refl in let l = ltb-false (get_or cs t 0) (get_or cs k 0) u in
         rw q (record { seated = omega (arith, p.seated); highest = λ i m. below_cases i k (omega arith) (λ v. p.highest i v) (λ v. rw v l) })
-
--- one card more
-module _ (k x c : ℕ) (small : x < 2 ^ (4 * k)) (few : c < 16) where
-  last_card : card_at (x + c * 2 ^ (4 * k)) k ≡ c
-  last_card = ap (λ y. y % 16) (NatL.add-mul-div_right x c (pow_pos (4 * k)) ∙ ap (λ y. y + c) (NatL.div-eq_of_lt small) ∙ NatL.zero-add c) ∙ NatL.mod-eq_of_lt few
-
-  earlier-card : (i : ℕ) → i < k → card_at (x + c * 2 ^ (4 * k)) i ≡ card_at x i
-  earlier-card i l =
-      ap (λ y. (x + c * y) / 2 ^ (4 * i) % 16) (ap (λ j. 2 ^ j) (let e : 4 * k ≡ 4 * (k - i - 1) + 4 + 4 * i = omega arith in e) ∙ pow-add 2 (4 * (k - i - 1) + 4) (4 * i))
-      ∙ ap (λ y. (x + y) / 2 ^ (4 * i) % 16) (sym (NatL.mul_assoc c (2 ^ (4 * (k - i - 1) + 4)) (2 ^ (4 * i))))
-      ∙ ap (λ y. y % 16) (NatL.add-mul-div_right x (c * 2 ^ (4 * (k - i - 1) + 4)) (pow_pos (4 * i)))
-      ∙ ap (λ y. (x / 2 ^ (4 * i) + y) % 16) (ap (λ y. c * y) (pow-add 2 (4 * (k - i - 1)) 4) ∙ sym (NatL.mul_assoc c (2 ^ (4 * (k - i - 1))) 16))
-      ∙ NatL.add-mul-mod_self_right (x / 2 ^ (4 * i)) (c * 2 ^ (4 * (k - i - 1))) 16
-
-  pub cards_more : cards_in (k + 1) (x + c * 2 ^ (4 * k)) ≡ cards_in k x ++ (c ∷ [])
-  unfolding cards_in places
-  cards_more = ap (λ j. places j (card_at (x + c * 2 ^ (4 * k)))) (let e : k + 1 ≡ suc k = omega arith in e)
-      ∙ ap₂ (λ l y. l ++ (y ∷ [])) (places_same k (card_at (x + c * 2 ^ (4 * k))) (card_at x) earlier-card) last_card
-
-  next_power : 2 ^ (4 * (k + 1)) ≡ 16 * 2 ^ (4 * k)
-  next_power = ap (λ j. 2 ^ j) (let e : 4 * (k + 1) ≡ 4 + 4 * k = omega arith in e) ∙ pow-add 2 4 (4 * k)
-
-  pub cards-small : x + c * 2 ^ (4 * k) < 2 ^ (4 * (k + 1))
-  cards-small = omega (arith, next_power, NatL.mul-le-mul_right {m = c} {n = 15} (2 ^ (4 * k)) (omega arith))
-
-  -- as a shift gives it
-  pub card-shifted : k < 6 → c * 2 ^ (4 * k) < 16777216
-  card-shifted l = omega (arith, NatL.mul-le-mul {n₁ = c} {m₁ = 2 ^ (4 * k)} {n₂ = 15} {m₂ = 1048576} (omega arith) (NatL.pow-le-pow_right {n = 2} (omega arith) {i = 4 * k} {j = 20} (omega arith)))
 
 -- the sum of a set's code
 pub set_sum : (n h c : ℕ) → n ≤ 6 → h ≤ 2046 → c < 256 → h * (n + 1) + c < 16384

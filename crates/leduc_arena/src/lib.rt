@@ -2,54 +2,39 @@
 #![tactic(auto)]
 
 mod first;
+mod second;
 
-ghost use Rattle.std.specs.Prelude.{not, suc, ◌+◌, ◌<◌, ◌≤◌, eqb, length};
-ghost use Rattle.game_tree.specs.Sets.{size, sizes};
+ghost use Rattle.std.specs.Prelude.{not, ◌+◌, ◌<◌, ◌≤◌, eqb, length};
+ghost use Rattle.game_tree.specs.Sets.{size};
 ghost use Rattle.arena.specs.internal.Built.{Built, Row, Room};
 ghost use Rattle.leduc_rules.specs.Stakes.{ante, raise₁, raise₂};
 ghost use Rattle.leduc_tree.specs.Tree.{tree_of_leduc};
 ghost use Rattle.leduc_tree.specs.Counts.{leduc_nodes};
 ghost use Rattle.leduc_arena_layout.specs.internal.Codes.{code_of};
-ghost use Rattle.leduc_arena_layout.specs.internal.Layout.{plain, only, deal_tree};
+ghost use Rattle.leduc_arena_layout.specs.internal.Layout.{plain, deal_tree};
 
 use arena::words::chance;
-use leduc_arena_round2::words::write;
+use first::First;
+use leduc_arena_rounds::lay_out;
 
 const DECK: usize = 6;
 
-// Stands for the card before the first.
-const NONE: usize = 6;
+// What each seat has paid at the start.
+const ANTE: usize = 1;
 
-// Lays out the tree behind card d, if that is not c, the card dealt before; left cards are to deal after d. Below another deal left falls.
-#[cycle(deal_dealt)]
-fn dealt(w: &mut [u64], at: usize, left: usize, c: usize, d: usize) -> usize
-    requires c_bound { (c < 6 + left) × (d < 6) }
-    requires room { Room at w.old (sizes (only (not (eqb d c)) (deal_tree left c) d)) }
-    ensures { Row 2 plain at w.old w.new (only (not (eqb d c)) (deal_tree left c) d) result }
-{
-    if d == c {
-        return at;
-    }
-    if left == 0 {
-        return first::round(w, at, c, d);
-    }
-    deal(w, at, left - 1, d)
-}
-
-// Lays out the deals of the card that comes after c, where left more are to deal after that.
-#[cycle(deal_dealt)]
-fn deal(w: &mut [u64], at: usize, left: usize, c: usize) -> usize
-    requires c_bound { c < 6 + left }
-    requires room { Room at w.old (size (deal_tree (suc left) c c)) }
-    ensures { Built 2 plain at w.old w.new (deal_tree (suc left) c c) result }
+// Lays out the deals of seat 1's card, where seat 0 has card c, at place at; the place behind them.
+fn deal_to_one(w: &mut [u64], at: usize, c: usize) -> usize
+    requires c_bound { c < 6 }
+    requires room { Room at w.old (size (deal_tree 1 6 c)) }
+    ensures { Built 2 plain at w.old w.new (deal_tree 1 6 c) result }
 {
     let mut next = at + 1;
-    let mut d = 0;
-    while d < DECK {
-        next = dealt(w, next, left, c, d);
-        d += 1;
+    for d in 0..DECK {
+        if d != c {
+            next = lay_out(&First { zero: c, one: d }, w, next, ANTE);
+        }
     }
-    write(w, at, chance(next));
+    w[at] = chance(next);
     next
 }
 
@@ -58,5 +43,10 @@ pub fn build(w: &mut [u64]) -> usize
     requires { leduc_nodes ≤ length w.old }
     ensures { Built 2 code_of 0 w.old w.new (tree_of_leduc ante raise₁ raise₂) result }
 {
-    deal(w, 0, 1, NONE)
+    let mut next = 1;
+    for c in 0..DECK {
+        next = deal_to_one(w, next, c);
+    }
+    w[0] = chance(next);
+    next
 }

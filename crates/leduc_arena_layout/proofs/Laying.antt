@@ -1,15 +1,19 @@
 -- Nodes and rows laid out one after the other, within the room there is. Assumes nothing.
 use mathlib.Core.Path.{◌≡◌, refl, sym, ap, ◌∙◌, subst}
-use mathlib.Core.Bool.{Bool, true, false, cond}
+use mathlib.Core.Bool.{Bool, true, false, not, cond}
 use mathlib.Core.List.{List, [], ◌∷◌}
 use Prim.Native.Nat.{ℕ, zero, suc, ◌+◌, ◌*◌, ◌-◌, ◌≤◌, ◌<◌}
 use native.Mathlib.Nat as NatL
 use native.Mathlib.Omega.{arith}
 use lib.Dec.{eqb}
+use borrow.Author.Tests.{eq-eqb, ne_eqb}
 use lib.IntN.{pos, ◌-ℤ◌}
 use lib.ListN.{length, set}
 use mir.Syntax.{w64}
 use mir.Val.{Fits}
+use Rattle.std.specs.declared.cmp.Ordering.{Ordering}
+use Rattle.std.specs.declared.cmp.Ordering.TheVariants.{Less, Equal, Greater}
+use Rattle.std.specs.Ordering.{ordering_index, ordering_reverse}
 use Rattle.game_tree.specs.Tree.{Key, Tree, chance, decide, Trees, nil, cons, fan}
 use Rattle.game_tree.specs.Sets.{size, sizes}
 use Rattle.arena.specs.internal.Words.{byte_of, chance_word, decision_word, PLACES}
@@ -17,17 +21,27 @@ use Rattle.arena.specs.internal.Held.{Says}
 use Rattle.arena.specs.internal.Built.{Built, Row, Room}
 use Rattle.arena.proofs.Packing.{kind_of_lem, actor_of_lem, actions_of_lem, set_of_lem, next_of_lem, later_of_lem, chance_kind, chance_next}
 use Rattle.arena.proofs.Building.{sizes-join, snoc, row_none, row_one, row_more, row-join, built_chance, built_decide, built_end}
-use Rattle.leduc_arena_layout.specs.internal.Layout.{plain, byte_for, end_tree, raised_tree, only, row_to, first_tree, deal_tree, Chosen}
+use Rattle.leduc_arena_layout.specs.internal.Layout.{plain, byte_for, end_tree, raised_tree, round_tree, only, row_to, showdown_for, second_tree, public_tree, first_tree, deal_tree, other, Chosen, Raise}
 
 -- ---- an end
-pub lays_end : (at e x a b : ℕ) (w v : List ℕ) → Room at w 1 → a ≡ byte_for e x → a < 128 → b ≡ byte_for (2 - e) x → b < 128 → v ≡ set w at (4 * a + 1024 * b) → Built 2 plain at w v (end_tree e x) (at + 1)
-unfolding end_tree Says
+pub end_place : (at e x : ℕ) (w : List ℕ) → Room at w (size (end_tree e x)) → at < length w
+unfolding end_tree size
+end_place at e x w g = omega (arith, g.words)
+
+pub lays_end : (at e x a b : ℕ) (w v : List ℕ) → Room at w (size (end_tree e x)) → a ≡ byte_for e x → a < 128 → b ≡ byte_for (2 - e) x → b < 128 → v ≡ set w at (4 * a + 1024 * b) → Built 2 plain at w v (end_tree e x) (at + 1)
+unfolding end_tree Says size
 lays_end at e x a b w v g i j k l h = built_end 2 plain at (4 * a + 1024 * b) w v _ (omega (arith, g.words)) h (omega arith, pays)
   where
     pays : (s : ℕ) → s < 2 → pos (byte_of (4 * a + 1024 * b) s) -ℤ pos 64 ≡ pos (byte_for (cond (eqb s 0) e (2 - e)) x) -ℤ pos 64
     pays zero n = ap (λ y. pos y -ℤ pos 64) (let z : byte_of (4 * a + 1024 * b) 0 ≡ a = omega arith in z ∙ i)
     pays (suc zero) n = ap (λ y. pos y -ℤ pos 64) (let z : byte_of (4 * a + 1024 * b) 1 ≡ b = omega arith in z ∙ k)
     pays (suc (suc s)) n = absurd (omega arith)
+
+-- how the other seat fares
+pub reversed : (o r : Ordering) → r ≡ ordering_reverse o → ordering_index r ≡ 2 - ordering_index o
+reversed Less r e = rw e refl
+reversed Equal r e = rw e refl
+reversed Greater r e = rw e refl
 
 -- ---- a node at place at, where there is room for z nodes
 module _ {at z : ℕ} {w : List ℕ} (g : Room at w z) where
@@ -171,27 +185,16 @@ module _ {j : ℕ} (l : j < 2) where
   pub other-seat : 1 - j < 2
   other-seat = omega arith
 
--- of a raise of the second round, where r more may come
-module _ (n x r : ℕ) (h : n + 252 * r ≤ 420) (g : x + 4 * r ≤ 9) where
-  pub second-few : (n ≤ 4656) × (x ≤ 13) × (x + 4 ≤ 13)
-  second-few = (omega arith, omega arith, omega arith)
+-- of a raise
+module _ {step inc most n x r : ℕ} (h : Raise step inc most n x r) where
+  pub raise_few : (n ≤ 10 * step) × (2 * n + step ≤ 21 * step) × (x + inc ≤ most + 2 * inc)
+  raise_few = (omega (arith, h.few), omega (arith, h.few), omega (arith, h.stakes))
 
-  pub second-again : 0 < r → (2 * n + 84 + 252 * (r - 1) ≤ 420) × (x + 4 + 4 * (r - 1) ≤ 9)
-  second-again l = (omega arith, omega arith)
-
-pub start-few : {x : ℕ} → x ≤ 5 → x + 4 ≤ 9
-start-few h = omega arith
-
--- of the first
-module _ (n x r : ℕ) (h : n + 2772 * r ≤ 4620) (g : x + 2 * r ≤ 3) where
-  pub first_few : (n + 36 ≤ 4656) × (2 * n + 462 ≤ 9702) × (x ≤ 13) × (x + 2 ≤ 5)
-  first_few = (omega arith, omega arith, omega arith, omega arith)
-
-  pub first_again : 0 < r → (2 * n + 924 + 2772 * (r - 1) ≤ 4620) × (x + 2 + 2 * (r - 1) ≤ 3)
-  first_again l = (omega arith, omega arith)
-
-pub card-few : {c : ℕ} → c < 6 → c ≤ 9743
-card-few l = omega arith
+  pub raise_again : 0 < r → Raise step inc most (2 * n + 2 * step) (x + inc) (r - 1)
+  raise_again l = let e : suc (r - 1) ≡ r = omega arith in
+      let f : n + 6 * (step * suc (r - 1)) ≤ 10 * step = rw e h.few in
+      let s : x + inc * suc (r - 1) ≤ most + inc = rw e h.stakes in
+      record { few = omega (arith, f, NatL.mul-suc step (r - 1)); stakes = omega (arith, s, NatL.mul-suc inc (r - 1)) }
 
 -- ---- the tree of a number that is kept, or not
 module _ (g : ℕ → Tree) (x : ℕ) (b : Bool) (at : ℕ) (w : List ℕ) where
@@ -235,12 +238,40 @@ module _ (p : ℕ → Bool) (g : ℕ → Tree) where
           let grows : sizes (row_to p g (suc x)) ≤ sizes (row_to p g 6) = subst (λ i. sizes (row_to p g (suc x)) ≤ sizes (row_to p g i)) (omega arith) (row-grows (suc x) (5 - x)) in
           record { words = rw b.kept.long (omega (arith, z.words, b.next, row-sizes x)); places = omega (arith, z.places, b.next, row-sizes x) }
 
--- ---- behind a card round 1, or the deals of another
-module _ (r c d : ℕ) where
-  pub none_left : r ≡ 0 → deal_tree r c d ≡ first_tree c d
-  unfolding deal_tree
-  none_left e = rw e refl
+-- ---- round 2, by the codes at its start and its showdown
+module _ (c d n x p z o e : ℕ) (f : z ≡ n + 6 * p + c) (g : o ≡ n + 6 * p + d) (h : e ≡ showdown_for c d p) where
+  second_is : round_tree z o 0 42 4 (λ m y. end_tree e y) x ≡ second_tree c d n x p
+  unfolding second_tree
+  second_is = rw (f, g, h) refl
 
-  pub some_left : 0 < r → deal_tree r c d ≡ deal_tree (suc (r - 1)) d d
-  unfolding deal_tree
-  some_left l = let e : r ≡ suc (r - 1) = omega arith in subst (λ i. deal_tree i c d ≡ deal_tree (suc (r - 1)) d d) (sym e) refl
+  pub second_room : {at : ℕ} {w : List ℕ} → Room at w (size (second_tree c d n x p)) → Room at w (size (round_tree z o 0 42 4 (λ m y. end_tree e y) x))
+  second_room {at} {w} r = subst (λ t. Room at w (size t)) (sym second_is) r
+
+  pub second_built : {at r : ℕ} {w v : List ℕ} → Built 2 plain at w v (round_tree z o 0 42 4 (λ m y. end_tree e y) x) r → Built 2 plain at w v (second_tree c d n x p) r
+  second_built {at} {r} {w} {v} b = subst (λ t. Built 2 plain at w v t r) second_is b
+
+-- ---- round 1, behind the last card
+module _ (c d : ℕ) {at : ℕ} {w : List ℕ} where
+  pub first_tree_room : Room at w (size (deal_tree 0 c d)) → Room at w (size (round_tree c d 36 462 2 (public_tree c d) 1))
+  unfolding deal_tree first_tree
+  first_tree_room h = h
+
+  pub first_tree_built : {v : List ℕ} {r : ℕ} → Built 2 plain at w v (round_tree c d 36 462 2 (public_tree c d) 1) r → Built 2 plain at w v (deal_tree 0 c d) r
+  unfolding deal_tree first_tree
+  first_tree_built h = h
+
+-- ---- the tree of a card is kept where it is another than those dealt
+pub unlike : (d c : ℕ) → (d ≡ c → ⊥) → not (eqb d c) ≡ true
+unlike d c n = rw (ne_eqb d c n) refl
+
+pub alike : (d c : ℕ) → d ≡ c → not (eqb d c) ≡ false
+alike d c e = rw (eq-eqb d c e) refl
+
+pub unlike_both : (c d p : ℕ) → (p ≡ c → ⊥) → (p ≡ d → ⊥) → other c d p ≡ true
+unlike_both c d p n m = rw (ne_eqb p c n, ne_eqb p d m) refl
+
+pub alike_one : (c d p : ℕ) → p ≡ c → other c d p ≡ false
+alike_one c d p e = rw (eq-eqb p c e) refl
+
+pub alike_two : (c d p : ℕ) → (p ≡ c → ⊥) → p ≡ d → other c d p ≡ false
+alike_two c d p n e = rw (ne_eqb p c n, eq-eqb p d e) refl

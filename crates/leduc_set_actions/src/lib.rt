@@ -4,6 +4,7 @@
 ghost use Rattle.std.specs.Prelude.{◌≡◌, ◌≤◌, ◌<◌, get_or};
 ghost use Rattle.leduc_tree.specs.Turns.{actions_in_order};
 
+// Kept as bits: 15 words stand for 936 sets.
 // 64 sets to a word, the first at its lowest bit, which is 1 where a set has three actions.
 const THREES: [u64; 15] = [
     0x51428A28A5451450,

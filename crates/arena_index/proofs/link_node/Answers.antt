@@ -1,12 +1,12 @@
-use mathlib.Core.Path.{sym, ap, ◌∙◌}
+use mathlib.Core.Path.{refl, sym, ap, ◌∙◌}
 use Prim.Native.Nat.{◌+◌}
 use lib.ListN.{get_or}
 use Rattle.arena.specs.internal.Words.{kind_of, set_of}
 use Rattle.arena_index.proofs.Steps.{linked_kind, linked-unknown, linked_by}
 use Rattle.arena_index.proofs.link_node.Goals as goal
 
-pub returns-then-kind-ne-DECISION : goal.returns-then-kind-ne-DECISION
-returns-then-kind-ne-DECISION c = sym (linked_kind _ _ _ _ λ e. c.if-kind-ne-DECISION.true (c.kind.ensures ∙ ap kind_of c.word-x.ensures ∙ e))
+pub returns-in_default : goal.returns-in_default
+returns-in_default c = sym (linked_kind _ _ _ _ λ e. c.in_default.not-Decision (c.kind.ensures.decision.1 (ap kind_of c.word-x.ensures ∙ e)))
 
 pub returns-then-known-eq0 : goal.returns-then-known-eq0
 returns-then-known-eq0 c = let a = c.args in
@@ -15,5 +15,5 @@ returns-then-known-eq0 c = let a = c.args in
 
 pub returns : goal.returns
 returns c = let a = c.args in
-    linked_by _ _ _ (a.w).now _ _ _ c.word-x.ensures (sym c.kind.ensures ∙ c.if-kind-ne-DECISION.false)
+    linked_by _ _ _ (a.w).now _ _ _ c.word-x.ensures (c.in-Decision.ensures.decision.0 refl)
     (c.word-known.ensures ∙ ap (λ i. get_or (a.w).now (a.nodes + i) 0) c.set.ensures) c.if-known-eq0.false c.push.ensures

@@ -1,22 +1,24 @@
 -- Kuhn's tree or Leduc's. Assumes nothing.
+use mathlib.Core.Path.{ap}
 use native.Mathlib.Omega.{arith}
-use Rattle.games.proofs.Counts.{leduc-nodes}
+use Rattle.games.specs.internal.Numbered.{numbered}
+use Rattle.games.proofs.Counts.{kuhn-nodes}
 use Rattle.games.proofs.Known.{kuhn_two, kuhn-six}
-use Rattle.arena_store.proofs.Stored.{kuhn-nodes, kuhn_built, leduc_built}
+use Rattle.arena_store.proofs.Stored.{kuhn_built, leduc_built}
 use Rattle.arena_store.proofs.build.Goals as goal
 
 pub build-requires : goal.build-requires
 build-requires c =
-    let g = c.args.g in
+    let g = numbered c.args.game in
     let known = c.requires.0 in
-    let k = c.if-g-eq-KUHN.true in
-    (kuhn_two g known k, kuhn-six g known k, omega (arith, kuhn-nodes g known k, c.requires.1))
+    let k = ap (λ x. (numbered x).number) c.in-Kuhn.is in
+    let s = ap (λ x. (numbered x).seats) c.in-Kuhn.is in
+    (omega (arith, s, kuhn_two g known k), omega (arith, s, kuhn-six g known k), rw (← s) (omega (arith, kuhn-nodes g k, c.requires.1)))
 
-pub returns-then-g-eq-KUHN : goal.returns-then-g-eq-KUHN
-returns-then-g-eq-KUHN c = kuhn_built c.args.g c.requires.0 c.if-g-eq-KUHN.true _ _ _ c.build.ensures
+pub returns-in-Kuhn : goal.returns-in-Kuhn
+returns-in-Kuhn c =
+    let s = ap (λ x. (numbered x).seats) c.in-Kuhn.is in
+    kuhn_built (numbered c.args.game) c.requires.0 (ap (λ x. (numbered x).number) c.in-Kuhn.is) _ _ _ (rw s c.build.ensures)
 
-pub build-requires-2 : goal.build-requires-2
-build-requires-2 c = omega (arith, leduc-nodes c.args.g c.if-g-eq-KUHN.false, c.requires.1)
-
-pub returns : goal.returns
-returns c = leduc_built c.args.g c.requires.0 c.if-g-eq-KUHN.false _ _ _ c.build-2.ensures
+pub returns-in-Leduc : goal.returns-in-Leduc
+returns-in-Leduc c = leduc_built (numbered c.args.game) c.requires.0 (rw c.in-Leduc.is (λ e. omega arith)) _ _ _ c.build-in-Leduc.ensures

@@ -1,9 +1,9 @@
 -- The places of work memory behind a game's stored tree. Definitions only; nothing is assumed.
 use Rattle.std.specs.Prelude.{ℕ, ◌+◌}
-use Rattle.games.specs.declared.Game.{Game}
+use Rattle.games.specs.Games.{Game}
 use Rattle.games.specs.Facts.{nodes_of, entries_of}
 use Rattle.arena_store.specs.internal.Stored.{heads_of}
-use Rattle.arena_store.specs.declared.Places.{Places}
+use Rattle.arena_walks.specs.declared.Places.{Places}
 
 -- the units or the reach of each node stand behind the index
 abbrev pub reach_at : Game → ℕ

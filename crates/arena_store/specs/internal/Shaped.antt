@@ -5,8 +5,7 @@ use Rattle.game_tree.specs.Tree.{Key}
 use Rattle.game_tree.specs.Conditions.{Every}
 use Rattle.game_tree.specs.Sets.{size, entries, first_entry}
 use Rattle.game_tree.specs.Shape.{Levels}
-use Rattle.games.specs.declared.Game.{Game}
-use Rattle.games.specs.Games.{tree_of}
+use Rattle.games.specs.Games.{Game, tree_of}
 use Rattle.games.specs.Facts.{largest_payoff}
 use Rattle.games.specs.Known.{Known}
 use Rattle.arena.specs.internal.Index.{later_in}

@@ -4,8 +4,7 @@ use Rattle.game_tree.specs.Tree.{Key}
 use Rattle.arena.specs.internal.Index.{Indexed}
 use Rattle.kuhn_arena_layout.specs.internal.Layout as Kuhn
 use Rattle.leduc_arena_layout.specs.internal.Codes as Leduc
-use Rattle.games.specs.declared.Game.{Game}
-use Rattle.games.specs.Games.{is_kuhn, tree_of}
+use Rattle.games.specs.Games.{Game, is_kuhn, tree_of}
 use Rattle.games.specs.Facts.{nodes_of}
 
 -- the code of a set, and how many codes there may be

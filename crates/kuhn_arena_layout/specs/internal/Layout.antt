@@ -1,7 +1,7 @@
--- Kuhn's tree as the builder goes through it: cards and histories as numbers,
+-- Kuhn's tree as the builder goes through it: histories as numbers,
 -- a hand before and after its first bet, and the code of a set. Definitions only; nothing is assumed.
-use Rattle.std.specs.Prelude.{◌≡◌, true, false, cond, List, [], ◌∷◌, ◌++◌, ℕ, zero, suc, ◌+◌, ◌*◌, ◌-◌, ◌/◌, ◌%◌, ◌^◌, ◌≤◌, ◌<◌, length}
-use Rattle.prelude.specs.Finite.{those, sum, places}
+use Rattle.std.specs.Prelude.{◌≡◌, true, false, cond, List, [], ◌∷◌, ◌++◌, ℕ, zero, suc, ◌+◌, ◌*◌, ◌-◌, ◌/◌, ◌%◌, ◌^◌, ◌≤◌, ◌<◌, length, get_or}
+use Rattle.prelude.specs.Finite.{those, sum}
 use Rattle.game_tree.specs.Tree.{Key, Tree, end, decide, Trees, nil, cons}
 use Rattle.kuhn_rules.specs.Rules.{PASS, BET, turn, bet-made, bets, key, left, contribution, wins, payoff}
 use Rattle.kuhn_rules.specs.Moves.{Reached}
@@ -36,14 +36,6 @@ unfoldable pub history_at : ℕ → List ℕ
 unfolding last_actions
 history_at x = last_actions x x
 
--- the card of seat i, of cards in four bits each
-abbrev pub card_at : ℕ → ℕ → ℕ
-card_at x i = x / 2 ^ (4 * i) % 16
-
--- the cards of n seats
-unfoldable pub cards_in : ℕ → ℕ → List ℕ
-cards_in n x = places n (card_at x)
-
 -- the hand from history h on, once a seat has bet and r actions are to come
 unfoldable pub after_bet : ℕ → List ℕ → ℕ → List ℕ → Tree
 after_bet n cs zero h = end (payoff ante stake n cs h)
@@ -57,14 +49,14 @@ before_bet n cs zero h = end (payoff ante stake n cs h)
 before_bet n cs (suc r) h = decide (turn n h) (key cs h (turn n h))
     (cons (before_bet n cs r (h ++ (PASS ∷ []))) (cons (after_bet n cs (n - 1) (h ++ (BET ∷ []))) nil))
 
--- the same by the numbers of the cards and the history
-unfoldable pub after_at : (n cards number r : ℕ) → Tree
-unfolding after_bet cards_in history_at
-after_at n cards number r = after_bet n (cards_in n cards) r (history_at number)
+-- the same by the number of the history
+unfoldable pub after_at : ℕ → List ℕ → (number r : ℕ) → Tree
+unfolding after_bet history_at
+after_at n cs number r = after_bet n cs r (history_at number)
 
-unfoldable pub before_at : (n cards number r : ℕ) → Tree
-unfolding before_bet cards_in history_at
-before_at n cards number r = before_bet n (cards_in n cards) r (history_at number)
+unfoldable pub before_at : ℕ → List ℕ → (number r : ℕ) → Tree
+unfolding before_bet history_at
+before_at n cs number r = before_bet n cs r (history_at number)
 
 -- what a unit of seat i's payoff is in the word of an end
 abbrev pub unit_of : ℕ → ℕ
@@ -106,29 +98,28 @@ pub record Passing (n : ℕ) (cs h : List ℕ) (seat number : ℕ) : Type 0 wher
   pub passes : number + 1 ≡ 2 ^ seat
 
 -- no seat has a higher card than seat r
-pub record Top (n cards r : ℕ) : Type 0 where
+pub record Top (n : ℕ) (cs : List ℕ) (r : ℕ) : Type 0 where
   pub seated : r < n
-  pub highest : (q : ℕ) → q < n → card_at cards q ≤ card_at cards r
+  pub highest : (q : ℕ) → q < n → get_or cs q 0 ≤ get_or cs r 0
 
--- the tree below a deal x to the first d seats, with k cards to deal
-unfoldable pub deal_at : (n x d k : ℕ) → Tree
-unfolding deals cards_in
-deal_at n x d k = deals ante stake n k (cards_in d x)
+-- the tree below a deal of cards cs to the first seats
+unfoldable pub deal_at : ℕ → List ℕ → Tree
+unfolding deals
+deal_at n cs = deals ante stake n (n - length cs) cs
 
 -- the children of a deal, up to card c
-unfoldable pub children_to : (n x d k c : ℕ) → Trees
-unfolding deals cards_in
-children_to n x d k c = each (those c (left n (cards_in d x))) (λ e. deals ante stake n k (cards_in d x ++ (e ∷ [])))
+unfoldable pub children_to : ℕ → List ℕ → ℕ → Trees
+unfolding deal_at
+children_to n cs c = each (those c (left n cs)) (λ e. deal_at n (cs ++ (e ∷ [])))
 
 -- the child of card c, if that is left
-unfoldable pub child_at : (n x d k c : ℕ) → Trees
-unfolding deals cards_in
-child_at n x d k c = cond (left n (cards_in d x) c) (cons (deals ante stake n k (cards_in d x ++ (c ∷ []))) nil) nil
+unfoldable pub child_at : ℕ → List ℕ → ℕ → Trees
+unfolding deal_at
+child_at n cs c = cond (left n cs c) (cons (deal_at n (cs ++ (c ∷ []))) nil) nil
 
--- a deal to the first d seats, with k cards to deal
-pub record Dealing (n x d k : ℕ) : Type 0 where
+-- a deal to the first seats
+pub record Dealing (n : ℕ) (cs : List ℕ) : Type 0 where
   pub least : 2 ≤ n
   pub most : n ≤ 6
-  pub cards : d + k ≡ n
-  pub small : x < 2 ^ (4 * d)
-  pub reached : Reached n (cards_in d x) []
+  pub few : length cs ≤ n
+  pub reached : Reached n cs []

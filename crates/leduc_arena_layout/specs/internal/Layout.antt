@@ -1,7 +1,7 @@
 -- Leduc's tree as the builder writes it: a decision's key is its code, and an end's payoffs are its bytes.
 -- Definitions only; nothing is assumed.
 use Rattle.std.specs.Prelude.{Bool, true, false, not, cond, ◌≡◌, List, [], ◌∷◌, eqb, ltb, pos, ◌-ℤ◌, get_or, set}
-use Prim.Native.Nat.{ℕ, zero, suc, ◌+◌, ◌*◌, ◌-◌, ◌/◌, ◌<◌}
+use Prim.Native.Nat.{ℕ, zero, suc, ◌+◌, ◌*◌, ◌-◌, ◌/◌, ◌≤◌, ◌<◌}
 use Rattle.game_tree.specs.Tree.{Key, Tree, end, chance, decide, Trees, nil, cons}
 use Rattle.arena.specs.internal.Words.{decision_word}
 use Rattle.arena.proofs.Building.{join}
@@ -94,3 +94,9 @@ pub record Chosen (a j n code r : ℕ) (old new : List ℕ) : Type 0 where
   pub few : n < 4
   pub word : new ≡ set old a (decision_word j n code r 0)
   pub small : code < 16384
+
+-- a raise of a round whose numbers go by step, where a raise adds size and a seat had paid at most most at the start:
+-- n is the number of the history, x what the seat has paid, and r more raises may come
+pub record Raise (step size most n x r : ℕ) : Type 0 where
+  pub few : n + 6 * (step * r) ≤ 10 * step
+  pub stakes : x + size * r ≤ most + size
