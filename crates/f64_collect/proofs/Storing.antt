@@ -6,7 +6,10 @@ use Prim.Native.Nat.{ℕ, suc, ◌+◌, ◌-◌, ◌≤◌, ◌<◌}
 use native.Mathlib.Omega.{arith}
 use lib.Dec.{eqb}
 use lib.Ieee.{Float, nan, binary64, of_bits, to_bits}
-use lib.ListN.{length, get_or, set, length-set}
+use Rattle.std.proofs.Common.{ap₂}
+use Rattle.std.proofs.lemmas.List.{get_or-take, get_or-drop}
+use Rattle.prelude.proofs.Parts.{part_length}
+use lib.ListN.{length, get_or, set, length-set, take, drop}
 use lib.Seq.{get_or-set_same, get_or-set_other}
 use borrow.Author.Tests.{eq-eqb, eqb-true}
 use Rattle.prelude.proofs.Tests.{Tested, holds, fails, tested}
@@ -22,7 +25,7 @@ use Rattle.arena.specs.internal.Legible.{Legible, LegibleAll}
 use Rattle.arena.proofs.Building.{size_some, fan-few, kept_none, kept_join, kept_set}
 use Rattle.arena.proofs.Reading.{deep_some, chance-row, decide-row, first, rest, near}
 use Rattle.arena.proofs.Staying.{Same, alike-join, kept_wider, alike-held, alike-row}
-use Rattle.f64_collect.specs.internal.Reached.{Storable, Marked, MarkedAll, Reached, ReachedAll, Each, Divided}
+use Rattle.f64_collect.specs.internal.Reached.{Walkable, Marked, MarkedAll, Reached, ReachedAll, Each, Divided}
 
 -- ---- reaches stored stay so where other words change
 module _ (s : Profile) (i b : ℕ) (v w : List ℕ) where
@@ -117,20 +120,22 @@ module _ (profile : List Float) (i b a : ℕ) (r : Float) (d : ℕ) (old : List 
           ((λ _. H, subst (λ p. MarkedAll (profile_of T profile) i b new p (passed (profile_of T profile) i r j y) 0 f) (omega arith) K.0), put_kept mid (to_bits binary64 r) q.0 new (sizes f) K.1)
 
       -- a decision of another seat
-      other_is : (t : Tree) (new : List ℕ) (s c : ℕ) → (kind_of x ≡ END → ⊥) → (kind_of x ≡ CHANCE → ⊥) → (actor_of x ≡ i → ⊥) → s ≡ set_of x → c ≡ actions_of x
-          → ReachedAll (Divided profile s (s + c) r) profile i b (a + 1) (d - 1) old new → Legible n T l w (length profile) a d t → a + size t ≤ b → b + (a + size t) ≤ length old
+      other_is : (t : Tree) (new : List ℕ) (s c : ℕ) → (kind_of x ≡ END → ⊥) → (kind_of x ≡ CHANCE → ⊥) → (actor_of x ≡ i → ⊥) → s ≡ set_of x → c ≡ actions_of x → s + c ≤ length profile
+          → ReachedAll (Divided profile (take (s + c - s) (drop s profile)) r) profile i b (a + 1) (d - 1) old new → Legible n T l w (length profile) a d t → a + size t ≤ b → b + (a + size t) ≤ length old
           → Marked (profile_of T profile) i b new a r t × Kept (b + a) (b + (a + size t)) old new
       unfolding Held Says Marked size Every
-      other_is (end p) new s c k o e q u N A m z = absurd (k (ap kind_of (reads (omega arith)) ∙ A.held.0))
-      other_is (chance f) new s c k o e q u N A m z = absurd (o (ap kind_of (reads (omega arith)) ∙ A.held.0.0))
-      other_is (decide j y f) new s c k o e q u N A m z =
+      other_is (end p) new s c k o e q u v N A m z = absurd (k (ap kind_of (reads (omega arith)) ∙ A.held.0))
+      other_is (chance f) new s c k o e q u v N A m z = absurd (o (ap kind_of (reads (omega arith)) ∙ A.held.0.0))
+      other_is (decide j y f) new s c k o e q u v N A m z =
           let X : x ≡ get_or w a 0 = reads (omega arith) in
           let J : j ≡ i → ⊥ = λ p. e (ap actor_of X ∙ A.held.0.1 ∙ p) in
-          let R : Divided profile s (s + c) r T f (passed (profile_of T profile) i r j y) = record {
+          let many : c ≡ fan f = u ∙ ap actions_of X ∙ A.held.0.2 in
+          let few : s + c - s ≡ fan f = omega (arith, many) in
+          let R : Divided profile (take (s + c - s) (drop s profile)) r T f (passed (profile_of T profile) i r j y) = record {
             seat = j;
             key = y;
-            set = q ∙ ap set_of X ∙ A.held.0.3;
-            actions = ap (λ p. s + p) (u ∙ ap actions_of X ∙ A.held.0.2);
+            own = ap₂ (λ m e. take m (drop e profile)) few (q ∙ ap set_of X ∙ A.held.0.3);
+            long = part_length profile s (s + c) v ∙ few;
             gives = λ x. passed_other (profile_of T profile) i r j y x J;
           } in
           let K = N.is w n T f (passed (profile_of T profile) i r j y) l h (decide-row n T l w (length profile) a d j y f A) R (omega arith) (omega arith) in (
@@ -160,9 +165,9 @@ module _ (profile : List Float) (i b a : ℕ) (r : Float) (d : ℕ) (old : List 
       is = λ w n T t l h. own_is w n T l h t mid new s k o e q u N;
     }
 
-    pub node-other : (new : List ℕ) (s c : ℕ) → (kind_of x ≡ END → ⊥) → (kind_of x ≡ CHANCE → ⊥) → (actor_of x ≡ i → ⊥) → s ≡ set_of x → c ≡ actions_of x → ReachedAll (Divided profile s (s + c) r) profile i b (a + 1) (d - 1) old new
-        → Reached profile i b a r d old new
-    node-other new s c k o e q u N = record { same = N.same; long = N.long; is = λ w n T t l h. other_is w n T l h t new s c k o e q u N }
+    pub node-other : (new : List ℕ) (s c : ℕ) → (kind_of x ≡ END → ⊥) → (kind_of x ≡ CHANCE → ⊥) → (actor_of x ≡ i → ⊥) → s ≡ set_of x → c ≡ actions_of x → s + c ≤ length profile
+        → ReachedAll (Divided profile (take (s + c - s) (drop s profile)) r) profile i b (a + 1) (d - 1) old new → Reached profile i b a r d old new
+    node-other new s c k o e q u v N = record { same = N.same; long = N.long; is = λ w n T t l h. other_is w n T l h t new s c k o e q u v N }
 
     pub node-short : (kind_of x ≡ END → ⊥) → (kind_of x ≡ CHANCE → ⊥) → length profile < set_of x + actions_of x → Reached profile i b a r d old old
     node-short k o e = record { same = λ p l. refl; long = refl; is = λ w n T t l h A m z. absurd (short_is w n T l h t k o e A m) }
@@ -296,38 +301,38 @@ module _ (profile : List Float) (i b a d : ℕ) (old : List ℕ) where
     }
 
   -- ---- as the profile says
-  module _ (e z : ℕ) (r : Float) where
-    pub divided_start : SoFar (Divided profile e z r) (λ c. c ≡ 0) a old
+  module _ (part : List Float) (r : Float) where
+    pub divided_start : SoFar (Divided profile part r) (λ c. c ≡ 0) a old
     divided_start = record { same = λ p l. refl; long = refl; going = λ w n T f g l h A R m k. (0, refl, going_start w n T l f g A) }
 
     -- the reach of action c
-    divided_gives : (c : ℕ) (s : Float) → s ≡ get_or profile (e + c) nan → (T : Tree) (f : Trees) (g : ℕ → Float) → Divided profile e z r T f g → g c ≡ times r s
+    divided_gives : (c : ℕ) (s : Float) → c < length part → s ≡ get_or part c nan → (T : Tree) (f : Trees) (g : ℕ → Float) → Divided profile part r T f g → g c ≡ times r s
     unfolding profile_of
-    divided_gives c s h T f g R = R.gives c ∙ ap (λ x. times r (get_or profile (x + c) nan)) (sym R.set) ∙ ap (times r) (sym h)
+    divided_gives c s l h T f g R =
+        let e = first_entry T R.seat R.key in
+        let q : get_or part c nan ≡ get_or profile (e + c) nan = ap (λ p. get_or p c nan) R.own ∙ get_or-take (fan f) (drop e profile) c nan (omega (arith, l, R.long)) ∙ get_or-drop e profile c nan in
+        R.gives c ∙ ap (times r) (sym q ∙ sym h)
 
-    pub divided_more : (p c q : ℕ) (s : Float) (v x : List ℕ) → SoFar (Divided profile e z r) (λ y. y ≡ c) p v → c < z - e → s ≡ get_or profile (e + c) nan → Reached profile i b p (times r s) d v x → Behind x p q
-        → SoFar (Divided profile e z r) (λ y. y ≡ c + 1) q x
+    pub divided_more : (p c q : ℕ) (s : Float) (v x : List ℕ) → SoFar (Divided profile part r) (λ y. y ≡ c) p v → c < length part → s ≡ get_or part c nan → Reached profile i b p (times r s) d v x → Behind x p q
+        → SoFar (Divided profile part r) (λ y. y ≡ c + 1) q x
     divided_more p c q s v x S m y N B = record {
       same = alike-join b old v x S.same N.same;
       long = N.long ∙ S.long;
       going = λ w n T f g l h A R o k.
           let G = S.going w n T f g l h A R o k in
-          let here : g G.0 ≡ times r s = ap g G.1 ∙ divided_gives c s y T f g R in
-          (G.0 + 1, ap (λ y. y + 1) G.1, going_more w n T l f g p G.0 q (times r s) v x h S.same S.long o k N B G.2 (omega (arith, G.1, R.actions)) here);
+          let here : g G.0 ≡ times r s = ap g G.1 ∙ divided_gives c s m y T f g R in
+          (G.0 + 1, ap (λ y. y + 1) G.1, going_more w n T l f g p G.0 q (times r s) v x h S.same S.long o k N B G.2 (omega (arith, G.1, R.long)) here);
     }
 
-    pub divided_end : (p c : ℕ) (v : List ℕ) → SoFar (Divided profile e z r) (λ y. y ≡ c) p v → z - e ≤ c → ReachedAll (Divided profile e z r) profile i b a d old v
+    pub divided_end : (p c : ℕ) (v : List ℕ) → SoFar (Divided profile part r) (λ y. y ≡ c) p v → length part ≤ c → ReachedAll (Divided profile part r) profile i b a d old v
     divided_end p c v S m = record {
       same = S.same;
       long = S.long;
       is = λ w n T f g l h A R o k.
           let G = S.going w n T f g l h A R o k in
-          going_end w n T l f g p G.0 v G.2 (omega (arith, G.1, R.actions));
+          going_end w n T l f g p G.0 v G.2 (omega (arith, G.1, R.long));
     }
 
 -- ---- one step down, and one along
-pub store_down : (a b d : ℕ) → Storable a b d → (d ≡ 0 → ⊥) → Storable (a + 1) b (d - 1)
-store_down a b d h z = record { place = omega (arith, h.place, z); shallow = omega (arith, h.shallow); base = h.base }
-
-pub store_along : (a p b d : ℕ) → Storable a b d → p < 4194304 → Storable p b d
-store_along a p b d h l = record { place = omega (arith, h.shallow); shallow = h.shallow; base = h.base }
+pub walk_along : (a p d : ℕ) → Walkable a d → p < 4194304 → Walkable p d
+walk_along a p d h l = record { place = omega (arith, h.shallow); shallow = h.shallow }

@@ -2,87 +2,68 @@
 #![tactic(auto)]
 
 ghost use Rattle.std.specs.Prelude.{◌≤◌, length};
-ghost use Rattle.f64_collect.specs.internal.Reached.{Divided, Each, Reached, ReachedAll, Storable};
+ghost use Rattle.f64_collect.specs.internal.Reached.{Divided, Each, Reached, ReachedAll, Walkable};
 
 use arena::walk::{behind, fan};
-use arena::words::{CHANCE, END, actions, actor, kind, next, set, word};
-use f64_numbers::{entry, put_float, weight};
+use arena::words::{Node, actions, actor, kind, next, set, word};
+use arena_walks::Walk;
+use f64_numbers::{put_float, weight};
 
-// Stores the reach of each of the seat's decisions in the tree at place a, from reach r: that of place p at place reach + p.
+// Stores the reach of each of the seat's decisions in the tree at place a, from reach r: that of place p at place reach + p of the walk.
 #[cycle(collect_divide_one_spread)]
-pub fn collect(
-    w: &mut [u64],
-    profile: &[f64],
-    a: usize,
-    r: f64,
-    seat: usize,
-    reach: usize,
-    depth: usize,
-)
-    requires { Storable a reach depth }
-    ensures { Reached profile.now seat reach a r depth w.old w.new }
+pub fn collect(w: &mut [u64], walk: &Walk<&[f64]>, a: usize, r: f64, depth: usize)
+    requires { Walkable a depth }
+    ensures { Reached walk.now.others.now walk.now.seat walk.now.at.reach a r depth w.old w.new }
 {
     if depth == 0 {
         return;
     }
     let x = word(w, a);
-    let sort = kind(x);
-    if sort == END {
-        return;
-    }
     let child = a + 1;
     let below = depth - 1;
-    if sort == CHANCE {
-        let end = next(x);
-        let each = r * weight(fan(w, child, end));
-        spread(w, profile, child, end, each, seat, reach, below);
-        return;
+    match kind(x) {
+        Node::End => {}
+        Node::Chance => {
+            let end = next(x);
+            let each = r * weight(fan(w, child, end));
+            spread(w, walk, child, end, each, below);
+        }
+        _ if actor(x) == walk.seat => {
+            put_float(w, walk.at.reach + a, r);
+            spread(w, walk, child, next(x), r, below);
+        }
+        _ => {
+            let first = set(x);
+            let end = first + actions(x);
+            if walk.others.len() < end {
+                return;
+            }
+            divide(w, walk, child, &walk.others[first..end], r, below);
+        }
     }
-    if actor(x) == seat {
-        put_float(w, reach + a, r);
-        spread(w, profile, child, next(x), r, seat, reach, below);
-        return;
-    }
-    let first = set(x);
-    let count = actions(x);
-    let end = first + count;
-    if profile.len() < end {
-        return;
-    }
-    divide(w, profile, child, first, end, r, seat, reach, below);
 }
 
 // The same of one tree of a row: an end has nothing to store, and needs no call.
 #[cycle(collect_divide_one_spread)]
-fn one(w: &mut [u64], profile: &[f64], a: usize, r: f64, seat: usize, reach: usize, depth: usize)
-    requires { Storable a reach depth }
-    ensures { Reached profile.now seat reach a r depth w.old w.new }
+fn one(w: &mut [u64], walk: &Walk<&[f64]>, a: usize, r: f64, depth: usize)
+    requires { Walkable a depth }
+    ensures { Reached walk.now.others.now walk.now.seat walk.now.at.reach a r depth w.old w.new }
 {
-    let x = word(w, a);
-    if kind(x) == END {
-        return;
+    match kind(word(w, a)) {
+        Node::End => {}
+        _ => collect(w, walk, a, r, depth),
     }
-    collect(w, profile, a, r, seat, reach, depth);
 }
 
 // The same of the trees between places a and end, each with reach r.
 #[cycle(collect_divide_one_spread)]
-fn spread(
-    w: &mut [u64],
-    profile: &[f64],
-    a: usize,
-    end: usize,
-    r: f64,
-    seat: usize,
-    reach: usize,
-    depth: usize,
-)
-    requires { Storable a reach depth }
-    ensures { ReachedAll (Each a end r) profile.now seat reach a depth w.old w.new }
+fn spread(w: &mut [u64], walk: &Walk<&[f64]>, a: usize, end: usize, r: f64, depth: usize)
+    requires { Walkable a depth }
+    ensures { ReachedAll (Each a end r) walk.now.others.now walk.now.seat walk.now.at.reach a depth w.old w.new }
 {
     let mut at = a;
     while at < end {
-        one(w, profile, at, r, seat, reach, depth);
+        one(w, walk, at, r, depth);
         let next = behind(w, at);
         if next <= at {
             return;
@@ -91,28 +72,15 @@ fn spread(
     }
 }
 
-// The same of the children of another seat's decision, whose set's own part of the profile stands between entries first and end.
+// The same of the children of another seat's decision, by its set's own part of the profile.
 #[cycle(collect_divide_one_spread)]
-fn divide(
-    w: &mut [u64],
-    profile: &[f64],
-    a: usize,
-    first: usize,
-    end: usize,
-    r: f64,
-    seat: usize,
-    reach: usize,
-    depth: usize,
-)
-    requires { Storable a reach depth × (first ≤ end) × (end ≤ length profile.now) }
-    ensures { ReachedAll (Divided profile.now first end r) profile.now seat reach a depth w.old w.new }
+fn divide(w: &mut [u64], walk: &Walk<&[f64]>, a: usize, part: &[f64], r: f64, depth: usize)
+    requires { Walkable a depth }
+    ensures { ReachedAll (Divided walk.now.others.now part.now r) walk.now.others.now walk.now.seat walk.now.at.reach a depth w.old w.new }
 {
     let mut at = a;
-    let mut action = 0;
-    while action < end - first {
-        let p = entry(&profile[first..end], action);
-        one(w, profile, at, r * p, seat, reach, depth);
+    for &p in part {
+        one(w, walk, at, r * p, depth);
         at = behind(w, at);
-        action += 1;
     }
 }

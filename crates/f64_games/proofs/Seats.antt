@@ -11,8 +11,7 @@ use lib.ListN.{length, get_or, set, replicate}
 use Rattle.prelude.specs.Finite.{places}
 use Rattle.prelude.proofs.Lists.{filled_none, filled_more, get_d_places}
 use Rattle.game_tree_f64.specs.Values.{nought, plus}
-use Rattle.games.specs.declared.Game.{Game}
-use Rattle.games.specs.Games.{tree_of}
+use Rattle.games.specs.Games.{Game, tree_of}
 use Rattle.arena.specs.internal.Index.{later_in}
 use Rattle.f64_worths.specs.internal.Expected.{Expected}
 use Rattle.arena_store.specs.internal.Stored.{Stored}

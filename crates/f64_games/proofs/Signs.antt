@@ -11,8 +11,7 @@ use Rattle.game_tree.specs.Tree.{Tree, end, chance, decide}
 use Rattle.game_tree_f64.specs.Values.{Profile, profile_of, nought, plus, best_value, worth}
 use Rattle.game_tree_f64.specs.Signs.{minus_nought, sum_from}
 use Rattle.game_tree_f64.proofs.Signs.{gain_signed, start_signed}
-use Rattle.games.specs.declared.Game.{Game}
-use Rattle.games.specs.Games.{tree_of}
+use Rattle.games.specs.Games.{Game, tree_of}
 use Rattle.arena_store.proofs.Shaped.{games_shaped}
 use Rattle.arena_store.proofs.Room.{Deals, root-deals}
 use Rattle.f64_games.specs.Values.{best_of, worth_of, gaps}

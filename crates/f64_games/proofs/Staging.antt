@@ -12,8 +12,7 @@ use Rattle.game_tree.specs.Conditions.{Every}
 use Rattle.game_tree.specs.Reply.{Choice}
 use Rattle.game_tree.specs.Sets.{size, entries, first_entry}
 use Rattle.game_tree.proofs.Against.{every_both}
-use Rattle.games.specs.declared.Game.{Game}
-use Rattle.games.specs.Games.{tree_of}
+use Rattle.games.specs.Games.{Game, tree_of}
 use Rattle.games.specs.Facts.{nodes_of, entries_of}
 use Rattle.games.proofs.Facts.{games_fit, nodes_are, entries_are}
 use Rattle.arena.specs.internal.Index.{later_in, Cleared}
@@ -22,12 +21,12 @@ use Rattle.game_tree_f64.specs.Values.{Profile, profile_of, one, best_value, bes
 use Rattle.game_tree_f64.proofs.Deciding.{best-decides}
 use Rattle.arena_walks.specs.internal.Stage.{Stage, Memo}
 use Rattle.arena_walks.proofs.Standing.{root_stands}
-use Rattle.f64_collect.specs.internal.Reached.{Storable, Reached, Marked}
+use Rattle.f64_collect.specs.internal.Reached.{Reached, Marked}
 use Rattle.f64_collect.proofs.Storing.{marked_same}
 use Rattle.f64_values.specs.internal.Valued.{Walkable, Scene, Valued}
 use Rattle.arena_store.specs.internal.Stored.{heads_of, Stored}
 use Rattle.arena_store.specs.internal.Places.{reach_at, kept_at, places_of}
-use Rattle.arena_store.specs.declared.Places.{Places}
+use Rattle.arena_walks.specs.declared.Places.{Places}
 use Rattle.arena_store.specs.internal.Shaped.{Shaped}
 use Rattle.arena_store.proofs.Shaped.{games_shaped, games_legible, some_actions, same_heights}
 use Rattle.arena_store.proofs.Room.{Roomy, roomy}
@@ -104,11 +103,8 @@ module _ (g : Game) (i : ℕ) (P : List Float) (a : AcceptedProfile g P) (l : i 
     pub near : (E : ℕ) → E ≡ entries_of g → p.kept + E ≤ 8388608
     near E e = rw q (omega (arith, room.near))
 
-    pub walkable : Walkable 0 i 32 p.heads p.reach p.kept
-    walkable = rw q (record { place = omega arith; seat = omega (arith, l, shaped.most); shallow = omega arith; heads = omega (arith, room.near); reach = omega (arith, room.near); kept = omega (arith, room.near) })
-
-    pub storable : Storable 0 p.reach 32
-    storable = rw q (record { place = omega arith; shallow = omega arith; base = omega (arith, room.near) })
+    pub walkable : Walkable 0 i 32
+    walkable = record { place = omega arith; seat = omega (arith, l, shaped.most); shallow = omega arith }
 
     module _ (E : ℕ) (t : E ≡ entries_of g) (v w z y : List ℕ) (x : Stored g v) (long : 12 * nodes_of g ≤ length v) (o : Reached P i p.reach 0 one 32 v w)
         (u : Cleared p.kept (p.kept + E) w z) (r : Float) (k : Valued P i 32 p.heads p.reach p.kept 0 z y r) where

@@ -3,8 +3,7 @@ use Rattle.std.specs.Prelude.{◌≡◌, false, List, ℕ, ◌≤◌, eqb, Float
 use Rattle.game_tree.specs.Conditions.{Every}
 use Rattle.game_tree.specs.Reply.{Choice}
 use Rattle.game_tree_f64.specs.Values.{profile_of, value, lead, set_sum, best}
-use Rattle.games.specs.declared.Game.{Game}
-use Rattle.games.specs.Games.{tree_of}
+use Rattle.games.specs.Games.{Game, tree_of}
 use Rattle.games.specs.Seats.{seats-out}
 use Rattle.f64_games.specs.Values.{best_of}
 

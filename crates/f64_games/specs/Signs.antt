@@ -4,7 +4,7 @@ use Rattle.std.specs.Float.{binary64}
 use Rattle.std.specs.Float.Ieee.{sub}
 use Rattle.prelude.specs.Finite.{places}
 use Rattle.game_tree_f64.specs.Signs.{minus_nought, sum_from}
-use Rattle.games.specs.declared.Game.{Game}
+use Rattle.games.specs.Games.{Game}
 use Rattle.games.specs.Known.{Known}
 use Rattle.f64_games.specs.Values.{best_of, worth_of, nash_conv_of}
 

@@ -4,8 +4,7 @@ use Rattle.std.specs.Float.{binary64}
 use Rattle.std.specs.Float.Ieee.{of_int, sub, div}
 use Rattle.prelude.specs.Finite.{places}
 use Rattle.game_tree_f64.specs.Values.{profile_of, nought, plus, best_value, worth}
-use Rattle.games.specs.declared.Game.{Game}
-use Rattle.games.specs.Games.{tree_of}
+use Rattle.games.specs.Games.{Game, tree_of}
 
 -- the best response value of seat i to a profile, and what the profile is worth to it
 unfoldable pub best_of : Game → List Float → ℕ → Float

@@ -2,96 +2,84 @@
 // these its choices.
 #![tactic(auto)]
 
-ghost use Rattle.std.specs.Prelude.{◌≡◌, ◌*◌, ◌≤◌, ◌<◌, pos, length};
-ghost use Rattle.std.specs.Float.{binary64};
-ghost use Rattle.std.specs.Float.Ieee.{of_int, div};
+ghost use Rattle.std.specs.Prelude.{◌≡◌, ◌*◌, ◌≤◌, ◌<◌, length};
+ghost use Rattle.games.specs.internal.Numbered.{numbered};
 ghost use Rattle.games.specs.Facts.{nodes_of};
-ghost use Rattle.tree_refusals.specs.internal.Accepted.{AcceptedProfile};
 ghost use Rattle.arena_store.specs.internal.Stored.{Stored};
 ghost use Rattle.f64_games.specs.Values.{best_of, bests_of, worths_of, nash_conv_of, exploitability_of};
 
 use arena::words::clear;
 use arena_store::places_of;
-use arena_walks::DEPTH;
+use arena_walks::{DEPTH, Walk};
 use f64_collect::collect;
 use f64_values::values::value;
-use games::Game;
+use tree_refusals::accepted::GameProfile;
 
-// The best response value of a seat to a profile that is not refused.
-pub fn best_value(g: Game, words: &mut [u64], seat: usize, profile: &[f64]) -> f64
-    requires { Stored g words.old × AcceptedProfile g profile.now × (seat < g.seats) × (12 * nodes_of g ≤ length words.old) }
-    ensures { (result ≡ best_of g profile.now seat) × Stored g words.new }
+// The best response value of a seat to a profile.
+pub fn best_value(profile: &GameProfile, words: &mut [u64], seat: usize) -> f64
+    requires { Stored (numbered profile.now.game) words.old × (seat < (numbered profile.now.game).seats)
+        × (12 * nodes_of (numbered profile.now.game) ≤ length words.old) }
+    ensures { (result ≡ best_of (numbered profile.now.game) profile.now.entries.now seat) × Stored (numbered profile.now.game) words.new }
 {
-    let at = places_of(g);
-    collect(words, profile, 0, 1.0, seat, at.reach, DEPTH);
-    clear(words, at.kept, at.kept + g.entries());
-    value(words, profile, 0, seat, DEPTH, at.heads, at.reach, at.kept)
+    let at = places_of(profile.game);
+    let walk = Walk {
+        others: profile.entries,
+        seat,
+        at,
+    };
+    collect(words, &walk, 0, 1.0, DEPTH);
+    clear(words, at.kept, at.kept + profile.game.entries());
+    value(words, &walk, 0, DEPTH)
 }
 
 // The same of each seat; 0.0 past them.
-pub fn best_values(g: Game, words: &mut [u64], profile: &[f64]) -> [f64; 6]
-    requires { Stored g words.old × AcceptedProfile g profile.now × (12 * nodes_of g ≤ length words.old) }
-    ensures { result ≡ bests_of g profile.now }
+pub fn best_values(profile: &GameProfile, words: &mut [u64]) -> [f64; 6]
+    requires { Stored (numbered profile.now.game) words.old × (12 * nodes_of (numbered profile.now.game) ≤ length words.old) }
+    ensures { result ≡ bests_of (numbered profile.now.game) profile.now.entries.now }
 {
-    let count = g.seats;
     let mut out = [0.0; 6];
-    let mut seat = 0;
-    while seat < count {
-        let best = best_value(g, words, seat, profile);
-        out[seat] = best;
-        seat += 1;
+    for seat in 0..profile.game.seats() {
+        out[seat] = best_value(profile, words, seat);
     }
     out
 }
 
 // What the profile is worth to each seat; 0.0 past them.
-pub fn worths(g: Game, words: &[u64], profile: &[f64]) -> [f64; 6]
-    requires { Stored g words.now × AcceptedProfile g profile.now }
-    ensures { result ≡ worths_of g profile.now }
+pub fn worths(profile: &GameProfile, words: &[u64]) -> [f64; 6]
+    requires { Stored (numbered profile.now.game) words.now }
+    ensures { result ≡ worths_of (numbered profile.now.game) profile.now.entries.now }
 {
+    let count = profile.game.seats();
     let mut out = [0.0; 6];
-    let mut seat = 0;
-    while seat < g.seats {
-        let two = f64_worths::worths(words, profile, 0, seat, DEPTH);
+    for pair in 0..count.div_ceil(2) {
+        let seat = 2 * pair;
+        let two = f64_worths::worths(words, profile.entries, 0, seat, DEPTH);
         out[seat] = two.first;
-        seat += 1;
-        if seat < g.seats {
-            out[seat] = two.second;
-            seat += 1;
+        if seat + 1 < count {
+            out[seat + 1] = two.second;
         }
     }
     out
 }
 
 // NashConv: the sum of best value − worth by seat, from 0.0.
-pub fn nash_conv(g: Game, words: &mut [u64], profile: &[f64]) -> f64
-    requires { Stored g words.old × AcceptedProfile g profile.now × (12 * nodes_of g ≤ length words.old) }
-    ensures { result ≡ nash_conv_of g profile.now }
+pub fn nash_conv(profile: &GameProfile, words: &mut [u64]) -> f64
+    requires { Stored (numbered profile.now.game) words.old × (12 * nodes_of (numbered profile.now.game) ≤ length words.old) }
+    ensures { result ≡ nash_conv_of (numbered profile.now.game) profile.now.entries.now }
 {
-    let worths = worths(g, words, profile);
-    let seats = g.seats;
+    let worths = worths(profile, words);
+    let seats = profile.game.seats();
     let mut sum = 0.0;
-    let mut seat = 0;
-    while seat < seats {
-        let best = best_value(g, words, seat, profile);
-        sum = sum + (best - worths[seat]);
-        seat += 1;
+    for seat in 0..seats {
+        sum += best_value(profile, words, seat) - worths[seat];
     }
     sum
 }
 
-// A value divided by the seats.
-fn shared(x: f64, seats: usize) -> f64
-    requires { seats ≤ 6 }
-    ensures { result ≡ div binary64 x (of_int binary64 (pos seats)) }
-{
-    x / (seats % 256) as u8 as f64
-}
-
 // Exploitability: NashConv divided by the seats.
-pub fn exploitability(g: Game, words: &mut [u64], profile: &[f64]) -> f64
-    requires { Stored g words.old × AcceptedProfile g profile.now × (12 * nodes_of g ≤ length words.old) }
-    ensures { result ≡ exploitability_of g profile.now }
+pub fn exploitability(profile: &GameProfile, words: &mut [u64]) -> f64
+    requires { Stored (numbered profile.now.game) words.old × (12 * nodes_of (numbered profile.now.game) ≤ length words.old) }
+    ensures { result ≡ exploitability_of (numbered profile.now.game) profile.now.entries.now }
 {
-    shared(nash_conv(g, words, profile), g.seats)
+    nash_conv(profile, words) / profile.game.seats() as f64
 }

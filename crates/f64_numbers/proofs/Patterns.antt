@@ -9,8 +9,7 @@ use borrow.Author.Tests.{lt-ltb, le-ltb}
 use mir.Syntax.{w64}
 use mir.Val.{to_z, of_z}
 use lib.IntN.{pos, ◌-ℤ◌}
-use lib.Ieee.{Float, nan, inf, fin, binary64, is_nan, nan_bits, to_bits, of_bits, ne, div, in_float}
-use lib.Ieee.Compare.{differs_from_itself, nan_differs}
+use lib.Ieee.{Float, nan, inf, fin, binary64, is_nan, nan_bits, to_bits, of_bits, in_float}
 use lib.Ieee.Bits.{nan_bits_is, nan_bits_above}
 use Rattle.prelude.specs.Finite.{◌and◌, every}
 use Rattle.prelude.proofs.Tests.{every_at}
@@ -19,21 +18,18 @@ use Rattle.arena.specs.internal.Words.{byte_of, payoff_of}
 use Rattle.arena.proofs.Bytes.{lowered}
 
 -- the pattern of a NaN
-pub mark : (x : Float) → ne x x ≡ true → 9221120237041090560 ≡ to_bits binary64 x
-unfolding to_bits
-mark x e = rw (differs_from_itself x (subst T (sym e) tt))
-
-pub no_nan : (x : Float) → ne x x ≡ false → T (not (is_nan x))
-unfolding is_nan
-no_nan nan e = let z : true ≡ false = sym nan_differs ∙ e in subst T z tt
-no_nan (inf s) e = tt
-no_nan (fin s m e') e = tt
-
 is_nan_lem : (x : Float) → is_nan x ≡ true → x ≡ nan
 unfolding is_nan
 is_nan_lem nan e = refl
 is_nan_lem (inf s) e = let z : true ≡ false = sym e in absurd (subst T z tt)
 is_nan_lem (fin s m k) e = let z : true ≡ false = sym e in absurd (subst T z tt)
+
+pub mark : (x : Float) → is_nan x ≡ true → 9221120237041090560 ≡ to_bits binary64 x
+unfolding to_bits
+mark x e = rw (is_nan_lem x e) refl
+
+pub no_nan : (x : Float) → is_nan x ≡ false → T (not (is_nan x))
+no_nan x e = rw e tt
 
 -- patterns above that of infinity are a NaN's, the others are not
 pub above : (x : ℕ) → 9218868437227405312 < x % 9223372036854775808 → nan ≡ of_bits binary64 x
@@ -42,9 +38,9 @@ above x h = sym (is_nan_lem (of_bits binary64 x) (sym (nan_bits_is binary64 x) �
 pub within : (x : ℕ) → x % 9223372036854775808 ≤ 9218868437227405312 → T (not (nan_bits binary64 x))
 within x h = rw (nan_bits_above binary64 x, le-ltb 9218868437227405312 (x % 9223372036854775808) h) tt
 
-pub zero_over_zero : div binary64 (of_bits binary64 0) (of_bits binary64 0) ≡ nan
-unfolding div of_bits
-zero_over_zero = refl
+pub nan-bits : of_bits binary64 9221120237041090560 ≡ nan
+unfolding of_bits
+nan-bits = refl
 
 -- ---- payoffs
 -- a payoff in a word is a whole number that a float holds

@@ -1,8 +1,8 @@
 // Numbers in f64 for a walk over a tree in work memory: a float in a word, a payoff, a chance weight, an entry of a set.
 #![tactic(auto)]
 
-ghost use Rattle.std.specs.Prelude.{◌≡◌, ◌<◌, length, get_or, set};
-ghost use Rattle.std.specs.Float.{nan, binary64};
+ghost use Rattle.std.specs.Prelude.{◌≡◌, ◌<◌, get_or, set};
+ghost use Rattle.std.specs.Float.{binary64};
 ghost use Rattle.std.specs.Float.Ieee.{to_bits, of_bits, of_int};
 ghost use Rattle.arena.specs.internal.Words.{payoff_of};
 ghost use Rattle.game_tree_f64.specs.Values.{plus, times, weight};
@@ -14,10 +14,10 @@ use arena::words::{put, word};
 fn pack(x: f64) -> u64
     ensures { (result ≡ to_bits binary64 x) × (of_bits binary64 (to_bits binary64 x) ≡ x) }
 {
-    if x != x {
+    if x.is_nan() {
         0x7FF8_0000_0000_0000
     } else {
-        f64::to_bits(x)
+        x.to_bits()
     }
 }
 
@@ -26,7 +26,7 @@ fn unpack(x: u64) -> f64
     ensures { result ≡ of_bits binary64 x }
 {
     if 0x7FF0_0000_0000_0000 < x % 0x8000_0000_0000_0000 {
-        0.0 / 0.0
+        f64::NAN
     } else {
         f64::from_bits(x)
     }
@@ -59,23 +59,14 @@ pub fn weight(fan: usize) -> f64
     ensures { fan < 4294967296 → result ≡ weight fan }
 {
     let count = (fan % 4294967296) as u32;
-    1.0 / count as f64
-}
-
-// The entry of an action, of its set's own part of a profile.
-pub fn entry(part: &[f64], action: usize) -> f64
-    requires { action < length part.now }
-    ensures { result ≡ get_or part.now action nan }
-{
-    part[action]
+    1.0 / f64::from(count)
 }
 
 // The sum so far, and an action's entry × what the action gives.
-pub fn weighed(part: &[f64], action: usize, sum: f64, gain: f64) -> f64
-    requires { action < length part.now }
-    ensures { result ≡ plus sum (times (get_or part.now action nan) gain) }
+pub fn weighed(entry: f64, sum: f64, gain: f64) -> f64
+    ensures { result ≡ plus sum (times entry gain) }
 {
-    sum + entry(part, action) * gain
+    sum + entry * gain
 }
 
 // The sum so far, and the reach at a place × what is given behind it.

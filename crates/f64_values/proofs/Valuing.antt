@@ -23,7 +23,7 @@ use Rattle.arena_walks.specs.internal.Child.{nth, Child}
 use Rattle.arena_walks.specs.internal.Stage.{Stage, Known, Memo, SubtreeAt, SubtreesAt}
 use Rattle.arena_walks.proofs.Standing.{levels_some, kids-chance, kids-decide, first, rest, known_of, seen, held_in, held_in_all}
 use Rattle.arena_walks.proofs.Descending.{Descent, child_at}
-use Rattle.f64_values.specs.internal.Valued.{Walkable, Scene, entries, own, valued, gained, added_up, behind_action, Valued, Gained, Dealt, Split, ValuedOwn, Chosen}
+use Rattle.f64_values.specs.internal.Valued.{Scene, entries, own, valued, gained, added_up, behind_action, Valued, Gained, Dealt, Split, ValuedOwn, Chosen}
 use Rattle.game_tree_f64.proofs.Leading.{lead-few}
 
 -- ---- a node by its word
@@ -242,7 +242,3 @@ own_is P i d h b k a x old mid new c at r p q v S m y z f le e n g =
       u.1 ∙ sym (picked-nth S f c l) ∙ ap (picked (entries S) i (own S) S.stage.choice f) o.1
           ∙ ap (λ t. cond t (picked (entries S) i (own S) S.stage.choice f (S.stage.choice y)) (added_up S (entries S i y) 0 nought f)) (sym (eq-eqb i i refl)),
     )
-
--- ---- numbers in range
-pub walk_at : (a i d h b k : ℕ) → Walkable a i d h b k → (c e : ℕ) → e ≤ d → c + e < 8388608 → Walkable c i e h b k
-walk_at a i d h b k w c e l m = record { place = m; seat = w.seat; shallow = omega (arith, w.shallow); heads = w.heads; reach = w.reach; kept = w.kept }

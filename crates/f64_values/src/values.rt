@@ -1,101 +1,59 @@
 // Value and choice call each other: the value of an own node asks its set's choice,
 // and a choice asks the values below all members of its set, which lie deeper.
-// A choice is kept in work memory once it is found. From place heads on stands the first member of each set, from place reach on the reach of the seat's own
-// nodes, and from place kept on, by a set's first entry, its choice + 1, or 0.
+// A choice is kept in work memory once it is found.
+// Kept apart from the walks in whole units over the same tree, since those have weighed on the way down what these weigh on the way up. What is left alike, the
+// choice and the sum over members, stands in the cycle with the values, and a cycle through a trait's method gets no proof.
 ghost use Rattle.std.specs.Prelude.{◌+◌};
 ghost use Rattle.f64_values.specs.internal.Valued.{Walkable, Valued, Gained, Dealt, Split, ValuedOwn, Totalled, Chosen};
 
 use arena::walk::{behind, fan};
-use arena::words::{CHANCE, END, PLACES, actions, actor, kind, later, next, put, set, word};
-use arena_walks::child;
-use argmax::leading::{past, start};
+use arena::words::{Node, PLACES, actions, actor, kind, later, next, put, set, word};
+use arena_walks::{Walk, child};
+use argmax::Lead;
 use f64_numbers::{payoff_of, reached, weighed, weight};
 
-// The value of the tree at place a for a seat.
+// The value of the tree at place a for the walk's seat.
 #[cycle(choose_dealt_gain_own_split_total_value)]
-pub fn value(
-    w: &mut [u64],
-    profile: &[f64],
-    a: usize,
-    seat: usize,
-    depth: usize,
-    heads: usize,
-    reach: usize,
-    kept: usize,
-) -> f64
-    requires { Walkable a seat depth heads reach kept }
-    ensures { Valued profile.now seat depth heads reach kept a w.old w.new result }
+pub fn value(w: &mut [u64], walk: &Walk<&[f64]>, a: usize, depth: usize) -> f64
+    requires { Walkable a walk.now.seat depth }
+    ensures { Valued walk.now.others.now walk.now.seat depth walk.now.at.heads walk.now.at.reach walk.now.at.kept a w.old w.new result }
 {
     if depth == 0 {
         return 0.0;
     }
     let x = word(w, a);
-    let sort = kind(x);
-    if sort == END {
-        return 0.0;
+    match kind(x) {
+        Node::End => 0.0,
+        Node::Chance => dealt(w, walk, a + 1, next(x), depth - 1),
+        _ if actor(x) == walk.seat => own(w, walk, a, x, depth - 1),
+        _ => split(w, walk, a + 1, x, depth - 1),
     }
-    if sort == CHANCE {
-        return dealt(
-            w,
-            profile,
-            a + 1,
-            next(x),
-            seat,
-            depth - 1,
-            heads,
-            reach,
-            kept,
-        );
-    }
-    if actor(x) == seat {
-        return own(w, profile, a, x, seat, depth - 1, heads, reach, kept);
-    }
-    split(w, profile, a + 1, x, seat, depth - 1, heads, reach, kept)
 }
 
 // What the child at place a gives: the seat's payoff on the edge to it, 0.0 unless it is an end, and its value.
 #[cycle(choose_dealt_gain_own_split_total_value)]
-fn gain(
-    w: &mut [u64],
-    profile: &[f64],
-    a: usize,
-    seat: usize,
-    depth: usize,
-    heads: usize,
-    reach: usize,
-    kept: usize,
-) -> f64
-    requires { Walkable a seat depth heads reach kept }
-    ensures { Gained profile.now seat depth heads reach kept a w.old w.new result }
+fn gain(w: &mut [u64], walk: &Walk<&[f64]>, a: usize, depth: usize) -> f64
+    requires { Walkable a walk.now.seat depth }
+    ensures { Gained walk.now.others.now walk.now.seat depth walk.now.at.heads walk.now.at.reach walk.now.at.kept a w.old w.new result }
 {
     let x = word(w, a);
-    if kind(x) == END {
-        return payoff_of(x, seat) + 0.0;
+    match kind(x) {
+        Node::End => payoff_of(x, walk.seat) + 0.0,
+        _ => 0.0 + value(w, walk, a, depth),
     }
-    0.0 + value(w, profile, a, seat, depth, heads, reach, kept)
 }
 
 // The value of a chance node, whose children stand between places a and end.
 #[cycle(choose_dealt_gain_own_split_total_value)]
-fn dealt(
-    w: &mut [u64],
-    profile: &[f64],
-    a: usize,
-    end: usize,
-    seat: usize,
-    depth: usize,
-    heads: usize,
-    reach: usize,
-    kept: usize,
-) -> f64
-    requires { Walkable a seat depth heads reach kept }
-    ensures { Dealt profile.now seat depth heads reach kept a end w.old w.new result }
+fn dealt(w: &mut [u64], walk: &Walk<&[f64]>, a: usize, end: usize, depth: usize) -> f64
+    requires { Walkable a walk.now.seat depth }
+    ensures { Dealt walk.now.others.now walk.now.seat depth walk.now.at.heads walk.now.at.reach walk.now.at.kept a end w.old w.new result }
 {
     let each = weight(fan(w, a, end));
     let mut sum = 0.0;
     let mut at = a;
     while at < end {
-        let g = gain(w, profile, at, seat, depth, heads, reach, kept);
+        let g = gain(w, walk, at, depth);
         sum = sum + each * g;
         let next = behind(w, at);
         if next <= at {
@@ -108,122 +66,68 @@ fn dealt(
 
 // The value of another seat's decision with word x, whose children stand from place a on.
 #[cycle(choose_dealt_gain_own_split_total_value)]
-fn split(
-    w: &mut [u64],
-    profile: &[f64],
-    a: usize,
-    x: u64,
-    seat: usize,
-    depth: usize,
-    heads: usize,
-    reach: usize,
-    kept: usize,
-) -> f64
-    requires { Walkable a seat depth heads reach kept }
-    ensures { Split profile.now seat depth heads reach kept a x w.old w.new result }
+fn split(w: &mut [u64], walk: &Walk<&[f64]>, a: usize, x: u64, depth: usize) -> f64
+    requires { Walkable a walk.now.seat depth }
+    ensures { Split walk.now.others.now walk.now.seat depth walk.now.at.heads walk.now.at.reach walk.now.at.kept a x w.old w.new result }
 {
     let first = set(x);
     let end = first + actions(x);
-    if profile.len() < end {
+    if walk.others.len() < end {
         return 0.0;
     }
-    let part = &profile[first..end];
+    let part = &walk.others[first..end];
     let mut sum = 0.0;
     let mut at = a;
-    let mut action = 0;
-    while action < part.len() {
-        let g = gain(w, profile, at, seat, depth, heads, reach, kept);
-        sum = weighed(part, action, sum, g);
+    for &entry in part {
+        let g = gain(w, walk, at, depth);
+        sum = weighed(entry, sum, g);
         at = behind(w, at);
-        action += 1;
     }
     sum
 }
 
 // The value of an own node at place a with word x: what its child gives, at the set's choice.
 #[cycle(choose_dealt_gain_own_split_total_value)]
-fn own(
-    w: &mut [u64],
-    profile: &[f64],
-    a: usize,
-    x: u64,
-    seat: usize,
-    depth: usize,
-    heads: usize,
-    reach: usize,
-    kept: usize,
-) -> f64
-    requires { Walkable (a + 1) seat depth heads reach kept }
-    ensures { ValuedOwn profile.now seat depth heads reach kept a x w.old w.new result }
+fn own(w: &mut [u64], walk: &Walk<&[f64]>, a: usize, x: u64, depth: usize) -> f64
+    requires { Walkable (a + 1) walk.now.seat depth }
+    ensures { ValuedOwn walk.now.others.now walk.now.seat depth walk.now.at.heads walk.now.at.reach walk.now.at.kept a x w.old w.new result }
 {
-    let choice = choose(
-        w,
-        profile,
-        set(x),
-        actions(x),
-        seat,
-        depth,
-        heads,
-        reach,
-        kept,
-    );
+    let choice = choose(w, walk, set(x), actions(x), depth);
     let at = child(w, a, choice);
-    gain(w, profile, at, seat, depth, heads, reach, kept)
+    gain(w, walk, at, depth)
 }
 
 // The choice of the set whose first entry is given, with so many actions, by the sums over its members.
 #[cycle(choose_dealt_gain_own_split_total_value)]
-fn choose(
-    w: &mut [u64],
-    profile: &[f64],
-    first: usize,
-    count: usize,
-    seat: usize,
-    depth: usize,
-    heads: usize,
-    reach: usize,
-    kept: usize,
-) -> usize
-    requires { Walkable first seat depth heads reach kept }
-    ensures { Chosen profile.now seat depth heads reach kept first count w.old w.new result }
+fn choose(w: &mut [u64], walk: &Walk<&[f64]>, first: usize, count: usize, depth: usize) -> usize
+    requires { Walkable first walk.now.seat depth }
+    ensures { Chosen walk.now.others.now walk.now.seat depth walk.now.at.heads walk.now.at.reach walk.now.at.kept first count w.old w.new result }
 {
-    let known = word(w, kept + first);
+    let known = word(w, walk.at.kept + first);
     if known != 0 {
         return known as usize - 1;
     }
-    let mut lead = start();
-    let mut action = 0;
-    while action < count {
-        let sum = total(w, profile, first, action, seat, depth, heads, reach, kept);
-        lead = past(lead, action, sum);
-        action += 1;
+    let mut lead = Lead::start();
+    for action in 0..count {
+        let sum = total(w, walk, first, action, depth);
+        lead = lead.past(action, sum);
     }
-    put(w, kept + first, lead.action as u64 + 1);
+    put(w, walk.at.kept + first, lead.action as u64 + 1);
     lead.action
 }
 
 // The sum over the set's members, in their order, of reach × what the child behind an action gives.
 #[cycle(choose_dealt_gain_own_split_total_value)]
-fn total(
-    w: &mut [u64],
-    profile: &[f64],
-    first: usize,
-    action: usize,
-    seat: usize,
-    depth: usize,
-    heads: usize,
-    reach: usize,
-    kept: usize,
-) -> f64
-    requires { Walkable first seat depth heads reach kept }
-    ensures { Totalled profile.now seat depth heads reach kept first action w.old w.new result }
+fn total(w: &mut [u64], walk: &Walk<&[f64]>, first: usize, action: usize, depth: usize) -> f64
+    requires { Walkable first walk.now.seat depth }
+    ensures { Totalled walk.now.others.now walk.now.seat depth walk.now.at.heads walk.now.at.reach walk.now.at.kept first action w.old w.new result }
 {
     let mut sum = 0.0;
-    let mut at = (word(w, heads + first) % PLACES) as usize;
+    let mut at = (word(w, walk.at.heads + first) % PLACES) as usize;
     while 0 < at {
         let place = child(w, at, action);
-        let g = gain(w, profile, place, seat, depth, heads, reach, kept);
-        sum = reached(w, reach + at, sum, g);
+        let g = gain(w, walk, place, depth);
+        sum = reached(w, walk.at.reach + at, sum, g);
         let next = later(word(w, at));
         if next <= at {
             return sum;

@@ -3,7 +3,8 @@ use mathlib.Core.Path.{◌≡◌, refl}
 use mathlib.Core.List.{List}
 use Prim.Native.Nat.{ℕ, ◌+◌, ◌-◌, ◌≤◌, ◌<◌}
 use native.Mathlib.Omega.{arith}
-use lib.ListN.{length, get_or}
+use lib.ListN.{length, get_or, take, drop}
+use Rattle.prelude.proofs.Parts.{part_at}
 use lib.Ieee.{Float, nan, binary64, of_int}
 use Rattle.game_tree_f64.specs.Values.{nought, plus, weight}
 use Rattle.arena.specs.internal.Words.{END, CHANCE, kind_of, actions_of, set_of, next_of, payoff_of}
@@ -11,6 +12,11 @@ use Rattle.arena.specs.internal.Walk.{Behind, Fan}
 use Rattle.f64_worths.specs.declared.Two.{Two}
 use Rattle.f64_worths.specs.internal.Expected.{Both, Summed, Walkable, Expected, Gained, Dealt, Moved}
 use Rattle.f64_worths.proofs.Summing as one
+
+-- an entry of a part of the profile is one of the profile
+pub summed_part : (profile : List Float) (e z x : ℕ) (v g r : Two) → x < z - e → Summed v (get_or (take (z - e) (drop e profile)) x nan) g r
+    → Summed v (get_or profile (e + x) nan) g r
+summed_part profile e z x v g r l q = rw (part_at profile e z x nan l) at q
 
 -- both sums start
 abbrev pub Started : Two → Type 0
@@ -80,9 +86,6 @@ module _ (profile : List Float) (w : List ℕ) (a d i : ℕ) where
     pub decide_none : (v : Two) → length profile < set_of y + actions_of y → Both (Moved profile w a y d) i v
     decide_none v o = (one.decide_none profile w a d i y v.first o, one.decide_none profile w a d (i + 1) y v.second o)
 
--- ---- one step down, and one along
-pub walk_down : (a i d : ℕ) → Walkable a i d → (d ≡ 0 → ⊥) → Walkable (a + 1) i (d - 1)
-walk_down a i d h z = record { place = omega (arith, h.place, z); seat = h.seat; shallow = omega (arith, h.shallow) }
-
+-- ---- one step along
 pub walk-along : (a b i d : ℕ) → Walkable a i d → b < 4194304 → Walkable b i d
 walk-along a b i d h l = record { place = omega (arith, h.shallow); seat = h.seat; shallow = h.shallow }

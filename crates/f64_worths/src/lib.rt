@@ -1,5 +1,6 @@
 // What a profile is worth to two seats, one behind the other, in f64, read of a tree in work memory. No word is trusted: where no tree is held an answer means
-// nothing, and the call still ends.
+// nothing, and the call still ends. The profile and the seat are handed on as they are, since nothing is stored behind the tree and a walk's places say nothing
+// here.
 #![tactic(auto)]
 
 ghost use Rattle.std.specs.Prelude.{◌≡◌, ◌+◌, ◌<◌, ◌≤◌, length, get_or};
@@ -10,10 +11,10 @@ ghost use Rattle.game_tree_f64.specs.Values.{nought, plus};
 ghost use Rattle.f64_worths.specs.internal.Expected.{Both, Summed, Walkable, Expected, Gained, Dealt, Moved};
 
 use arena::walk::{behind, fan};
-use arena::words::{CHANCE, END, actions, kind, next, set, word};
+use arena::words::{Node, actions, kind, next, set, word};
 use f64_numbers::{payoff_of, weighed, weight};
 
-// A number for each of two seats.
+// A number for each of two seats. Kept as a struct, since two numbers go in registers where an array goes through memory.
 #[derive(Clone, Copy)]
 pub struct Two {
     pub first: f64,
@@ -35,21 +36,8 @@ fn more(v: Two, p: f64, g: Two) -> Two
     ensures { Summed v p g result }
 {
     Two {
-        first: v.first + p * g.first,
-        second: v.second + p * g.second,
-    }
-}
-
-// The same with the entry of an action, in its set's own part of the profile, which stands between entries first and end.
-fn moved(profile: &[f64], first: usize, end: usize, action: usize, v: Two, g: Two) -> Two
-    requires { (first < 16384) × (first + action < end) × (end ≤ length profile.now) }
-    ensures { Summed v (get_or profile.now (first + action) nan) g result }
-{
-    let one = weighed(&profile[first..end], action, v.first, g.first);
-    let other = weighed(&profile[first..end], action, v.second, g.second);
-    Two {
-        first: one,
-        second: other,
+        first: weighed(p, v.first, g.first),
+        second: weighed(p, v.second, g.second),
     }
 }
 
@@ -86,14 +74,11 @@ pub fn worths(w: &[u64], profile: &[f64], a: usize, seat: usize, depth: usize) -
         return none();
     }
     let x = word(w, a);
-    let sort = kind(x);
-    if sort == END {
-        return none();
+    match kind(x) {
+        Node::End => none(),
+        Node::Chance => deal(w, profile, a + 1, next(x), seat, depth - 1),
+        _ => decide(w, profile, a + 1, x, seat, depth - 1),
     }
-    if sort == CHANCE {
-        return deal(w, profile, a + 1, next(x), seat, depth - 1);
-    }
-    decide(w, profile, a + 1, x, seat, depth - 1)
 }
 
 // g of the child at place a: of an end at once, without a call.
@@ -103,10 +88,10 @@ fn gains(w: &[u64], profile: &[f64], a: usize, seat: usize, depth: usize) -> Two
     ensures { Both (Gained profile.now w.now a depth) seat result }
 {
     let x = word(w, a);
-    if kind(x) == END {
-        return paid(x, seat);
+    match kind(x) {
+        Node::End => paid(x, seat),
+        _ => unpaid(worths(w, profile, a, seat, depth)),
     }
-    unpaid(worths(w, profile, a, seat, depth))
 }
 
 // The sums over the children of a chance node, which stand between places a and end.
@@ -132,6 +117,7 @@ fn deal(w: &[u64], profile: &[f64], a: usize, end: usize, seat: usize, depth: us
 }
 
 // The sums over the children of a decision with word x, the first at place a.
+// Kept written out for two children and a third, since a loop looks for the place behind the last child in vain.
 #[cycle(deal_decide_gains_worths)]
 fn decide(w: &[u64], profile: &[f64], a: usize, x: u64, seat: usize, depth: usize) -> Two
     requires { Walkable a seat depth }
@@ -146,15 +132,16 @@ fn decide(w: &[u64], profile: &[f64], a: usize, x: u64, seat: usize, depth: usiz
     if profile.len() < end {
         return none();
     }
+    let part = &profile[first..end];
     let zero = gains(w, profile, a, seat, depth);
-    let sums = moved(profile, first, end, 0, none(), zero);
+    let sums = more(none(), part[0], zero);
     let b = behind(w, a);
     let one = gains(w, profile, b, seat, depth);
-    let both = moved(profile, first, end, 1, sums, one);
+    let both = more(sums, part[1], one);
     if count == 2 {
         return both;
     }
     let c = behind(w, b);
     let two = gains(w, profile, c, seat, depth);
-    moved(profile, first, end, 2, both, two)
+    more(both, part[2], two)
 }

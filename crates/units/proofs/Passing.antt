@@ -1,7 +1,6 @@
 -- What a walk passes on: units, and a set's own part of the table. Assumes nothing.
-use Rattle.std.proofs.Common.{◌≡◌, ℕ, ◌+◌, ◌-◌, ◌*◌, ◌/◌, ◌^◌, ◌<◌, ◌≤◌, List, get_or, take, drop, sym, ap, ◌∙◌, arith}
+use Rattle.std.proofs.Common.{◌≡◌, ℕ, ◌*◌, ◌/◌, ◌^◌, ◌<◌, ◌≤◌, sym, ap, ◌∙◌, arith}
 use native.Mathlib.Nat as NatL
-use Rattle.prelude.proofs.Parts.{part_at}
 use Rattle.units.specs.internal.Readable.{Walkable, UNITS}
 
 -- ---- units
@@ -14,19 +13,9 @@ product-few u p d h g m = let e : u * p ≤ u * 64 = NatL.mul-le-mul_left {m = p
 pub quotient_few : (u c : ℕ) → u < UNITS → u / c < UNITS
 quotient_few u c h = omega (arith, NatL.div-le_self u c)
 
--- ---- one step down, and one along
-pub walk_down : (a u v D d : ℕ) → Walkable a u D d → (d ≡ 0 → ⊥) → v < UNITS → Walkable (a + 1) v D (d - 1)
-walk_down a u v D d h z g = record { place = omega (arith, h.place, z); shallow = omega (arith, h.shallow); units = g; least = h.least; most = h.most }
-
-pub walk-along : (a b u v D d : ℕ) → Walkable a u D d → b < 4194304 → v < UNITS → Walkable b v D d
-walk-along a b u v D d h l g = record { place = omega (arith, h.shallow); shallow = h.shallow; units = g; least = h.least; most = h.most }
-
-pub walk_here : (a u v D d : ℕ) → Walkable a u D d → v < UNITS → Walkable a v D d
-walk_here a u v D d h g = record { place = h.place; shallow = h.shallow; units = g; least = h.least; most = h.most }
-
--- ---- the set's own part of the table
-pub part_shares : (table : List ℕ) (e z c u v D : ℕ) → c < z - e → (get_or (take (z - e) (drop e table)) c 0 ≤ D → v ≡ u * get_or (take (z - e) (drop e table)) c 0 / D) → get_or table (e + c) 0 ≤ D → v ≡ u * get_or table (e + c) 0 / D
-part_shares table e z c u v D l q = rw (part_at table e z c 0 l) at q
+-- ---- one step along
+pub walk-along : (a b u v d : ℕ) → Walkable a u d → b < 4194304 → v < UNITS → Walkable b v d
+walk-along a b u v d h l g = record { place = omega (arith, h.shallow); shallow = h.shallow; units = g }
 
 -- ---- units that divide evenly
 -- p parts of d of u units, where u is d times q

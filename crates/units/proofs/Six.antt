@@ -1,15 +1,24 @@
 -- Six sums modulo 2^64. Assumes nothing.
-use Rattle.std.proofs.Common.{◌≡◌, ℕ, ◌+◌, ◌*◌, ◌%◌, ◌^◌, ◌<◌, ◌≤◌, [], ◌∷◌, get_or, sym, refl, ap, ◌∙◌, arith, w64, Fits}
+use Rattle.std.proofs.Common.{◌≡◌, ℕ, ◌+◌, ◌*◌, ◌%◌, ◌^◌, ◌<◌, ◌≤◌, List, get_or, set, replicate, cond, ltb, lt-ltb, sym, ap, ◌∙◌, arith, w64, Fits}
 use native.Mathlib.Nat as NatL
 use Rattle.prelude.specs.Finite.{places}
-use Rattle.prelude.proofs.Lists.{get_d_places}
+use Rattle.prelude.proofs.Lists.{get_d_places, places_same, filled_none, filled_more}
 use Rattle.units.specs.internal.Sums.{wrapped}
 use Rattle.units.specs.internal.Readable.{UNITS}
 
-pub six : (f : ℕ → ℕ) (a b c d e g : ℕ) → a ≡ f 0 % 2 ^ 64 → b ≡ f 1 % 2 ^ 64 → c ≡ f 2 % 2 ^ 64 → d ≡ f 3 % 2 ^ 64 → e ≡ f 4 % 2 ^ 64 → g ≡ f 5 % 2 ^ 64
-    → a ∷ b ∷ c ∷ d ∷ e ∷ g ∷ [] ≡ wrapped f
-unfolding wrapped places
-six f a b c d e g p q r s t u = rw (p, q, r, s, t, u) refl
+-- ---- six sums made one after the other: the first k of them
+abbrev pub Filled : (f : ℕ → ℕ) (k : ℕ) (l : List ℕ) → Type 0
+Filled f k l = l ≡ places 6 (λ i. cond (ltb i k) (f i % 2 ^ 64) 0)
+
+pub filled-start : (f : ℕ → ℕ) → Filled f 0 (replicate 6 0)
+filled-start f = filled_none 6 (λ i. f i % 2 ^ 64) 0
+
+pub filled_next : (f : ℕ → ℕ) (k x : ℕ) (l : List ℕ) → k < 6 → x ≡ f k % 2 ^ 64 → Filled f k l → Filled f (k + 1) (set l k x)
+filled_next f k x l h e g = rw (g, e) (filled_more 6 (λ i. f i % 2 ^ 64) 0 k h)
+
+pub filled_all : (f : ℕ → ℕ) (k : ℕ) (l : List ℕ) → 6 ≤ k → Filled f k l → l ≡ wrapped f
+unfolding wrapped
+filled_all f k l h g = g ∙ places_same 6 _ _ (λ i w. ap (λ b. cond b (f i % 2 ^ 64) 0) (lt-ltb i k (omega arith)))
 
 pub wrapped_at : (f : ℕ → ℕ) (i : ℕ) → i < 6 → get_or (wrapped f) i 0 ≡ f i % 2 ^ 64
 unfolding wrapped

@@ -1,5 +1,5 @@
-// What goes on to an action of the units at a decision.
-ghost use Rattle.std.specs.Prelude.{◌≡◌, ◌*◌, ◌/◌, ◌^◌, ◌<◌, ◌≤◌, length, slice_index};
+// A table of whole parts, and what goes on by it of the units at a decision.
+ghost use Rattle.std.specs.Prelude.{◌≡◌, ◌*◌, ◌/◌, ◌^◌, ◌<◌, ◌≤◌};
 ghost use Rattle.units.specs.internal.Readable.{UNITS};
 
 // The units of an action's child: its parent's, times the action's part, over the parts of the set.
@@ -10,26 +10,29 @@ fn decision_share(units: u64, part: u64, parts: u64) -> u64
     units * part / parts
 }
 
-// A part as a number.
-fn wide(x: u8) -> u64
-    ensures { result ≡ x }
-{
-    x as u64
+// The parts of the actions, set by set, of so many in each set.
+#[derive(Clone, Copy)]
+pub struct Table<'a> {
+    pub entries: &'a [u8],
+    pub parts: usize,
+    ghost least: { 1 ≤ parts },
+    ghost most: { parts ≤ 64 },
 }
 
-// Of u units, what goes on to action a of the set whose own part of a table with d parts in each set is given; each is u / d, so that units which divide
-// evenly are divided once for all actions.
-pub fn share(part: &[u8], a: usize, u: u64, d: usize, each: u64) -> u64
-    requires { (a < length part.now) × (u < UNITS) × (1 ≤ d) × (d ≤ 64) × (each ≡ u / d) }
-    ensures { (result < UNITS) × (slice_index part.now a ≤ d → result ≡ u * slice_index part.now a / d) }
-{
-    let parts = wide(part[a]);
-    let whole = d as u64;
-    if whole < parts {
-        return 0;
+impl Table<'_> {
+    // Of u units, what goes on to an action with part parts; each is u / parts, so that units which divide evenly are divided once for all actions of a set.
+    pub fn share(&self, part: u8, u: u64, each: u64) -> u64
+        requires { (u < UNITS) × (each ≡ u / self.now.parts) }
+        ensures { (result < UNITS) × (part ≤ self.now.parts → result ≡ u * part / self.now.parts) }
+    {
+        let part = u64::from(part);
+        let whole = self.parts as u64;
+        if whole < part {
+            return 0;
+        }
+        if each * whole == u {
+            return each * part;
+        }
+        decision_share(u, part, whole)
     }
-    if each * whole == u {
-        return each * parts;
-    }
-    decision_share(u, parts, whole)
 }

@@ -17,8 +17,7 @@ use Rattle.game_tree.specs.Sets.{size, entries, first_entry, set_count}
 use Rattle.game_tree.specs.Table.{Table, strategy_of, table_of, table_best, reply_table}
 use Rattle.game_tree.proofs.Against.{every_both}
 use Rattle.game_tree.proofs.TableTheorem.{table-valid}
-use Rattle.games.specs.declared.Game.{Game}
-use Rattle.games.specs.Games.{tree_of, C, m, root_units}
+use Rattle.games.specs.Games.{Game, tree_of, C, m, root_units}
 use Rattle.games.specs.Facts.{nodes_of, entries_of, sets_of}
 use Rattle.games.proofs.Facts.{reply-best, games_fit, nodes_are, entries_are, counted_games}
 use Rattle.arena.specs.internal.Index.{later_in, Cleared}
@@ -26,7 +25,7 @@ use Rattle.units.specs.internal.Readable.{Readable, UNITS}
 use Rattle.units.specs.internal.Gain.{gain, set_gain, topmost, Stocked}
 use Rattle.units.proofs.Gains.{gain_bound, set-gain_bound}
 use Rattle.units.proofs.Choices.{best-gains, gain-best}
-use Rattle.units_collect.specs.internal.Collected.{Storable, Collected}
+use Rattle.units_collect.specs.internal.Collected.{Collected}
 use Rattle.units_collect.proofs.Storing.{stocked_same}
 use Rattle.arena_walks.specs.internal.Stage.{Stage, Memo}
 use Rattle.units_values.specs.internal.Valued.{Scene, Valued, Walkable}
@@ -34,14 +33,13 @@ use Rattle.units_reply.specs.internal.Laid.{Tabled, replied, Laid}
 use Rattle.units_values.proofs.Scenes.{root_here}
 use Rattle.arena_store.specs.internal.Stored.{heads_of, Stored}
 use Rattle.arena_store.specs.internal.Places.{reach_at, kept_at, places_of}
-use Rattle.arena_store.specs.declared.Places.{Places}
+use Rattle.arena_walks.specs.declared.Places.{Places}
 use Rattle.arena_store.proofs.Shaped.{games_shaped, some_actions}
 use Rattle.arena_store.proofs.Room.{Roomy, roomy}
 use Rattle.arena_store.proofs.Staging as behind
 use Rattle.tree_refusals.specs.Accepted.{AcceptedTable}
 use Rattle.units_worths.proofs.Facts.{units-fit, games_readable}
-use Rattle.units_worths.proofs.Lowering.{pays_sixty, back, few_parts}
-use Rattle.units_worths.proofs.Standing as standing
+use Rattle.units_worths.proofs.Lowering.{pays_sixty, back}
 use Rattle.units_best.specs.internal.Best.{Unbeaten}
 use Rattle.units_best.specs.Best.{BestReply}
 use Rattle.units_best.specs.internal.Staged.{Staged}
@@ -151,21 +149,15 @@ module _ (g : Game) (D i : ℕ) (table : Table) (a : AcceptedTable g D table) (l
       pub stored : Stored g e
       stored = behind.still_stored g a.game i l c v z x long same length_is e found.0
 
-  pub parts_few : D ≤ 64
-  parts_few = few_parts g D table a
-
   -- the same by the numbers in hand
   module _ (p : Places) (q : p ≡ places_of g) where
     pub near : (E : ℕ) → E ≡ entries_of g → p.kept + E ≤ 8388608
     near E e = rw q (omega (arith, room.near))
 
-    pub walks : Walkable 0 i 32 p.heads p.reach p.kept
-    walks = rw q (record { place = omega arith; seat = omega (arith, l, (games_shaped g a.game).most); shallow = omega arith; heads = omega (arith, room.near); units = omega (arith, room.near); kept = omega (arith, room.near) })
+    pub walks : Walkable 0 i 32
+    walks = record { place = omega arith; seat = omega (arith, l, (games_shaped g a.game).most); shallow = omega arith }
 
     module _ (u : ℕ) (j : (u ≡ U) × (u < UNITS)) where
-      pub storable : Storable 0 u D p.reach 32
-      storable = standing.storable g D table a p.reach (ap (λ x. x.reach) q) u j
-
       module _ (E : ℕ) (t : E ≡ entries_of g) (v w z y : List ℕ) (x : Stored g v) (long : 12 * nodes_of g ≤ length v) (o : Collected table D i p.reach 0 u 32 v w)
           (r : Cleared p.kept (p.kept + E) w z) (sum : ℕ) (k : Valued i 32 p.heads p.reach p.kept 0 z y sum) where
         o' : Collected table D i (reach_at g) 0 U 32 v w

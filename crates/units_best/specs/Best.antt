@@ -2,8 +2,7 @@
 use Rattle.std.specs.Prelude.{ℕ, ℤ}
 use Rattle.game_tree.specs.Table.{Table}
 use Rattle.game_tree.specs.Table as AnyTree
-use Rattle.games.specs.declared.Game.{Game}
-use Rattle.games.specs.Games.{tree_of, m, root_units}
+use Rattle.games.specs.Games.{Game, tree_of, m, root_units}
 
 -- the reply is such a table: valid, with every other seat's entries as given; it is worth the value, and none is worth more,
 -- nor is a rival of any grain

@@ -6,8 +6,8 @@ ghost use Rattle.std.specs.Prelude.{◌≡◌, ◌*◌, ◌≤◌, ◌<◌, leng
 ghost use Rattle.std.proofs.lemmas.List.Edits.{sets};
 ghost use Rattle.game_tree.specs.Table.{table_best, reply_table};
 ghost use Rattle.games.specs.Games.{tree_of, root_units};
+ghost use Rattle.games.specs.internal.Numbered.{numbered};
 ghost use Rattle.games.specs.Facts.{nodes_of};
-ghost use Rattle.tree_refusals.specs.Accepted.{AcceptedTable};
 ghost use Rattle.arena_store.specs.internal.Stored.{Stored};
 ghost use Rattle.units_best.specs.internal.Best.{Unbeaten};
 ghost use Rattle.units_best.specs.Best.{BestReply};
@@ -15,52 +15,55 @@ ghost use Rattle.units_best.specs.internal.Staged.{Staged};
 
 use arena::words::clear;
 use arena_store::places_of;
-use arena_walks::DEPTH;
-use games::Game;
+use arena_walks::{DEPTH, Walk};
+use tree_refusals::accepted::GameTable;
+use units::shares::Table;
 use units_collect::collect;
 use units_reply::write_reply;
 use units_values::values::value;
 use units_worths::root_units;
 use units_worths::worths::lowered;
 
-// The best value of a seat against a table that is not refused. From at.reach on stand the units of each node.
-pub fn best_value(g: Game, words: &mut [u64], seat: usize, d: usize, table: &[u8]) -> i64
-    requires { Stored g words.old × AcceptedTable g d table.now × (seat < g.seats) × (12 * nodes_of g ≤ length words.old) }
-    ensures { (result ≡ table_best (tree_of g) d (root_units g d) table.now seat) × Unbeaten g d seat table.now result
-        × Staged g d seat table.now words.new × Stored g words.new }
+// The best value of a seat against a table. From at.reach on stand the units of each node.
+pub fn best_value(table: &GameTable, words: &mut [u64], seat: usize) -> i64
+    requires { Stored (numbered table.now.game) words.old × (seat < (numbered table.now.game).seats)
+        × (12 * nodes_of (numbered table.now.game) ≤ length words.old) }
+    ensures { (result ≡ table_best (tree_of (numbered table.now.game)) table.now.parts (root_units (numbered table.now.game) table.now.parts) table.now.entries.now seat)
+        × Unbeaten (numbered table.now.game) table.now.parts seat table.now.entries.now result
+        × Staged (numbered table.now.game) table.now.parts seat table.now.entries.now words.new × Stored (numbered table.now.game) words.new }
 {
-    let at = places_of(g);
-    let u = root_units(g, d);
-    collect(words, table, 0, u, seat, d, at.reach, DEPTH);
-    clear(words, at.kept, at.kept + g.entries());
-    let sum = value(words, 0, seat, DEPTH, at.heads, at.reach, at.kept);
+    let at = places_of(table.game);
+    let u = root_units(table.game, table.parts);
+    let walk = Walk {
+        others: Table {
+            entries: table.entries,
+            parts: table.parts,
+        },
+        seat,
+        at,
+    };
+    collect(words, &walk, 0, u, DEPTH);
+    clear(words, at.kept, at.kept + table.game.entries());
+    let sum = value(words, &walk, 0, DEPTH);
     lowered(sum, u)
 }
 
 // Writes the seat's reply to the table to out, from the choices that best_value has left in the words.
-pub fn write_best_reply(
-    g: Game,
-    words: &mut [u64],
-    seat: usize,
-    d: usize,
-    table: &[u8],
-    out: &mut [u8],
-)
-    requires { Staged g d seat table.now words.old × AcceptedTable g d table.now × (seat < g.seats) }
-    ensures { (out.new ≡ sets out.old 0 (reply_table (tree_of g) d (root_units g d) table.now seat))
-        × BestReply g d seat table.now (table_best (tree_of g) d (root_units g d) table.now seat)
-        (reply_table (tree_of g) d (root_units g d) table.now seat) }
+pub fn write_best_reply(table: &GameTable, words: &mut [u64], seat: usize, out: &mut [u8])
+    requires { Staged (numbered table.now.game) table.now.parts seat table.now.entries.now words.old × (seat < (numbered table.now.game).seats) }
+    ensures { (out.new ≡ sets out.old 0 (reply_table (tree_of (numbered table.now.game)) table.now.parts
+        (root_units (numbered table.now.game) table.now.parts) table.now.entries.now seat))
+        × BestReply (numbered table.now.game) table.now.parts seat table.now.entries.now
+        (table_best (tree_of (numbered table.now.game)) table.now.parts (root_units (numbered table.now.game) table.now.parts) table.now.entries.now seat)
+        (reply_table (tree_of (numbered table.now.game)) table.now.parts (root_units (numbered table.now.game) table.now.parts) table.now.entries.now seat) }
 {
-    let at = places_of(g);
-    write_reply(
-        words,
-        table,
-        out,
-        g.sets(),
+    let walk = Walk {
+        others: Table {
+            entries: table.entries,
+            parts: table.parts,
+        },
         seat,
-        d,
-        at.heads,
-        at.reach,
-        at.kept,
-    );
+        at: places_of(table.game),
+    };
+    write_reply(words, &walk, out, table.game.sets());
 }

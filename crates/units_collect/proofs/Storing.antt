@@ -5,7 +5,10 @@ use mathlib.Core.List.{List}
 use Prim.Native.Nat.{ℕ, suc, ◌+◌, ◌-◌, ◌*◌, ◌/◌, ◌≤◌, ◌<◌}
 use native.Mathlib.Omega.{arith}
 use lib.Dec.{eqb}
-use lib.ListN.{length, get_or, set, length-set}
+use Rattle.std.proofs.Common.{ap₂}
+use Rattle.std.proofs.lemmas.List.{get_or-take, get_or-drop}
+use Rattle.prelude.proofs.Parts.{part_length}
+use lib.ListN.{length, get_or, set, take, drop, length-set}
 use lib.Seq.{get_or-set_same, get_or-set_other}
 use borrow.Author.Tests.{eq-eqb, eqb-true}
 use Rattle.prelude.proofs.Tests.{Tested, holds, fails, tested}
@@ -19,13 +22,12 @@ use Rattle.arena.specs.internal.Held.{Says, Held}
 use Rattle.arena.specs.internal.Walk.{Behind, Fan}
 use Rattle.arena.specs.internal.Index.{Kept, Alike}
 use Rattle.arena.proofs.Building.{size_some, kept_none, kept_join, kept_set}
-use Rattle.units.specs.internal.Readable.{Readable, ReadableAll, UNITS}
+use Rattle.units.specs.internal.Readable.{Readable, ReadableAll}
 use Rattle.units.specs.internal.Gain.{given, Stocked, StockedAll}
 use Rattle.arena.proofs.Reading.{deep_some}
 use Rattle.units.proofs.Reading.{chance-row, decide-row, first, rest, near}
-use Rattle.units.proofs.Passing.{walk_down, walk-along, walk_here}
 use Rattle.arena.proofs.Staying.{Same, alike-join, alike-held, alike-row}
-use Rattle.units_collect.specs.internal.Collected.{Storable, Collected, CollectedAll, Each, Dealt, Moved, Shared}
+use Rattle.units_collect.specs.internal.Collected.{Collected, CollectedAll, Each, Dealt, Moved, Shared}
 
 -- ---- words that stay
 kept_at : (a b c d : ℕ) (v w : List ℕ) → a ≡ b → c ≡ d → Kept a c v w → Kept b d v w
@@ -190,18 +192,22 @@ module _ (table : List ℕ) (D i b a u d : ℕ) (old : List ℕ) where
     pub decide_none : length table < set_of y + actions_of y → CollectedAll (Moved table D i a y u) table D i b a d old old
     decide_none e = record { same = λ p l. refl; long = refl; is = λ w n T f g l h r R m k. absurd (omega (arith, R.set, R.actions, R.entered.2)) }
 
-    pub decide-other : (new : List ℕ) (s c : ℕ) → (actor_of y ≡ i → ⊥) → s ≡ set_of y → c ≡ actions_of y → CollectedAll (Shared table D s (s + c) u) table D i b a d old new → CollectedAll (Moved table D i a y u) table D i b a d old new
-    decide-other new s c e o p q = record {
+    pub decide-other : (new : List ℕ) (s c : ℕ) → (actor_of y ≡ i → ⊥) → s ≡ set_of y → c ≡ actions_of y → s + c ≤ length table
+        → CollectedAll (Shared table (take (s + c - s) (drop s table)) D u) table D i b a d old new → CollectedAll (Moved table D i a y u) table D i b a d old new
+    decide-other new s c e o p z q = record {
       same = q.same;
       long = q.long;
       is = λ w n T f g l h r R m k. q.is w n T f g l h r (record {
         seat = R.seat;
         key = R.key;
-        set = o ∙ R.set;
-        actions = ap (λ x. s + x) (p ∙ R.actions);
+        own = ap₂ (λ m e. take m (drop e table)) (few R.actions) (o ∙ R.set);
+        long = part_length table s (s + c) z ∙ few R.actions;
         gives = λ x. R.gives x ∙ given-other (strategy_of T table) R.seat R.key x (λ j. e (R.actor ∙ j));
       }) m k;
     }
+      where
+        few : {n : ℕ} → actions_of y ≡ n → s + c - s ≡ n
+        few e = omega (arith, p, e)
 
 -- ---- a row, tree by tree
 module _ (table : List ℕ) (D i b a d : ℕ) (old : List ℕ) where
@@ -329,41 +335,35 @@ module _ (table : List ℕ) (D i b a d : ℕ) (old : List ℕ) where
     }
 
   -- ---- as the table says
-  module _ (e z u : ℕ) where
-    pub shared_start : SoFar (Shared table D e z u) (λ c. c ≡ 0) a old
+  module _ (part : List ℕ) (u : ℕ) where
+    pub shared_start : SoFar (Shared table part D u) (λ c. c ≡ 0) a old
     shared_start = record { same = λ p l. refl; long = refl; going = λ w n T f g l h r R m k. (0, refl, going_start w n T l f g r) }
 
     -- what action c is given
-    shared_gives : (c s : ℕ) → (get_or table (e + c) 0 ≤ D → s ≡ u * get_or table (e + c) 0 / D) → ((x : ℕ) → get_or table x 0 ≤ D) → (T : Tree) (f : Trees) (g : ℕ → ℕ) → Shared table D e z u T f g → g c ≡ s
+    shared_gives : (c s : ℕ) → c < length part → (get_or part c 0 ≤ D → s ≡ u * get_or part c 0 / D) → ((x : ℕ) → get_or table x 0 ≤ D) → (T : Tree) (f : Trees) (g : ℕ → ℕ)
+        → Shared table part D u T f g → g c ≡ s
     unfolding strategy_of
-    shared_gives c s h few T f g R = R.gives c ∙ ap (λ x. u * get_or table (x + c) 0 / D) (sym R.set) ∙ sym (h (few (e + c)))
+    shared_gives c s l h few T f g R =
+        let e = first_entry T R.seat R.key in
+        let q : get_or part c 0 ≡ get_or table (e + c) 0 = ap (λ p. get_or p c 0) R.own ∙ get_or-take (fan f) (drop e table) c 0 (omega (arith, l, R.long)) ∙ get_or-drop e table c 0 in
+        R.gives c ∙ sym (ap (λ p. u * p / D) q) ∙ sym (h (rw q (few (e + c))))
 
-    pub shared_more : (p c q s : ℕ) (v x : List ℕ) → SoFar (Shared table D e z u) (λ y. y ≡ c) p v → c < z - e → (get_or table (e + c) 0 ≤ D → s ≡ u * get_or table (e + c) 0 / D) → Collected table D i b p s d v x
-        → Behind x p q → SoFar (Shared table D e z u) (λ y. y ≡ c + 1) q x
+    pub shared_more : (p c q s : ℕ) (v x : List ℕ) → SoFar (Shared table part D u) (λ y. y ≡ c) p v → c < length part → (get_or part c 0 ≤ D → s ≡ u * get_or part c 0 / D) → Collected table D i b p s d v x
+        → Behind x p q → SoFar (Shared table part D u) (λ y. y ≡ c + 1) q x
     shared_more p c q s v x S m y N B = record {
       same = alike-join b old v x S.same N.same;
       long = N.long ∙ S.long;
       going = λ w n T f g l h r R o k.
           let G = S.going w n T f g l h r R o k in
-          let here : g G.0 ≡ s = ap g G.1 ∙ shared_gives c s y r.few T f g R in
-          (G.0 + 1, ap (λ y. y + 1) G.1, going_more w n T l f g p G.0 q s v x h S.same S.long o k N B G.2 (omega (arith, G.1, R.actions)) here);
+          let here : g G.0 ≡ s = ap g G.1 ∙ shared_gives c s m y r.few T f g R in
+          (G.0 + 1, ap (λ y. y + 1) G.1, going_more w n T l f g p G.0 q s v x h S.same S.long o k N B G.2 (omega (arith, G.1, R.long)) here);
     }
 
-    pub shared_end : (p c : ℕ) (v : List ℕ) → SoFar (Shared table D e z u) (λ y. y ≡ c) p v → z - e ≤ c → CollectedAll (Shared table D e z u) table D i b a d old v
+    pub shared_end : (p c : ℕ) (v : List ℕ) → SoFar (Shared table part D u) (λ y. y ≡ c) p v → length part ≤ c → CollectedAll (Shared table part D u) table D i b a d old v
     shared_end p c v S m = record {
       same = S.same;
       long = S.long;
       is = λ w n T f g l h r R o k.
           let G = S.going w n T f g l h r R o k in
-          going_end w n T l f g p G.0 v G.2 (omega (arith, G.1, R.actions));
+          going_end w n T l f g p G.0 v G.2 (omega (arith, G.1, R.long));
     }
-
--- ---- one step down, and one along
-pub store_down : (a u D b d : ℕ) → Storable a u D b d → (d ≡ 0 → ⊥) → Storable (a + 1) u D b (d - 1)
-store_down a u D b d h z = record { walk = walk_down a u u D d h.walk z h.walk.units; base = h.base }
-
-pub store_along : (a p u v D b d : ℕ) → Storable a u D b d → p < 4194304 → v < UNITS → Storable p v D b d
-store_along a p u v D b d h l g = record { walk = walk-along a p u v D d h.walk l g; base = h.base }
-
-pub store_here : (a u v D b d : ℕ) → Storable a u D b d → v < UNITS → Storable a v D b d
-store_here a u v D b d h g = record { walk = walk_here a u v D d h.walk g; base = h.base }

@@ -5,19 +5,19 @@ ghost use Rattle.units_collect.specs.internal.Ends.{end_gains, WithNode};
 ghost use Rattle.arena.specs.internal.Words.{PLACES};
 ghost use Rattle.units.specs.internal.Readable.{UNITS};
 
-use arena::words::{END, kind, word};
+use arena::words::{Node, kind, word};
 use units::UNITS;
-use units::sums::{Sums, add, earned, none};
+use units::sums::Sums;
 
 // The sums, and what y units of the node with word x are worth.
 fn with_node(sums: Sums, x: u64, y: u64) -> Sums
     requires { y < UNITS }
     ensures { WithNode x y sums.of result.of }
 {
-    if kind(x) != END {
-        return sums;
+    match kind(x) {
+        Node::End => sums.plus(Sums::earned(x, y)),
+        _ => sums,
     }
-    add(sums, earned(x, y))
 }
 
 // What the nodes below place nodes are worth to each seat, with the units of place p at place units + p.
@@ -25,12 +25,9 @@ pub fn end_sums(w: &[u64], nodes: usize, units: usize) -> Sums
     requires { (nodes ≤ PLACES) × (units ≤ 8388608) }
     ensures { Summed (λ i. end_gains w.now units i 0 nodes) result.of }
 {
-    let mut sums = none();
-    let mut a = 0;
-    while a < nodes {
-        let x = word(w, a);
-        sums = with_node(sums, x, word(w, units + a) % UNITS);
-        a += 1;
+    let mut sums = Sums::none();
+    for a in 0..nodes {
+        sums = with_node(sums, word(w, a), word(w, units + a) % UNITS);
     }
     sums
 }

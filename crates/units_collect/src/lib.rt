@@ -4,136 +4,84 @@
 pub mod ends;
 
 ghost use Rattle.std.specs.Prelude.{◌≤◌, length};
-ghost use Rattle.units_collect.specs.internal.Collected.{Collected, CollectedAll, Dealt, Each, Moved, Shared, Storable};
+ghost use Rattle.units.specs.internal.Readable.{Walkable};
+ghost use Rattle.units_collect.specs.internal.Collected.{Collects, CollectsAll, Dealt, Each, Moved, Shared};
 
 use arena::walk::{behind, fan};
-use arena::words::{CHANCE, END, actions, actor, kind, next, put, set, word};
-use units::shares::share;
+use arena::words::{Node, actions, actor, kind, next, put, set, word};
+use arena_walks::Walk;
+use units::shares::Table;
 
-// Stores the units of each node of the tree at place a, from u units: those of place p at place units + p.
+// Stores the units of each node of the tree at place a, from u units: those of place p at place reach + p of the walk.
 #[cycle(collect_deal_decide_divide_one_spread)]
-pub fn collect(
-    w: &mut [u64],
-    table: &[u8],
-    a: usize,
-    u: u64,
-    seat: usize,
-    d: usize,
-    units: usize,
-    depth: usize,
-)
-    requires { Storable a u d units depth }
-    ensures { Collected table.now d seat units a u depth w.old w.new }
+pub fn collect(w: &mut [u64], walk: &Walk<Table>, a: usize, u: u64, depth: usize)
+    requires { Walkable a u depth }
+    ensures { Collects walk.now a u depth w.old w.new }
 {
     if depth == 0 {
         return;
     }
-    put(w, units + a, u);
+    put(w, walk.at.reach + a, u);
     let x = word(w, a);
-    let sort = kind(x);
-    if sort == END {
-        return;
+    match kind(x) {
+        Node::End => {}
+        Node::Chance => deal(w, walk, a + 1, next(x), u, depth - 1),
+        _ => decide(w, walk, a + 1, x, u, depth - 1),
     }
-    if sort == CHANCE {
-        deal(w, table, a + 1, next(x), u, seat, d, units, depth - 1);
-        return;
-    }
-    decide(w, table, a + 1, x, u, seat, d, units, depth - 1);
 }
 
 // The same of the children of a chance node, which stand between places a and end.
 #[cycle(collect_deal_decide_divide_one_spread)]
-fn deal(
-    w: &mut [u64],
-    table: &[u8],
-    a: usize,
-    end: usize,
-    u: u64,
-    seat: usize,
-    d: usize,
-    units: usize,
-    depth: usize,
-)
-    requires { Storable a u d units depth }
-    ensures { CollectedAll (Dealt a end u) table.now d seat units a depth w.old w.new }
+fn deal(w: &mut [u64], walk: &Walk<Table>, a: usize, end: usize, u: u64, depth: usize)
+    requires { Walkable a u depth }
+    ensures { CollectsAll (Dealt a end u) walk.now a depth w.old w.new }
 {
     let count = fan(w, a, end);
     if count == 0 {
         return;
     }
-    spread(w, table, a, end, u / count as u64, seat, d, units, depth);
+    spread(w, walk, a, end, u / count as u64, depth);
 }
 
 // The same of the children of a decision with word x: own moves pass all units on.
 #[cycle(collect_deal_decide_divide_one_spread)]
-fn decide(
-    w: &mut [u64],
-    table: &[u8],
-    a: usize,
-    x: u64,
-    u: u64,
-    seat: usize,
-    d: usize,
-    units: usize,
-    depth: usize,
-)
-    requires { Storable a u d units depth }
-    ensures { CollectedAll (Moved table.now d seat a x u) table.now d seat units a depth w.old w.new }
+fn decide(w: &mut [u64], walk: &Walk<Table>, a: usize, x: u64, u: u64, depth: usize)
+    requires { Walkable a u depth }
+    ensures { CollectsAll (Moved walk.now.others.entries.now walk.now.others.parts walk.now.seat a x u) walk.now a depth w.old w.new }
 {
-    if actor(x) == seat {
-        spread(w, table, a, next(x), u, seat, d, units, depth);
+    if actor(x) == walk.seat {
+        spread(w, walk, a, next(x), u, depth);
         return;
     }
     let first = set(x);
     let end = first + actions(x);
-    if table.len() < end {
+    if walk.others.entries.len() < end {
         return;
     }
-    divide(w, table, a, first, end, u, seat, d, units, depth);
+    divide(w, walk, a, &walk.others.entries[first..end], u, depth);
 }
 
 // The same of one tree of a row: an end at once, without a call.
 #[cycle(collect_deal_decide_divide_one_spread)]
-fn one(
-    w: &mut [u64],
-    table: &[u8],
-    a: usize,
-    u: u64,
-    seat: usize,
-    d: usize,
-    units: usize,
-    depth: usize,
-)
-    requires { Storable a u d units depth }
-    ensures { Collected table.now d seat units a u depth w.old w.new }
+fn one(w: &mut [u64], walk: &Walk<Table>, a: usize, u: u64, depth: usize)
+    requires { Walkable a u depth }
+    ensures { Collects walk.now a u depth w.old w.new }
 {
-    let x = word(w, a);
-    if kind(x) == END {
-        put(w, units + a, u);
-        return;
+    match kind(word(w, a)) {
+        Node::End => put(w, walk.at.reach + a, u),
+        _ => collect(w, walk, a, u, depth),
     }
-    collect(w, table, a, u, seat, d, units, depth);
 }
 
 // The same of the trees between places a and end, with u units each.
 #[cycle(collect_deal_decide_divide_one_spread)]
-fn spread(
-    w: &mut [u64],
-    table: &[u8],
-    a: usize,
-    end: usize,
-    u: u64,
-    seat: usize,
-    d: usize,
-    units: usize,
-    depth: usize,
-)
-    requires { Storable a u d units depth }
-    ensures { CollectedAll (Each a end u) table.now d seat units a depth w.old w.new }
+fn spread(w: &mut [u64], walk: &Walk<Table>, a: usize, end: usize, u: u64, depth: usize)
+    requires { Walkable a u depth }
+    ensures { CollectsAll (Each a end u) walk.now a depth w.old w.new }
 {
     let mut at = a;
     while at < end {
-        one(w, table, at, u, seat, d, units, depth);
+        one(w, walk, at, u, depth);
         let next = behind(w, at);
         if next <= at {
             return;
@@ -142,30 +90,16 @@ fn spread(
     }
 }
 
-// The same of the children of another seat's decision, whose own part of the table stands between entries first and end.
+// The same of the children of another seat's decision, by its set's own part of the table.
 #[cycle(collect_deal_decide_divide_one_spread)]
-fn divide(
-    w: &mut [u64],
-    table: &[u8],
-    a: usize,
-    first: usize,
-    end: usize,
-    u: u64,
-    seat: usize,
-    d: usize,
-    units: usize,
-    depth: usize,
-)
-    requires { Storable a u d units depth × (first ≤ end) × (end ≤ length table.now) }
-    ensures { CollectedAll (Shared table.now d first end u) table.now d seat units a depth w.old w.new }
+fn divide(w: &mut [u64], walk: &Walk<Table>, a: usize, part: &[u8], u: u64, depth: usize)
+    requires { Walkable a u depth }
+    ensures { CollectsAll (Shared walk.now.others.entries.now part.now walk.now.others.parts u) walk.now a depth w.old w.new }
 {
-    let each = u / d as u64;
+    let each = u / walk.others.parts as u64;
     let mut at = a;
-    let mut action = 0;
-    while action < end - first {
-        let part = share(&table[first..end], action, u, d, each);
-        one(w, table, at, part, seat, d, units, depth);
+    for &entry in part {
+        one(w, walk, at, walk.others.share(entry, u, each), depth);
         at = behind(w, at);
-        action += 1;
     }
 }

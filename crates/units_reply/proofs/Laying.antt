@@ -1,4 +1,6 @@
 -- What is written of a reply, set by set. Assumes nothing.
+use Rattle.std.proofs.Common.{ap₂}
+use Rattle.std.proofs.lemmas.List.{length-take-le, take_more}
 use mathlib.Core.Path.{◌≡◌, refl, sym, ap, ◌∙◌, subst}
 use mathlib.Core.Logic.{inl, inr}
 use mathlib.Core.Bool.{false, cond}
@@ -9,9 +11,8 @@ use native.Mathlib.Omega.{arith}
 use lib.Dec.{eqb}
 use borrow.Author.Tests.{eq-eqb, ne_eqb}
 use lib.ListN.{length, get_or, set, take, drop, length-append}
-use lib.Seq.{sets}
+use lib.Seq.{sets, drop-cons}
 use Rattle.prelude.proofs.Tests.{Tested, holds, fails, tested}
-use Rattle.prelude.proofs.Parts.{part_length, part_at}
 use Rattle.game_tree.specs.Sums.{sumℕ}
 use Rattle.game_tree.specs.Tree.{Key, Tree, end, chance, decide, Trees, nil, cons, fan, Strategy}
 use Rattle.game_tree.specs.Conditions.{Every, EveryAll}
@@ -32,7 +33,7 @@ use Rattle.arena.proofs.Nodes.{none, node, held-node}
 use Rattle.arena_walks.specs.internal.Stage.{Stage, Known, Memo}
 use Rattle.arena_walks.proofs.Standing.{known_of, inside, set-inside, same_fan}
 use Rattle.units_values.specs.internal.Valued.{Scene, Chosen}
-use Rattle.units_reply.specs.internal.Laid.{Tabled, replied, WrotePart, LaidSet, Laid}
+use Rattle.units_reply.specs.internal.Laid.{Tabled, replied, LaidSet, Laid}
 
 -- ---- no set stands deeper than its walk
 mutual
@@ -47,73 +48,82 @@ mutual
   levels_most_all nil v d z l h = tt
   levels_most_all (cons t f) v d z l h = (levels_most t v d z l h.0, levels_most_all f v d z l h.1)
 
--- ---- one set
--- three bytes or two of them
-abbrev pub Wrote : (e n x y z : ℕ) (out written : List ℕ) → Type 0
-Wrote e n x y z out written = (n ≡ 2 → written ≡ sets out e (x ∷ y ∷ [])) × (n ≡ 3 → written ≡ sets out e (x ∷ y ∷ z ∷ []))
-
-wrote-listed : (e n x y z : ℕ) (out written : List ℕ) (f : ℕ → ℕ) → Wrote e n x y z out written → (2 ≤ n) × (n ≤ 3) → (0 < n → x ≡ f 0) → (1 < n → y ≡ f 1) → (2 < n → z ≡ f 2) → written ≡ sets out e (listed n f)
+-- ---- a list of entries, and entries that are written one after the other
+listed_same : (n : ℕ) (p q : ℕ → ℕ) → ((a : ℕ) → p a ≡ q a) → listed n p ≡ listed n q
 unfolding listed
-wrote-listed e zero x y z out written f w l p q r = absurd (omega (arith, l.0))
-wrote-listed e (suc zero) x y z out written f w l p q r = absurd (omega (arith, l.0))
-wrote-listed e (suc (suc zero)) x y z out written f w l p q r = w.0 refl ∙ rw (p (omega arith), q (omega arith)) refl
-wrote-listed e (suc (suc (suc zero))) x y z out written f w l p q r = w.1 refl ∙ rw (p (omega arith), q (omega arith), r (omega arith)) refl
-wrote-listed e (suc (suc (suc (suc n)))) x y z out written f w l p q r = absurd (omega (arith, l.1))
+listed_same zero p q h = refl
+listed_same (suc n) p q h = ap₂ ◌∷◌ (h 0) (listed_same n (λ a. p (suc a)) (λ a. q (suc a)) (λ a. h (suc a)))
 
-module _ (table : Table) (x e i D h b k : ℕ) (old : List ℕ) (out written : List ℕ) (n p q r : ℕ) (c : n ≡ actions_of x) (w : Wrote e n p q r out written) where
-  -- another seat's
-  laid-other : (actor_of x ≡ i → ⊥) → (0 < n → p ≡ get_or table (e + 0) 0) → (1 < n → q ≡ get_or table (e + 1) 0) → (2 < n → r ≡ get_or table (e + 2) 0)
+listed_more : (n : ℕ) (p : ℕ → ℕ) → listed n p ++ (p n ∷ []) ≡ listed (suc n) p
+unfolding listed
+listed_more zero p = refl
+listed_more (suc n) p = ap (λ l. p 0 ∷ l) (listed_more n (λ a. p (suc a)))
+
+listed-length : (n : ℕ) (p : ℕ → ℕ) → length (listed n p) ≡ n
+unfolding listed
+listed-length zero p = refl
+listed-length (suc n) p = ap suc (listed-length n (λ a. p (suc a)))
+
+part-listed : (n e : ℕ) (table : Table) → e + n ≤ length table → take n (drop e table) ≡ listed n (λ a. get_or table (e + a) 0)
+unfolding listed
+part-listed zero e table h = refl
+part-listed (suc n) e table h = ap (take (suc n)) (drop-cons table e 0 (omega arith))
+    ∙ ap₂ ◌∷◌ (ap (λ j. get_or table j 0) (sym (NatL.add-zero e)))
+    (part-listed n (suc e) table (omega arith) ∙ listed_same n _ _ (λ a. let q : suc e + a ≡ e + suc a = omega arith in ap (λ j. get_or table j 0) q))
+
+sets-join : (l vs ws : List ℕ) (i : ℕ) → sets (sets l i vs) (i + length vs) ws ≡ sets l i (vs ++ ws)
+sets-join l [] ws i = ap (λ j. sets l j ws) (NatL.add-zero i)
+sets-join l (v ∷ vs) ws i = let e : i + length (v ∷ vs) ≡ suc i + length vs = omega arith in ap (λ j. sets (sets (set l i v) (suc i) vs) j ws) e ∙ sets-join (set l i v) vs ws (suc i)
+
+module _ (out : List ℕ) (e n x : ℕ) (w new : List ℕ) (q : new ≡ set w (e + n) x) where
+  written_more : (vs : List ℕ) → length vs ≡ n → w ≡ sets out e vs → new ≡ sets out e (vs ++ (x ∷ []))
+  written_more vs l p = q ∙ ap₂ (λ v j. set v (e + j) x) p (sym l) ∙ sets-join out vs (x ∷ []) e
+
+  pub part_more : (part : List ℕ) → n < length part → x ≡ get_or part n 0 → w ≡ sets out e (take n part) → new ≡ sets out e (take (n + 1) part)
+  part_more part l o p = written_more (take n part) (length-take-le n part (NatL.le_of_lt l)) p
+      ∙ ap (sets out e) (ap (λ y. take n part ++ (y ∷ [])) o ∙ sym (take_more part n 0 l))
+
+  pub listing_more : (f : ℕ → ℕ) → x ≡ f n → w ≡ sets out e (listed n f) → new ≡ sets out e (listed (n + 1) f)
+  listing_more f o p = written_more (listed n f) (listed-length n f) p
+      ∙ ap (sets out e) (ap (λ y. listed n f ++ (y ∷ [])) o ∙ listed_more n f ∙ (let s : suc n ≡ n + 1 = omega arith in ap (λ j. listed j f) s))
+
+-- ---- one set
+module _ (table : Table) (x e i D h b k : ℕ) (old : List ℕ) (out : List ℕ) (n : ℕ) (c : n ≡ actions_of x) where
+  -- another seat's part
+  pub laid_part : (z : ℕ) (written : List ℕ) → z ≡ e + n → z ≤ length table → (actor_of x ≡ i → ⊥) → written ≡ sets out e (take (z - e) (drop e table))
       → LaidSet table x e i D h b k old old out written
   unfolding replied
-  laid-other o P Q R S m t j y a g l z v = (
-    m,
-    subst (λ a. written ≡ sets out e (listed a (replied S j y))) (c ∙ v)
-        (wrote-listed e n p q r out written (replied S j y) w (subst (λ a. (2 ≤ a) × (a ≤ 3)) (sym (c ∙ v)) (known_of S.stage (λ j y n. (2 ≤ n) × (n ≤ 3)) S.stage.few j y a g)) (λ l. P l ∙ at 0) (λ l. Q l ∙ at 1) (λ l. R l ∙ at 2)),
-  )
+  laid_part z written f r o w S m t j y a g l v u = (m, w ∙ ap (sets out e) (part ∙ ap (λ p. listed p (λ s. get_or table (e + s) 0)) (c ∙ u) ∙ listed_same a _ _ at))
     where
+      part : take (z - e) (drop e table) ≡ listed n (λ s. get_or table (e + s) 0)
+      part = let q : z - e ≡ n = omega arith in ap (λ p. take p (drop e table)) q ∙ part-listed n e table (omega arith)
+
       at : (s : ℕ) → get_or table (e + s) 0 ≡ replied S j y s
-      at s = ap (λ u. get_or table (u + s) 0) l ∙ sym (t.strategy j y s) ∙ ap (λ u. cond u (pure S.parts S.stage.choice y s) (S.strategy j y s)) (sym (ne_eqb j i (λ u. o (z ∙ u))))
+      at s = ap (λ p. get_or table (p + s) 0) l ∙ sym (t.strategy j y s) ∙ ap (λ p. cond p (pure S.parts S.stage.choice y s) (S.strategy j y s)) (sym (ne_eqb j i (λ p. o (v ∙ p))))
+
+  -- a table is long enough for every set
+  pub laid-short : (z : ℕ) → z ≡ e + n → length table < z → LaidSet table x e i D h b k old old out out
+  laid-short z f s S m t j y a g l v u = absurd (omega (arith, s, f, c, l, u, set-inside S.stage j y a g, t.long))
 
   -- the seat's own
-  pub laid_own : (new : List ℕ) (choice : ℕ) → actor_of x ≡ i → Chosen i 32 h b k e n old new choice → p ≡ cond (eqb 0 choice) D 0 → q ≡ cond (eqb 1 choice) D 0 → r ≡ cond (eqb 2 choice) D 0
-      → LaidSet table x e i D h b k old new out written
+  pub laid_own : (new : List ℕ) (choice : ℕ) (written : List ℕ) → actor_of x ≡ i → Chosen i 32 h b k e n old new choice
+      → written ≡ sets out e (listed n (λ a. cond (eqb a choice) D 0)) → LaidSet table x e i D h b k old new out written
   unfolding replied pure
-  laid_own new choice o C P Q R S m t j y a g l z v = (
-    chosen.0,
-    subst (λ a. written ≡ sets out e (listed a (replied S j y))) (c ∙ v)
-        (wrote-listed e n p q r out written (replied S j y) w (subst (λ a. (2 ≤ a) × (a ≤ 3)) (sym (c ∙ v)) (known_of S.stage (λ j y n. (2 ≤ n) × (n ≤ 3)) S.stage.few j y a g)) (λ _. P ∙ at 0) (λ _. Q ∙ at 1) (λ _. R ∙ at 2)),
-  )
+  laid_own new choice written o C w S m t j y a g l v u = (chosen.0, w ∙ ap (sets out e) (ap (λ p. listed p (λ s. cond (eqb s choice) D 0)) (c ∙ u) ∙ listed_same a _ _ at))
     where
       own : j ≡ i
-      own = sym z ∙ o
+      own = sym v ∙ o
+
+      known : Known S.stage i y n
+      known = subst (λ j. Known S.stage j y n) own (subst (Known S.stage j y) (sym (c ∙ u)) g)
 
       chosen : Memo S.stage new × (choice ≡ S.stage.choice y)
-      chosen = C S m y (subst (λ j. Known S.stage j y n) own (subst (Known S.stage j y) (sym (c ∙ v)) g)) (l ∙ ap (λ j. first_entry S.stage.tree j y) own)
-          (known_of S.stage (λ j y n. S.stage.levels j y ≤ 32) (levels_most S.stage.tree S.stage.levels 32 32 (NatL.le_refl 32)
-          S.stage.level) i y n (subst (λ j. Known S.stage j y n) own (subst (Known S.stage j y) (sym (c ∙ v)) g)))
+      chosen = C S m y known (l ∙ ap (λ j. first_entry S.stage.tree j y) own)
+          (known_of S.stage (λ j y n. S.stage.levels j y ≤ 32) (levels_most S.stage.tree S.stage.levels 32 32 (NatL.le_refl 32) S.stage.level) i y n known)
 
       at : (s : ℕ) → cond (eqb s choice) D 0 ≡ replied S j y s
       at s = ap (λ u. cond (eqb s u) D 0) chosen.1 ∙ ap (λ u. cond (eqb s (S.stage.choice y)) u 0) (sym t.parts)
           ∙ ap (λ u. cond u (pure S.parts S.stage.choice y s) (S.strategy j y s)) (sym (eq-eqb j i own))
-
--- the part of another seat's set, as it is written
-module _ (table : Table) (x e i D h b k : ℕ) (old : List ℕ) (out : List ℕ) (n z : ℕ) (c : n ≡ actions_of x) (f : z ≡ e + n) where
-  abbrev own_part : List ℕ
-  own_part = take (z - e) (drop e table)
-
-  pub laid_part : (written : List ℕ) → z ≤ length table → (actor_of x ≡ i → ⊥) → WrotePart own_part e out written → LaidSet table x e i D h b k old old out written
-  laid_part written l o w =
-      let few : z - e ≡ n = omega arith in
-      let at : (s : ℕ) → s < n → get_or own_part s 0 ≡ get_or table (e + s) 0 = λ s v. part_at table e z s 0 (omega arith) in
-      laid-other table x e i D h b k old out written n _ _ _ c (subst (λ m. Wrote e m (get_or own_part 0 0) (get_or own_part 1 0) (get_or own_part 2 0) out written) (part_length table e z l ∙ few) w) o (at 0) (at 1) (at 2)
-
-  -- a table is long enough for every set
-  pub laid-short : length table < z → LaidSet table x e i D h b k old old out out
-  laid-short s S m t j y a g l w v = absurd (omega (arith, s, f, c, l, v, set-inside S.stage j y a g, t.long))
-
--- the same entries, named otherwise
-pub wrote_part : (part : List ℕ) (e x y z : ℕ) (out written : List ℕ) → x ≡ get_or part 0 0 → y ≡ get_or part 1 0 → z ≡ get_or part 2 0 → Wrote e (length part) x y z out written → WrotePart part e out written
-wrote_part part e x y z out written p q r w = rw (p, q, r) at w
 
 -- ---- the first member of a set
 -- of nodes counted from a on, the first that is a decision of the set
@@ -176,10 +186,6 @@ unfolding laid_out
 laid_out_append s [] ys = refl
 laid_out_append s (x ∷ xs) ys = ap (λ l. listed x.2 (s x.0 x.1) ++ l) (laid_out_append s xs ys) ∙ sym (append_assoc (listed x.2 (s x.0 x.1)) (laid_out xs s) (laid_out ys s))
 
-sets-join : (l vs ws : List ℕ) (i : ℕ) → sets (sets l i vs) (i + length vs) ws ≡ sets l i (vs ++ ws)
-sets-join l [] ws i = ap (λ j. sets l j ws) (NatL.add-zero i)
-sets-join l (v ∷ vs) ws i = let e : i + length (v ∷ vs) ≡ suc i + length vs = omega arith in ap (λ j. sets (sets (set l i v) (suc i) vs) j ws) e ∙ sets-join (set l i v) vs ws (suc i)
-
 module _ (table : Table) (count i D h b k : ℕ) (old out : List ℕ) where
   -- n sets are written, up to entry e
   abbrev pub Laying : (w written : List ℕ) (n e : ℕ) → Type 0
@@ -221,12 +227,3 @@ module _ (table : Table) (count i D h b k : ℕ) (old out : List ℕ) where
           → Memo S.stage w × (written ≡ sets out 0 (table_of S.stage.tree (replied S)))
       at (A, done, [], B, C, E, F) = (A, F ∙ ap (λ z. sets out 0 (laid_out z (replied S))) (sym (B ∙ append-nil done)))
       at (A, done, d ∷ rest, B, C, E, F) = absurd (omega (arith, l, c, C, ap length B ∙ length-append done (d ∷ rest)))
-
--- ---- byte by byte
-module _ (out u v : List ℕ) where
-  pub wrote_two : (e n x y z : ℕ) → u ≡ set out e x → v ≡ set u (e + 1) y → (n ≡ 3 → ⊥) → Wrote e n x y z out v
-  wrote_two e n x y z p q o = let s : e + 1 ≡ suc e = omega arith in ((λ l. q ∙ ap (λ j. set u j y) s ∙ ap (λ j. set j (suc e) y) p), λ l. absurd (o l))
-
-  pub wrote_three : (w : List ℕ) (e n x y z : ℕ) → u ≡ set out e x → v ≡ set u (e + 1) y → w ≡ set v (e + 2) z → n ≡ 3 → Wrote e n x y z out w
-  wrote_three w e n x y z p q r o = let s : e + 1 ≡ suc e = omega arith in let t : e + 2 ≡ suc (suc e) = omega arith in
-      ((λ l. absurd (omega arith)), λ l. r ∙ ap (λ j. set v j z) t ∙ ap (λ j. set j (suc (suc e)) z) (q ∙ ap (λ j. set u j y) s ∙ ap (λ j. set j (suc e) y) p))

@@ -17,7 +17,7 @@ use Rattle.units.specs.internal.Lifted.{lift}
 use Rattle.units.specs.internal.Gain.{given, gain, gain_pick, Stocked, topmost}
 use Rattle.units.proofs.Lifting.{lift_back}
 use Rattle.units.proofs.Six.{product, sum_wraps}
-use Rattle.units_values.specs.internal.Valued.{Walkable, Scene, Here, HereAll, gained, gained_all, behind_action, Valued, ValuedAll, ValuedOwn, Chosen}
+use Rattle.units_values.specs.internal.Valued.{Scene, Here, HereAll, gained, gained_all, behind_action, Valued, ValuedAll, ValuedOwn, Chosen}
 use Rattle.units_values.proofs.Scenes.{kids-chance, kids-decide, first, descent, pick-gain}
 use Rattle.units.specs.internal.Readable.{UNITS}
 
@@ -46,28 +46,22 @@ module _ (i d h b k a : ℕ) (old : List ℕ) where
     value-ended v z o = value_end (get_or old (b + a) 0) (byte_of x i) v z refl (refl, NatL.mod-lt _ (omega arith)) o
 
     module _ (new : List ℕ) (r : ℕ) where
-      -- a chance node
-      pub value-chance : (kind_of x ≡ END → ⊥) → (kind_of x ≡ DECISION → ⊥) → ValuedAll i (d - 1) h b k (a + 1) (next_of x) old new r → Valued i d h b k a old new r
+      decided_here : (S : Scene i h b k) (j : ℕ) (n : Key) (f : Trees) (u y : ℕ) → Here S y a u (decide j n f) → HereAll S (pred y) (a + 1) (given S.parts S.strategy i u j n) 0 f
+      decided_here S j n f u y g = let o : suc a ≡ a + 1 = omega arith in subst (λ z. HereAll S (pred y) z (given S.parts S.strategy i u j n) 0 f) o (kids-decide S y a u j n f g)
+
+      -- a chance node, or another seat's decision
+      pub value-row : (kind_of x ≡ END → ⊥) → (kind_of x ≡ DECISION → actor_of x ≡ i → ⊥) → ValuedAll i (d - 1) h b k (a + 1) (next_of x) old new r → Valued i d h b k a old new r
       unfolding Held Says gain size
-      value-chance z y v S m (end f) u lev le g = absurd (z (ap kind_of (says S m (end f) u lev g) ∙ g.stands.held.0))
-      value-chance z y v S m (chance f) u lev le g = v S m (λ j. u / fan f) f (pred lev) (omega arith) (subst (λ j. HereAll S (pred lev) j
+      value-row z y v S m (end f) u lev le g = absurd (z (ap kind_of (says S m (end f) u lev g) ∙ g.stands.held.0))
+      value-row z y v S m (chance f) u lev le g = v S m (λ j. u / fan f) f (pred lev) (omega arith) (subst (λ j. HereAll S (pred lev) j
           (λ j. u / fan f) 0 f) one (kids-chance S lev a u f g)) (ap next_of (says S m (chance f) u lev g) ∙ g.stands.held.0.1 ∙ omega arith)
         where
           one : suc a ≡ a + 1
           one = omega arith
-      value-chance z y v S m (decide j n f) u lev le g = absurd (y (ap kind_of (says S m (decide j n f) u lev g) ∙ g.stands.held.0.0))
-
-      decided_here : (S : Scene i h b k) (j : ℕ) (n : Key) (f : Trees) (u y : ℕ) → Here S y a u (decide j n f) → HereAll S (pred y) (a + 1) (given S.parts S.strategy i u j n) 0 f
-      decided_here S j n f u y g = let o : suc a ≡ a + 1 = omega arith in subst (λ z. HereAll S (pred y) z (given S.parts S.strategy i u j n) 0 f) o (kids-decide S y a u j n f g)
-
-      -- another seat's
-      pub value-other : kind_of x ≡ DECISION → (actor_of x ≡ i → ⊥) → ValuedAll i (d - 1) h b k (a + 1) (next_of x) old new r → Valued i d h b k a old new r
-      unfolding Held Says gain size
-      value-other z y v S m (end f) u lev le g = absurd (omega (arith, z, g.stands.held.0, ap kind_of (says S m (end f) u lev g)))
-      value-other z y v S m (chance f) u lev le g = absurd (omega (arith, z, g.stands.held.0.0, ap kind_of (says S m (chance f) u lev g)))
-      value-other z y v S m (decide j n f) u lev le g =
-          let l : j ≡ i → ⊥ = λ q. y (ap actor_of (says S m (decide j n f) u lev g) ∙ g.stands.held.0.1 ∙ q) in
-          let o = v S m (given S.parts S.strategy i u j n) f (pred lev) (omega arith) (decided_here S j n f u lev g) (ap next_of (says S m (decide j n f) u lev g) ∙ g.stands.held.0.4 ∙ omega arith) in
+      value-row z y v S m (decide j n f) u lev le g =
+          let s : x ≡ get_or S.stage.words a 0 = says S m (decide j n f) u lev g in
+          let l : j ≡ i → ⊥ = λ q. y (ap kind_of s ∙ g.stands.held.0.0) (ap actor_of s ∙ g.stands.held.0.1 ∙ q) in
+          let o = v S m (given S.parts S.strategy i u j n) f (pred lev) (omega arith) (decided_here S j n f u lev g) (ap next_of s ∙ g.stands.held.0.4 ∙ omega arith) in
           (o.0, o.1 ∙ ap (λ t. cond t (gain_pick S.parts S.strategy i S.stage.choice (given S.parts S.strategy i u j n) 0 f (S.stage.choice n)) (gained_all S (given S.parts S.strategy i u j n) 0 f) % 2 ^ 64) (sym (ne_eqb j i l)))
 
       -- the seat's own
@@ -180,7 +174,3 @@ unfolding Every Levels
 own_is i d h b k a x old mid new c at r p q v S m y u z f le e n g =
     let o : Memo S.stage mid × (c ≡ S.stage.choice y) = p S m y (subst (Known S.stage i y) (sym n) g.stands.known.0) e (NatL.le_trans (NatL.le_of_eq g.stands.level.1) le) in
     own_value i d h b k a x old mid new c at r q v S o.0 y u z le f g o.1
-
--- ---- numbers in range
-pub walk_at : (a i d h b k : ℕ) → Walkable a i d h b k → (c e : ℕ) → e ≤ d → c + e < 8388608 → Walkable c i e h b k
-walk_at a i d h b k w c e l m = record { place = m; seat = w.seat; shallow = omega (arith, w.shallow); heads = w.heads; units = w.units; kept = w.kept }

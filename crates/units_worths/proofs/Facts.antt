@@ -12,8 +12,7 @@ use Rattle.kuhn_tree.specs.Tree as Kuhn
 use Rattle.kuhn_tree.specs.Facts as Kuhn-facts
 use Rattle.kuhn_tree.proofs.Facts as Kuhn-proofs
 use Rattle.kuhn_arena_layout.proofs.Start.{by_seats}
-use Rattle.games.specs.declared.Game.{Game}
-use Rattle.games.specs.Games.{tree_of, most_parts}
+use Rattle.games.specs.Games.{Game, tree_of, most_parts}
 use Rattle.games.specs.Known.{Known}
 use Rattle.games.proofs.Known.{kuhn_two, kuhn-six, leduc_two}
 use Rattle.arena_store.proofs.Shaped.{games_legible}

@@ -15,8 +15,7 @@ use Rattle.game_tree.specs.Tree.{Tree, end, chance, decide, Trees, nil, cons}
 use Rattle.game_tree.specs.Conditions.{Pays, PaysAll}
 use Rattle.game_tree.specs.Table.{Table, strategy_of, table_worth}
 use Rattle.game_tree.proofs.TableTheorem.{table-units-add_up, table_bounds}
-use Rattle.games.specs.declared.Game.{Game}
-use Rattle.games.specs.Games.{is_kuhn, tree_of, C, m, root_units}
+use Rattle.games.specs.Games.{Game, is_kuhn, tree_of, C, m, root_units}
 use Rattle.games.specs.Facts.{largest_payoff}
 use Rattle.games.proofs.Facts.{games_fit}
 use Rattle.units.specs.internal.Lifted.{lifted}

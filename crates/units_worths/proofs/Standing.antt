@@ -9,15 +9,14 @@ use Rattle.game_tree.specs.Tree.{Tree}
 use Rattle.game_tree.specs.Conditions.{Every}
 use Rattle.game_tree.specs.Sets.{size, entries, first_entry}
 use Rattle.game_tree.specs.Table.{Table, strategy_of}
-use Rattle.games.specs.declared.Game.{Game}
-use Rattle.games.specs.Games.{tree_of, root_units}
+use Rattle.games.specs.Games.{Game, tree_of, root_units}
 use Rattle.games.specs.Facts.{nodes_of, entries_of}
 use Rattle.games.proofs.Facts.{nodes_are, entries_are}
 use Rattle.arena.specs.internal.Index.{later_in}
-use Rattle.units.specs.internal.Readable.{Readable, UNITS}
+use Rattle.units.specs.internal.Readable.{Readable, UNITS, Walkable}
 use Rattle.units.specs.internal.Lifted.{lifted}
 use Rattle.units.specs.internal.Sums.{Summed}
-use Rattle.units_collect.specs.internal.Collected.{Storable, Collected}
+use Rattle.units_collect.specs.internal.Collected.{Collected}
 use Rattle.units_collect.specs.internal.Ends.{end_gains}
 use Rattle.units_collect.proofs.Summing.{gains-lifted}
 use Rattle.tree_refusals.specs.Accepted.{AcceptedTable}
@@ -27,7 +26,6 @@ use Rattle.arena_store.proofs.Shaped.{games_shaped, some_actions}
 use Rattle.arena_store.proofs.Room.{Roomy, roomy}
 use Rattle.arena_store.proofs.Stored.{indexed_same}
 use Rattle.units_worths.proofs.Facts.{games_readable}
-use Rattle.units_worths.proofs.Lowering.{few_parts}
 use Rattle.arena.specs.internal.Words.{PLACES}
 
 -- ---- units of a table that is not refused, by the numbers in hand: from place b on, u of them at the root
@@ -54,8 +52,8 @@ module _ (g : Game) (D : ℕ) (table : Table) (a : AcceptedTable g D table) (b :
   nodes-near n t = omega (arith, room.nodes)
 
   module _ (u : ℕ) (j : (u ≡ root_units g D) × (u < UNITS)) where
-    pub storable : Storable 0 u D b 32
-    storable = record { walk = record { place = omega arith; shallow = omega arith; units = j.1; least = a.least; most = few_parts g D table a }; base = units-near }
+    pub walkable : Walkable 0 u 32
+    walkable = record { place = omega arith; shallow = omega arith; units = j.1 }
 
     -- the words with the tree, then with units for seat i
     module _ (i : ℕ) (v w : List ℕ) (x : Stored g v) (o : Collected table D i b 0 u 32 v w) where

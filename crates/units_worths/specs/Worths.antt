@@ -2,8 +2,7 @@
 use Rattle.std.specs.Prelude.{cond, List, ℕ, ltb, ℤ, pos}
 use Rattle.prelude.specs.Finite.{places}
 use Rattle.game_tree.specs.Table.{Table, table_worth}
-use Rattle.games.specs.declared.Game.{Game}
-use Rattle.games.specs.Games.{tree_of, root_units}
+use Rattle.games.specs.Games.{Game, tree_of, root_units}
 
 -- six whole numbers: what a table with D parts in each set is worth to each seat, from C × D^m units at the root; 0 past the seats
 unfoldable pub worths_of : Game → ℕ → Table → List ℤ

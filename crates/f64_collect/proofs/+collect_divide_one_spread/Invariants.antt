@@ -1,7 +1,7 @@
 -- The reach of each own decision, from the root down: the remaining depth falls. Assumes nothing.
-use Prim.Native.Nat.{◌+◌, ◌-◌, ◌*◌, ◌≤◌}
+use Prim.Native.Nat.{◌+◌, ◌-◌, ◌*◌}
 use mathlib.Core.Path.{◌≡◌}
-use Rattle.f64_collect.specs.internal.Reached.{Storable, Each, Divided}
+use Rattle.f64_collect.specs.internal.Reached.{Walkable, Each, Divided}
 use Rattle.f64_collect.proofs.Storing as storing
 use Rattle.f64_collect.proofs.+collect_divide_one_spread.Given as goal
 
@@ -17,14 +17,13 @@ decreases-one l = 3 * l.depth + 1
 abbrev pub decreases-spread : goal.decreases-spread
 decreases-spread l = 3 * l.depth + 2
 
-abbrev pub invariant-divide-loop-action : goal.invariant-divide-loop-action
-invariant-divide-loop-action l = storing.SoFar l.profile l.seat l.reach l.a l.depth l.initial.w (Divided l.profile l.first l.end l.r) (λ y. y ≡ l.action) l.at l.w × Storable l.at l.reach l.depth × (l.action ≤ l.end - l.first)
-
-abbrev pub decreases-divide-loop-action : goal.decreases-divide-loop-action
-decreases-divide-loop-action l = l.end - l.first - l.action
+abbrev pub invariant-divide-loop-p : goal.invariant-divide-loop-p
+invariant-divide-loop-p l = let W = l.walk in
+    storing.SoFar W.others.now W.seat W.at.reach l.a l.depth l.initial.w (Divided W.others.now l.part l.r) (λ y. y ≡ l.p-index) l.at l.w × Walkable l.at l.depth
 
 abbrev pub invariant-spread-loop-at : goal.invariant-spread-loop-at
-invariant-spread-loop-at l = storing.SoFar l.profile l.seat l.reach l.a l.depth l.initial.w (Each l.a l.end l.r) (λ c. Unit {0}) l.at l.w × Storable l.at l.reach l.depth
+invariant-spread-loop-at l = let W = l.walk in
+    storing.SoFar W.others.now W.seat W.at.reach l.a l.depth l.initial.w (Each l.a l.end l.r) (λ c. Unit {0}) l.at l.w × Walkable l.at l.depth
 
 abbrev pub decreases-spread-loop-at : goal.decreases-spread-loop-at
 decreases-spread-loop-at l = l.end - l.at

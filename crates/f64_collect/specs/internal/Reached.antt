@@ -1,5 +1,5 @@
 -- What a walk over a tree in work memory stores: the reach of a seat's decisions. Definitions only; nothing is assumed.
-use Rattle.std.specs.Prelude.{◌≡◌, List, ℕ, suc, ◌+◌, ◌≤◌, ◌<◌, length, get_or, Float}
+use Rattle.std.specs.Prelude.{◌≡◌, List, ℕ, suc, ◌+◌, ◌≤◌, ◌<◌, length, get_or, take, drop, Float}
 use Rattle.std.specs.Float.{binary64}
 use Rattle.std.specs.Float.Ieee.{of_bits}
 use Rattle.game_tree.specs.Tree.{Key, Tree, end, chance, decide, Trees, nil, cons, fan}
@@ -8,11 +8,10 @@ use Rattle.game_tree_f64.specs.Values.{Profile, profile_of, times, weight, passe
 use Rattle.arena.specs.internal.Index.{Kept, Alike}
 use Rattle.arena.specs.internal.Legible.{Legible, LegibleAll}
 
--- a place, a base and a depth that keep every place in range
-pub record Storable (a b d : ℕ) : Type 0 where
+-- a place and a depth that keep every place in range
+pub record Walkable (a d : ℕ) : Type 0 where
   pub place : a + d < 8388608
   pub shallow : d ≤ 32
-  pub base : b ≤ 8388608
 
 -- the words have, from place b on, the reach of each decision of seat i in a tree at place a of reach r, at its place;
 -- in a row the child with number x has reach g x
@@ -51,10 +50,10 @@ pub record Each (a z : ℕ) (r : Float) (T : Tree) (f : Trees) (g : ℕ → Floa
   pub ends : z ≡ a + sizes f
   pub gives : (x : ℕ) → g x ≡ r
 
--- the children of another seat's decision, whose set's entries stand between e and z
-pub record Divided (profile : List Float) (e z : ℕ) (r : Float) (T : Tree) (f : Trees) (g : ℕ → Float) : Type 0 where
+-- the children of another seat's decision, whose set's own part of the profile is given
+pub record Divided (profile part : List Float) (r : Float) (T : Tree) (f : Trees) (g : ℕ → Float) : Type 0 where
   pub seat : ℕ
   pub key : Key
-  pub set : e ≡ first_entry T seat key
-  pub actions : z ≡ e + fan f
+  pub own : part ≡ take (fan f) (drop (first_entry T seat key) profile)
+  pub long : length part ≡ fan f
   pub gives : (x : ℕ) → g x ≡ times r (profile_of T profile seat key x)

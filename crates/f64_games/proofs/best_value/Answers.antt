@@ -1,29 +1,22 @@
 -- Reaches, then the root's value. Assumes nothing.
 use native.Mathlib.Omega.{arith}
+use Rattle.games.specs.internal.Numbered.{numbered}
+use Rattle.arena_store.proofs.Room.{places_near}
 use Rattle.f64_games.proofs.Staging as staging
 use Rattle.f64_games.proofs.best_value.Goals as goal
 
-pub places_of-at-requires : goal.places_of-at-requires
-places_of-at-requires c = c.requires.1.game
-
-pub collect-requires : goal.collect-requires
-collect-requires c =
-    staging.storable c.args.g c.args.seat c.args.profile.now c.requires.1 c.requires.2 _ c.places_of-at.ensures
-
-pub entries-requires : goal.entries-requires
-entries-requires c = c.requires.1.game.seats
-
-pub overflow_add-at : goal.overflow_add-at
-overflow_add-at c =
-    omega (arith, staging.near c.args.g c.args.seat c.args.profile.now c.requires.1 c.requires.2 _ c.places_of-at.ensures _ c.entries.ensures)
-
-pub clear-requires : goal.clear-requires
-clear-requires c = omega arith
+pub invariant_of-walk : goal.invariant_of-walk
+invariant_of-walk c =
+    let n = places_near (numbered c.args.profile.now.game) c.args.profile.now.accepted.game _ c.places_of-at.ensures in
+    record { heads_near = omega (arith, n.0); reach_near = omega (arith, n.1); kept_near = omega (arith, n.2) }
 
 pub value-requires : goal.value-requires
 value-requires c =
-    staging.walkable c.args.g c.args.seat c.args.profile.now c.requires.1 c.requires.2 _ c.places_of-at.ensures
+    let p = c.args.profile.now in
+    staging.walkable (numbered p.game) c.args.seat p.entries.now p.accepted c.requires.1 _ c.places_of-at.ensures
 
 pub returns : goal.returns
 returns c =
-    staging.answered c.args.g c.args.seat c.args.profile.now c.requires.1 c.requires.2 _ c.places_of-at.ensures _ c.entries.ensures _ _ _ _ c.requires.0 c.requires.3 c.collect.ensures c.clear.ensures _ c.value.ensures
+    let p = c.args.profile.now in
+    staging.answered (numbered p.game) c.args.seat p.entries.now p.accepted c.requires.1 _ c.places_of-at.ensures _ c.entries.ensures _ _ _ _
+    c.requires.0 c.requires.2 c.collect.ensures c.clear.ensures _ c.value.ensures

@@ -8,14 +8,11 @@ use Rattle.game_tree_f64.specs.Values.{Profile, profile_of, nought, one, plus, w
 use Rattle.arena_walks.specs.internal.Stage.{Stage, Known, Memo, SubtreeAt, SubtreesAt}
 use Rattle.f64_collect.specs.internal.Reached.{Marked}
 
--- numbers that keep every place in range
-pub record Walkable (a i d h b k : ℕ) : Type 0 where
+-- a place, a seat and a depth that keep every number in range
+pub record Walkable (a i d : ℕ) : Type 0 where
   pub place : a + d < 8388608
   pub seat : i < 6
   pub shallow : d ≤ 32
-  pub heads : h ≤ 16777216
-  pub reach : b ≤ 16777216
-  pub kept : k ≤ 16777216
 
 -- a stage on which seat i replies to a profile: the reach of its nodes stands from place b on,
 -- and each choice is what the sums behind the actions come to

@@ -28,10 +28,8 @@ pub record ReadableAll (n : ℕ) (T : Tree) (l : ℕ → ℕ → Key → ℕ) (w
   pub few : (e : ℕ) → slice_index table e ≤ D
   pub within : deep_all f ≤ d
 
--- a place, units, parts and a depth that keep every number in range
-pub record Walkable (a u D d : ℕ) : Type 0 where
+-- a place, units and a depth that keep every number in range
+pub record Walkable (a u d : ℕ) : Type 0 where
   pub place : a + d < 8388608
   pub shallow : d ≤ 32
   pub units : u < UNITS
-  pub least : 1 ≤ D
-  pub most : D ≤ 64

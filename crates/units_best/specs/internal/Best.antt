@@ -2,8 +2,7 @@
 use Rattle.std.specs.Prelude.{ℕ, ℤ}
 use Rattle.game_tree.specs.Table.{Table}
 use Rattle.game_tree.specs.Table as AnyTree
-use Rattle.games.specs.declared.Game.{Game}
-use Rattle.games.specs.Games.{tree_of, m, root_units}
+use Rattle.games.specs.Games.{Game, tree_of, m, root_units}
 
 -- no valid table that differs from the given one at most in seat i's entries, mixed or not, is worth more to the seat,
 -- nor is a rival of any grain

@@ -2,8 +2,7 @@
 use Rattle.std.specs.Prelude.{◌≡◌, List, ℕ}
 use Rattle.game_tree.specs.Reply.{reply_tree, best}
 use Rattle.game_tree.specs.Table.{Table, strategy_of}
-use Rattle.games.specs.declared.Game.{Game}
-use Rattle.games.specs.Games.{tree_of, root_units}
+use Rattle.games.specs.Games.{Game, tree_of, root_units}
 use Rattle.arena_store.specs.internal.Stored.{heads_of}
 use Rattle.arena_store.specs.internal.Places.{reach_at, kept_at}
 use Rattle.arena_walks.specs.internal.Stage.{Memo}

@@ -1,7 +1,8 @@
 -- The units of each node, from the root down: the remaining depth falls. Assumes nothing.
-use Prim.Native.Nat.{◌+◌, ◌-◌, ◌*◌, ◌≤◌}
+use Prim.Native.Nat.{◌+◌, ◌-◌, ◌*◌}
 use mathlib.Core.Path.{◌≡◌}
-use Rattle.units_collect.specs.internal.Collected.{Storable, Each, Shared}
+use Rattle.units.specs.internal.Readable.{Walkable}
+use Rattle.units_collect.specs.internal.Collected.{Each, Shared}
 use Rattle.units_collect.proofs.Storing as storing
 use Rattle.units_collect.proofs.+collect_deal_decide_divide_one_spread.Given as goal
 
@@ -23,14 +24,15 @@ decreases-one l = 4 * l.depth + 1
 abbrev pub decreases-spread : goal.decreases-spread
 decreases-spread l = 4 * l.depth + 2
 
-abbrev pub invariant-divide-loop-action : goal.invariant-divide-loop-action
-invariant-divide-loop-action l = storing.SoFar l.table l.d l.seat l.units l.a l.depth l.initial.w (Shared l.table l.d l.first l.end l.u) (λ y. y ≡ l.action) l.at l.w × Storable l.at l.u l.d l.units l.depth × (l.action ≤ l.end - l.first)
-
-abbrev pub decreases-divide-loop-action : goal.decreases-divide-loop-action
-decreases-divide-loop-action l = l.end - l.first - l.action
+abbrev pub invariant-divide-loop-entry : goal.invariant-divide-loop-entry
+invariant-divide-loop-entry l = let W = l.walk in
+    storing.SoFar W.others.entries.now W.others.parts W.seat W.at.reach l.a l.depth l.initial.w (Shared W.others.entries.now l.part W.others.parts l.u) (λ y. y ≡ l.entry-index) l.at l.w
+    × Walkable l.at l.u l.depth
 
 abbrev pub invariant-spread-loop-at : goal.invariant-spread-loop-at
-invariant-spread-loop-at l = storing.SoFar l.table l.d l.seat l.units l.a l.depth l.initial.w (Each l.a l.end l.u) (λ c. Unit {0}) l.at l.w × Storable l.at l.u l.d l.units l.depth
+invariant-spread-loop-at l = let W = l.walk in
+    storing.SoFar W.others.entries.now W.others.parts W.seat W.at.reach l.a l.depth l.initial.w (Each l.a l.end l.u) (λ c. Unit {0}) l.at l.w
+    × Walkable l.at l.u l.depth
 
 abbrev pub decreases-spread-loop-at : goal.decreases-spread-loop-at
 decreases-spread-loop-at l = l.end - l.at

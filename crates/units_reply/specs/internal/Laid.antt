@@ -1,5 +1,5 @@
 -- What is written of a reply. Definitions only; nothing is assumed.
-use Rattle.std.specs.Prelude.{◌≡◌, List, [], ◌∷◌, ℕ, ◌+◌, ◌≤◌, eqb, length, get_or}
+use Rattle.std.specs.Prelude.{◌≡◌, List, ℕ, ◌+◌, ◌≤◌, eqb, length, get_or}
 use Rattle.std.proofs.Math.Bool.{cond}
 use Rattle.std.proofs.lemmas.List.Edits.{sets}
 use Rattle.game_tree.specs.Tree.{Key, Strategy}
@@ -21,11 +21,6 @@ module _ {i h b k : ℕ} (S : Scene i h b k) where
   unfoldable pub replied : Strategy
   unfolding pure
   replied j y a = cond (eqb j i) (pure S.parts S.stage.choice y a) (S.strategy j y a)
-
--- a part of a table, with two entries or three, is written from place e on
-abbrev pub WrotePart : (part : List ℕ) (e : ℕ) (out written : List ℕ) → Type 0
-WrotePart part e out written = (length part ≡ 2 → written ≡ sets out e (get_or part 0 0 ∷ get_or part 1 0 ∷ []))
-    × (length part ≡ 3 → written ≡ sets out e (get_or part 0 0 ∷ get_or part 1 0 ∷ get_or part 2 0 ∷ []))
 
 -- the entries of a set are written from entry e on; x is the word of a member
 abbrev pub LaidSet : (table : Table) (x e i D h b k : ℕ) (old new out written : List ℕ) → Type 0

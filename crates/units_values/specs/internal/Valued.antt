@@ -8,14 +8,11 @@ use Rattle.arena_walks.specs.internal.Stage.{Stage, Known, Memo, SubtreeAt, Subt
 use Rattle.units.specs.internal.Gain.{gain, gain_all, set_gain, Stocked, StockedAll, topmost}
 use Rattle.units.specs.internal.Readable.{UNITS}
 
--- numbers that keep every place in range
-pub record Walkable (a i d h b k : ℕ) : Type 0 where
+-- a place, a seat and a depth that keep every number in range
+pub record Walkable (a i d : ℕ) : Type 0 where
   pub place : a + d < 8388608
   pub seat : i < 6
   pub shallow : d ≤ 32
-  pub heads : h ≤ 16777216
-  pub units : b ≤ 16777216
-  pub kept : k ≤ 16777216
 
 -- a stage with the units of its nodes for seat i from place b on, whose choice takes in each set the lowest action with the greatest gains
 pub record Scene (i h b k : ℕ) : Type 0 where

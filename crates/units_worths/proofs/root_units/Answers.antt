@@ -1,23 +1,26 @@
 -- C × D^m. Assumes nothing.
-use mathlib.Core.Path.{ap₂, ◌∙◌}
+use mathlib.Core.Path.{ap₂, ◌∙◌, refl}
 use Prim.Native.Nat.{◌*◌, ◌^◌}
+use native.Mathlib.Omega.{arith}
+use native.Mathlib.Nat.{mul-le-mul_right, one-mul}
+use Rattle.games.specs.Games.{m}
+use Rattle.games.specs.internal.Numbered.{numbered}
+use Rattle.games.proofs.Facts.{fans-positive}
 use Rattle.units_worths.proofs.Facts.{units-fit}
 use Rattle.units_worths.proofs.root_units.Goals as goal
 
-pub fans-requires : goal.fans-requires
-fans-requires c = c.requires.0.seats
+pub pow-requires : goal.pow-requires
+pow-requires c = let g = numbered c.args.game in let p = c.args.d ^ m g in
+    rw c.turns.ensures (omega (arith, mul-le-mul_right p (fans-positive g), one-mul p, (units-fit g c.args.d c.requires.0 c.requires.2).units))
 
-pub turns-requires : goal.turns-requires
-turns-requires c = c.requires.0.seats
-
-pub times_power-requires : goal.times_power-requires
-times_power-requires c =
+pub overflow_mul-result : goal.overflow_mul-result
+overflow_mul-result c =
     let d = c.args.d in
-    let e = ap₂ (λ x y. x * d ^ y) c.fans.ensures c.turns.ensures in
-    (c.requires.1, rw e (units-fit c.args.g d c.requires.0 c.requires.2).units)
+    let e = ap₂ (λ x y. x * y) c.fans.ensures (c.pow.ensures ∙ ap₂ (λ x y. x ^ y) refl c.turns.ensures) in
+    record { fits = omega (arith, e, (units-fit (numbered c.args.game) d c.requires.0 c.requires.2).units) }
 
 pub returns : goal.returns
 returns c =
     let d = c.args.d in
-    let e = c.times_power.ensures ∙ ap₂ (λ x y. x * d ^ y) c.fans.ensures c.turns.ensures in
-    (e, rw e (units-fit c.args.g d c.requires.0 c.requires.2).units)
+    let e = ap₂ (λ x y. x * y) c.fans.ensures (c.pow.ensures ∙ ap₂ (λ x y. x ^ y) refl c.turns.ensures) in
+    (e, rw e (units-fit (numbered c.args.game) d c.requires.0 c.requires.2).units)

@@ -2,8 +2,7 @@
 -- hold.
 use Rattle.std.specs.Prelude.{List, ℕ, ◌*◌, ◌^◌, ◌≤◌, ◌<◌}
 use Rattle.game_tree.specs.Table.{Table, ValidTable}
-use Rattle.games.specs.declared.Game.{Game}
-use Rattle.games.specs.Games.{tree_of, most_parts, root_units}
+use Rattle.games.specs.Games.{Game, tree_of, most_parts, root_units}
 use Rattle.games.specs.Facts.{largest_payoff}
 use Rattle.games.specs.Known.{Known}
 use Rattle.arena.specs.internal.Index.{later_in}

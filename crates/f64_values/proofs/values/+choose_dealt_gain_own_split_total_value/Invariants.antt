@@ -1,7 +1,5 @@
 -- Value and choice, which call each other: the remaining depth falls. Assumes nothing.
-use mathlib.Core.Path.{◌≡◌}
 use Prim.Native.Nat.{◌+◌, ◌-◌, ◌*◌, ◌≤◌, ◌<◌}
-use lib.ListN.{length}
 use Rattle.arena.specs.internal.Words.{PLACES}
 use Rattle.f64_values.proofs.Valuing as valuing
 use Rattle.f64_values.proofs.Choosing as choosing
@@ -29,25 +27,23 @@ abbrev pub decreases-value : goal.decreases-value
 decreases-value l = 5 * l.depth
 
 abbrev pub invariant-choose-loop-action : goal.invariant-choose-loop-action
-invariant-choose-loop-action l = choosing.Led l.profile l.seat l.depth l.heads l.reach l.kept l.first l.count l.initial.w l.w l.lead.action l.lead.sum l.action × (l.lead.action ≤ l.action - 1) × (l.action ≤ l.count) × (length l.w ≡ length l.initial.w)
-
-abbrev pub decreases-choose-loop-action : goal.decreases-choose-loop-action
-decreases-choose-loop-action l = l.count - l.action
+invariant-choose-loop-action l = let W = l.walk in
+    choosing.Led W.others.now W.seat l.depth W.at.heads W.at.reach W.at.kept l.first l.count l.initial.w l.w l.lead.action l.lead.sum l.action × (l.lead.action ≤ l.action - 1)
 
 abbrev pub invariant-dealt-loop-at : goal.invariant-dealt-loop-at
-invariant-dealt-loop-at l = valuing.Along l.profile l.seat l.depth l.heads l.reach l.kept l.a l.end l.initial.w l.each l.w l.at l.sum × (l.at + l.depth < 8388608) × (length l.w ≡ length l.initial.w)
+invariant-dealt-loop-at l = let W = l.walk in
+    valuing.Along W.others.now W.seat l.depth W.at.heads W.at.reach W.at.kept l.a l.end l.initial.w l.each l.w l.at l.sum × (l.at + l.depth < 8388608)
 
 abbrev pub decreases-dealt-loop-at : goal.decreases-dealt-loop-at
 decreases-dealt-loop-at l = l.end - l.at
 
-abbrev pub invariant-split-loop-action : goal.invariant-split-loop-action
-invariant-split-loop-action l = valuing.Halfway l.profile l.seat l.depth l.heads l.reach l.kept l.a l.x l.initial.w l.w l.at l.action l.sum × (l.at + l.depth < 8388608) × (length l.w ≡ length l.initial.w)
-
-abbrev pub decreases-split-loop-action : goal.decreases-split-loop-action
-decreases-split-loop-action l = length l.part - l.action
+abbrev pub invariant-split-loop-entry : goal.invariant-split-loop-entry
+invariant-split-loop-entry l = let W = l.walk in
+    valuing.Halfway W.others.now W.seat l.depth W.at.heads W.at.reach W.at.kept l.a l.x l.initial.w l.w l.at l.entry-index l.sum × (l.at + l.depth < 8388608)
 
 abbrev pub invariant-total-loop-at : goal.invariant-total-loop-at
-invariant-total-loop-at l = choosing.Summed l.profile l.seat l.depth l.heads l.reach l.kept l.first l.action l.initial.w l.w l.at l.sum × (l.at < PLACES) × (length l.w ≡ length l.initial.w)
+invariant-total-loop-at l = let W = l.walk in
+    choosing.Summed W.others.now W.seat l.depth W.at.heads W.at.reach W.at.kept l.first l.action l.initial.w l.w l.at l.sum × (l.at < PLACES)
 
 abbrev pub decreases-total-loop-at : goal.decreases-total-loop-at
 decreases-total-loop-at l = PLACES - l.at

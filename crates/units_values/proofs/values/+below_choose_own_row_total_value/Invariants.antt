@@ -1,5 +1,5 @@
 -- Value and choice, which call each other: the remaining depth falls. Assumes nothing.
-use Rattle.std.proofs.Common.{◌≡◌, ◌+◌, ◌-◌, ◌*◌, ◌<◌, ◌≤◌, length}
+use Rattle.std.proofs.Common.{◌+◌, ◌-◌, ◌*◌, ◌<◌, ◌≤◌}
 use Rattle.arena.specs.internal.Words.{PLACES}
 use Rattle.units_values.proofs.Valuing as valuing
 use Rattle.units_values.proofs.Choosing as choosing
@@ -24,19 +24,19 @@ abbrev pub decreases-value : goal.decreases-value
 decreases-value l = 5 * l.depth
 
 abbrev pub invariant-choose-loop-action : goal.invariant-choose-loop-action
-invariant-choose-loop-action l = choosing.Led l.seat l.depth l.heads l.units l.kept l.first l.count l.initial.w l.w l.top.action l.top.sum l.action × (l.top.action ≤ l.action - 1) × (l.action ≤ l.count) × (length l.w ≡ length l.initial.w)
-
-abbrev pub decreases-choose-loop-action : goal.decreases-choose-loop-action
-decreases-choose-loop-action l = l.count - l.action
+invariant-choose-loop-action l = let W = l.walk in
+    choosing.Led W.seat l.depth W.at.heads W.at.reach W.at.kept l.first l.count l.initial.w l.w l.lead.action l.lead.sum l.action × (l.lead.action ≤ l.action - 1)
 
 abbrev pub invariant-row-loop-at : goal.invariant-row-loop-at
-invariant-row-loop-at l = valuing.Along l.seat l.depth l.heads l.units l.kept l.a l.end l.initial.w l.w l.at l.sum × (l.at + l.depth < 8388608) × (length l.w ≡ length l.initial.w)
+invariant-row-loop-at l = let W = l.walk in
+    valuing.Along W.seat l.depth W.at.heads W.at.reach W.at.kept l.a l.end l.initial.w l.w l.at l.sum × (l.at + l.depth < 8388608)
 
 abbrev pub decreases-row-loop-at : goal.decreases-row-loop-at
 decreases-row-loop-at l = l.end - l.at
 
 abbrev pub invariant-total-loop-at : goal.invariant-total-loop-at
-invariant-total-loop-at l = choosing.Summed l.seat l.depth l.heads l.units l.kept l.first l.action l.initial.w l.w l.at l.sum × (l.at < PLACES) × (length l.w ≡ length l.initial.w)
+invariant-total-loop-at l = let W = l.walk in
+    choosing.Summed W.seat l.depth W.at.heads W.at.reach W.at.kept l.first l.action l.initial.w l.w l.at l.sum × (l.at < PLACES)
 
 abbrev pub decreases-total-loop-at : goal.decreases-total-loop-at
 decreases-total-loop-at l = PLACES - l.at

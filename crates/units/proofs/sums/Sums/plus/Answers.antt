@@ -1,0 +1,12 @@
+use Rattle.std.proofs.Common.{refl}
+use Rattle.units.proofs.Six.{filled-start, filled_next, filled_all}
+use Rattle.units.proofs.sums.Sums.plus.Goals as goal
+
+pub loop-seat-init : goal.loop-seat-init
+loop-seat-init c = filled-start _
+
+pub loop-seat-preserved : goal.loop-seat-preserved
+loop-seat-preserved c = filled_next _ _ _ _ c.loop-seat-test.true refl c.loop-seat.invariant
+
+pub returns : goal.returns
+returns c = filled_all _ _ _ c.loop-seat-test.false c.loop-seat.invariant
