@@ -1,223 +1,156 @@
 // The listing of Kuhn's sets: a walk over the deals and then the histories, which writes a record at each node that is the first of its set.
 #![tactic(auto)]
 
-ghost use Rattle.std.specs.Prelude.{◌≡◌, not, [], ◌∷◌, ◌+◌, ◌≤◌, ◌<◌, eqb, length, get_or, take, set};
+ghost use Rattle.std.specs.Prelude.{◌≡◌, [], ◌∷◌, ◌+◌, ◌-◌, ◌≤◌, ◌<◌, length, get_or};
 ghost use Rattle.std.proofs.lemmas.List.Edits.{sets};
-ghost use Rattle.prelude.specs.Finite.{◌and◌, ◌or◌, some, has};
+ghost use Rattle.prelude.specs.Finite.{some};
 ghost use Rattle.kuhn_tree.specs.Order.{histories, lowest_but, first};
-ghost use Rattle.listing_records.specs.Listing.{padded};
 ghost use Rattle.listing_records.specs.internal.Written.{Wrote};
 ghost use Rattle.kuhn_listing.specs.Facts.{listing_of_kuhn};
-ghost use Rattle.kuhn_listing.specs.internal.Walk.{records_of, hand_records, next_deals, InDeck};
+ghost use Rattle.kuhn_listing.specs.internal.Walk.{records_of, hand_records, deal_records, InDeck};
 
+use arrayvec::ArrayVec;
 use kuhn_betting::{BET, PASS, is_terminal};
-use prelude::{contains, wide};
+use listing_records::{KEY, Record};
+use prelude::contains;
 
 // The legal count of every set.
 const LEGAL: u8 = 2;
 
-// Kuhn has no public card.
-const NO_PUBLIC: u8 = 255;
-
-// Whether card y was left when the first q seats had theirs, and is not card x.
-fn left_but(cards: &[u8], q: usize, x: usize, y: usize) -> bool
-    requires { q ≤ length cards.now }
-    ensures { result ≡ (not (has y (take q cards.now)) and not (eqb y x)) }
-{
-    if contains(cards, q, y) {
-        return false;
-    }
-    y != x
-}
-
 // Whether seat q was dealt the lowest card then left, but for card x.
-fn lowest_but(cards: &[u8], n: usize, x: usize, q: usize) -> bool
-    requires { (q < n) × (n ≤ length cards.now) × (get_or cards.now q 0 ≤ n) }
-    ensures { result ≡ lowest_but n (take n cards.now) x q }
+fn lowest_but(cards: &[u8], x: usize, q: usize) -> bool
+    requires { (q < length cards.now) × (get_or cards.now q 0 ≤ length cards.now) }
+    ensures { result ≡ lowest_but (length cards.now) cards.now x q }
 {
-    let card = wide(cards[q]);
-    let mut y = 0;
-    while y < card {
-        if left_but(cards, q, x, y) {
+    for y in 0..usize::from(cards[q]) {
+        if y != x && !contains(&cards[..q], y) {
             return false;
         }
-        y += 1;
     }
     true
 }
 
-// The same of every seat but one.
-fn lowest_unless(cards: &[u8], n: usize, seat: usize, x: usize, q: usize) -> bool
-    requires { (q < n) × (n ≤ length cards.now) × (get_or cards.now q 0 ≤ n) }
-    ensures { result ≡ (eqb q seat or lowest_but n (take n cards.now) x q) }
-{
-    if q == seat {
-        return true;
-    }
-    lowest_but(cards, n, x, q)
-}
-
 // Whether the nodes at which a seat acts are the first of their sets: every other seat was dealt the lowest card then left, but for this seat's.
-fn is_first(cards: &[u8], n: usize, seat: usize) -> bool
-    requires { (seat < n) × (n ≤ length cards.now) × InDeck n n cards.now }
-    ensures { result ≡ first n (take n cards.now) seat }
+fn is_first(cards: &[u8], seat: usize) -> bool
+    requires { (seat < length cards.now) × InDeck (length cards.now) (length cards.now) cards.now }
+    ensures { result ≡ first (length cards.now) cards.now seat }
 {
-    let x = wide(cards[seat]);
-    let mut q = 0;
-    while q < n {
-        if !lowest_unless(cards, n, seat, x, q) {
+    let x = usize::from(cards[seat]);
+    for q in 0..cards.len() {
+        if q != seat && !lowest_but(cards, x, q) {
             return false;
         }
-        q += 1;
     }
     true
 }
 
 // Whether that is so of some seat.
-fn any_first(cards: &[u8], n: usize) -> bool
-    requires { (n ≤ length cards.now) × InDeck n n cards.now }
-    ensures { result ≡ some n (first n (take n cards.now)) }
+fn any_first(cards: &[u8]) -> bool
+    requires { InDeck (length cards.now) (length cards.now) cards.now }
+    ensures { result ≡ some (length cards.now) (first (length cards.now) cards.now) }
 {
-    let mut seat = 0;
-    while seat < n {
-        if is_first(cards, n, seat) {
+    for seat in 0..cards.len() {
+        if is_first(cards, seat) {
             return true;
         }
-        seat += 1;
     }
     false
 }
 
-// A key in its 13 bytes: seat, card, history.
-fn key_of(seat: u8, card: u8, history: &[u8], acted: usize) -> [u8; 13]
-    requires { (acted ≤ length history.now) × (acted ≤ 11) }
-    ensures { result ≡ padded 13 (seat ∷ card ∷ take acted history.now) }
+// A key: seat, card, history.
+fn key_of(seat: u8, card: u8, history: &[u8]) -> ArrayVec<u8, KEY>
+    requires { length history.now ≤ 11 }
+    ensures { result.items ≡ seat ∷ card ∷ history.now }
 {
-    let mut key = [0u8; 13];
-    key[0] = seat;
-    key[1] = card;
-    prelude::copy_at(&mut key, 2, history, acted);
+    let mut key = ArrayVec::new();
+    key.push(seat);
+    key.push(card);
+    for action in history {
+        key.push(*action);
+    }
     key
 }
 
 // The record of a node, if it is the first of its set.
-fn write_first(
-    out: &mut [u8],
-    at: usize,
-    n: usize,
-    cards: [u8; 6],
-    history: [u8; 11],
-    acted: usize,
-) -> usize
-    requires le_n { (1 ≤ n) × (n ≤ 6) × (acted ≤ 11) × InDeck n n cards }
-    requires history_in_bounds { at + length (records_of n (take n cards) (take acted history ∷ [])) ≤ length out.old }
-    ensures { Wrote out.old out.new (records_of n (take n cards) (take acted history ∷ [])) at result }
+fn write_first(out: &mut [u8], at: usize, cards: &[u8], history: &[u8]) -> usize
+    requires deal { (1 ≤ length cards.now) × (length cards.now ≤ 6) × InDeck (length cards.now) (length cards.now) cards.now }
+    requires few { length history.now ≤ 11 }
+    requires room { at + length (records_of (length cards.now) cards.now (history.now ∷ [])) ≤ length out.old }
+    ensures { Wrote out.old out.new (records_of (length cards.now) cards.now (history.now ∷ [])) at result }
 {
-    let seat = acted % n;
-    if !is_first(&cards, n, seat) {
+    let seat = history.len() % cards.len();
+    if !is_first(cards, seat) {
         return at;
     }
-    let key = key_of(seat as u8, cards[seat], &history, acted);
-    let six = listing_records::in_six(&cards, n);
-    listing_records::put_record(
-        out,
-        at,
-        seat as u8,
-        (acted + 2) as u8,
-        key,
-        NO_PUBLIC,
-        six,
-        LEGAL,
-    );
-    at + listing_records::RECORD
-}
-
-// One action more.
-fn with_action(history: [u8; 11], acted: usize, action: u8) -> [u8; 11]
-    requires { acted < 11 }
-    ensures { result ≡ set history acted action }
-{
-    let mut next = history;
-    next[acted] = action;
-    next
-}
-
-// One card more.
-fn with_card(cards: [u8; 6], dealt: usize, card: usize) -> [u8; 6]
-    requires { (dealt < 6) × (card ≤ 6) }
-    ensures { result ≡ set cards dealt card }
-{
-    let mut next = cards;
-    next[dealt] = card as u8;
-    next
+    let key = key_of(seat as u8, cards[seat], history);
+    Record {
+        seat: seat as u8,
+        key: key.as_slice(),
+        public: None,
+        cards,
+        legal: LEGAL,
+    }
+    .put(out, at)
 }
 
 // The records from a history on, with at most so many actions left: the node, then what follows a pass, then what follows a bet.
 fn list_hand(
     out: &mut [u8],
     at: usize,
-    n: usize,
-    cards: [u8; 6],
-    history: [u8; 11],
-    acted: usize,
+    cards: &[u8],
+    history: &mut ArrayVec<u8, 11>,
     left: usize,
 ) -> usize
-    requires le_n { (1 ≤ n) × (n ≤ 6) × (acted + left ≤ 11) × InDeck n n cards }
-    requires history_in_bounds { at + length (hand_records n (take n cards) left (take acted history)) ≤ length out.old }
-    ensures { Wrote out.old out.new (hand_records n (take n cards) left (take acted history)) at result }
+    requires deal { (1 ≤ length cards.now) × (length cards.now ≤ 6) × InDeck (length cards.now) (length cards.now) cards.now }
+    requires few { length history.old.items + left ≤ 11 }
+    requires room { at + length (hand_records (length cards.now) cards.now left history.old.items) ≤ length out.old }
+    ensures records { Wrote out.old out.new (hand_records (length cards.now) cards.now left history.old.items) at result }
+    ensures same { history.new.items ≡ history.old.items }
 {
-    if left == 0 {
+    if left == 0 || is_terminal(history.as_slice(), cards.len()) {
         return at;
     }
-    if is_terminal(&history, acted, n) {
-        return at;
-    }
-    let here = write_first(out, at, n, cards, history, acted);
-    let passed = with_action(history, acted, PASS);
-    let next = list_hand(out, here, n, cards, passed, acted + 1, left - 1);
-    let bet = with_action(history, acted, BET);
-    list_hand(out, next, n, cards, bet, acted + 1, left - 1)
+    let here = write_first(out, at, cards, history.as_slice());
+    history.push(PASS);
+    let passed = list_hand(out, here, cards, history, left - 1);
+    history.pop();
+    history.push(BET);
+    let bet = list_hand(out, passed, cards, history, left - 1);
+    history.pop();
+    bet
 }
 
 // The records below a full deal: none, if no seat's nodes are the first of their sets.
-fn list_deal(out: &mut [u8], at: usize, n: usize, cards: [u8; 6]) -> usize
-    requires le_n { (1 ≤ n) × (n ≤ 6) × InDeck n n cards }
-    requires n_in_bounds { at + length (records_of n (take n cards) (histories n)) ≤ length out.old }
-    ensures { Wrote out.old out.new (records_of n (take n cards) (histories n)) at result }
+fn list_deal(out: &mut [u8], at: usize, cards: &[u8]) -> usize
+    requires deal { (1 ≤ length cards.now) × (length cards.now ≤ 6) × InDeck (length cards.now) (length cards.now) cards.now }
+    requires room { at + length (records_of (length cards.now) cards.now (histories (length cards.now))) ≤ length out.old }
+    ensures { Wrote out.old out.new (records_of (length cards.now) cards.now (histories (length cards.now))) at result }
 {
-    if !any_first(&cards, n) {
+    if !any_first(cards) {
         return at;
     }
-    let none = [0u8; 11];
-    list_hand(out, at, n, cards, none, 0, 2 * n - 1)
+    list_hand(out, at, cards, &mut ArrayVec::new(), 2 * cards.len() - 1)
 }
 
-// The records below the deals of a card below a bound to the next seat, lower cards first.
-fn list_deals(
-    out: &mut [u8],
-    at: usize,
-    n: usize,
-    cards: [u8; 6],
-    dealt: usize,
-    bound: usize,
-) -> usize
-    requires dealt_lt_n { (dealt < n) × (n ≤ 6) × (bound ≤ n + 1) × InDeck n dealt cards }
-    requires bound_in_bounds { at + length (next_deals n dealt (take dealt cards) bound) ≤ length out.old }
-    ensures { Wrote out.old out.new (next_deals n dealt (take dealt cards) bound) at result }
+// The records below a deal to the first of n seats, lower cards first.
+fn list_deals(out: &mut [u8], at: usize, n: usize, cards: &mut ArrayVec<u8, 6>) -> usize
+    requires deal { (1 ≤ n) × (n ≤ 6) × (length cards.old.items ≤ n) × InDeck n (length cards.old.items) cards.old.items }
+    requires room { at + length (deal_records n (n - length cards.old.items) cards.old.items) ≤ length out.old }
+    ensures records { Wrote out.old out.new (deal_records n (n - length cards.old.items) cards.old.items) at result }
+    ensures same { cards.new.items ≡ cards.old.items }
 {
-    if bound == 0 {
-        return at;
+    if cards.len() == n {
+        return list_deal(out, at, cards.as_slice());
     }
-    let card = bound - 1;
-    let next = list_deals(out, at, n, cards, dealt, card);
-    if contains(&cards, dealt, card) {
-        return next;
+    let mut next = at;
+    for card in 0..n + 1 {
+        if !contains(cards.as_slice(), card) {
+            cards.push(card as u8);
+            next = list_deals(out, next, n, cards);
+            cards.pop();
+        }
     }
-    let more = with_card(cards, dealt, card);
-    if dealt + 1 == n {
-        return list_deal(out, next, n, more);
-    }
-    list_deals(out, next, n, more, dealt + 1, n + 1)
+    next
 }
 
 // The listing of Kuhn's sets with n seats, from the start of an output.
@@ -225,6 +158,5 @@ pub fn list_sets(out: &mut [u8], n: usize)
     requires { (1 ≤ n) × (n ≤ 6) × (length (listing_of_kuhn n) ≤ length out.old) }
     ensures { out.new ≡ sets out.old 0 (listing_of_kuhn n) }
 {
-    let none = [0u8; 6];
-    list_deals(out, 0, n, none, 0, n + 1);
+    list_deals(out, 0, n, &mut ArrayVec::new());
 }

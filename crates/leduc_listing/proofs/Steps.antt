@@ -1,24 +1,32 @@
 -- What the walk writes, step by step: a node, and what follows the moves below a bound. Assumes nothing.
-use mathlib.Core.Path.{◌≡◌, refl, sym, ap, ap₂, ◌∙◌}
+use mathlib.Core.Path.{◌≡◌, refl, sym, ap, ap₂, subst, ◌∙◌}
 use mathlib.Core.Bool.{Bool, true, false, not, cond}
 use mathlib.Core.List.{List, [], ◌∷◌, ◌++◌, append-nil, append_assoc, map}
-use Prim.Native.Nat.{ℕ, zero, suc, ◌+◌, ◌-◌, ◌≤◌}
+use Prim.Native.Nat.{ℕ, zero, suc, ◌+◌, ◌-◌, ◌≤◌, ◌<◌}
+use native.Mathlib.Nat as NatL
+use native.Mathlib.Numerals.{add-one}
 use native.Mathlib.Omega.{arith}
+use lib.Dec.{ltb}
 use lib.ListN.{length, length-append}
-use lib.Seq.{sets}
-use Rattle.prelude.specs.Finite.{◌or◌, those}
-use Rattle.prelude.proofs.Tests.{Tested, holds, fails, tested}
+use borrow.Author.Tests.{le-ltb, lt-ltb, ltb-false, not-true}
+use Rattle.std.specs.Prelude.{Option, None, Some, is_none, unwrap_or}
+use Rattle.prelude.specs.Finite.{◌and◌, ◌or◌, those, has}
+use Rattle.prelude.proofs.Tests.{Tested, holds, fails, tested, and_left, or_false_left, true≢false}
 use Rattle.prelude.proofs.Lists.{those_kept, those_passed}
 use Rattle.leduc_betting.specs.Cards.{seen, left, remaining}
 use Rattle.leduc_betting.specs.Betting.{may, options, in_play}
 use Rattle.leduc_rules.specs.Rules.{live, shown-public}
+use Rattle.leduc_rules.specs.Rules as Rules
+use Rattle.leduc_listing_positions.specs.declared.spot.Spot.{Spot}
+use Rattle.leduc_listing_positions.specs.internal.Spots.{placed, Room}
+use Rattle.leduc_listing_positions.proofs.Spots.{shown_is}
 use Rattle.leduc_tree.specs.Tree.{Position, dealt, acted, due, ended, actor, key, choices, next, card, action, nothing, start}
 use Rattle.leduc_tree.specs.internal.Tree.{acts}
 use Rattle.leduc_tree.specs.Turns as Turns
 use Rattle.leduc_tree.specs.Turns.{turns, is_first, decision_at}
 use Rattle.listing_records.specs.Listing.{padded, bytes_of}
 use Rattle.listing_records.specs.internal.Written.{joined, Wrote}
-use Rattle.listing_records.proofs.Bytes.{joined_last, length-bytes, wrote_as, wrote_append}
+use Rattle.listing_records.proofs.Bytes.{joined_last, length-bytes, wrote_as}
 use Rattle.leduc_listing.specs.Listing.{cards_of}
 use Rattle.leduc_listing.specs.Facts.{listing_of_leduc}
 use Rattle.leduc_listing.specs.internal.Walk.{record_at, records_of, node_records, is_move, move_bound, moved, next_records}
@@ -41,15 +49,57 @@ pub node-length : (q : Position) → acts q ≡ true → is_first q ≡ true →
 node-length q a e = ap length (node_first q a e) ∙ length-bytes (decision_at q) (cards_of q)
 
 -- its record, from what its parts hold
-pub wrote-node : (q : Position) (old new : List ℕ) (at seat count p legal : ℕ) (k six : List ℕ) → acts q ≡ true → is_first q ≡ true
-    → seat ≡ actor q → count ≡ length (key q) → k ≡ padded 13 (key q) → p ≡ shown-public q.public → six ≡ padded 6 q.cards → legal ≡ length (choices q)
-    → new ≡ sets old at (seat ∷ count ∷ k ++ (p ∷ six ++ (legal ∷ 0 ∷ []))) → Wrote old new (node_records q) at (at + 24)
+pub wrote-node : (q : Position) (old new : List ℕ) (at r seat legal : ℕ) (k cs : List ℕ) (p : Option ℕ) → acts q ≡ true → is_first q ≡ true
+    → seat ≡ actor q → k ≡ key q → p ≡ q.public → cs ≡ q.cards → legal ≡ length (choices q)
+    → Wrote old new (seat ∷ length k ∷ padded 13 k ++ (unwrap_or p 255 ∷ padded 6 cs ++ (legal ∷ 0 ∷ []))) at r → Wrote old new (node_records q) at r
 unfolding bytes_of
-wrote-node q old new at seat count p legal k six a e is-seat is-count is_key is-public is-six is-legal w = record {
-  next = omega (arith, node-length q a e);
-  wrote = w ∙ ap (sets old at) (ap₂ (λ x y. x ∷ y ∷ k ++ (p ∷ six ++ (legal ∷ 0 ∷ []))) is-seat is-count ∙ ap₂ (λ x y. actor q ∷ length (key q) ∷ x ++ (y ∷ six ++ (legal ∷ 0 ∷ []))) is_key is-public
-      ∙ ap₂ (λ x y. actor q ∷ length (key q) ∷ padded 13 (key q) ++ (shown-public q.public ∷ x ++ (y ∷ 0 ∷ []))) is-six is-legal ∙ sym (node_first q a e));
-}
+wrote-node q old new at r seat legal k cs p a e is-seat is_key is-public is-cards is-legal w = wrote_as (
+    ap₂ (λ x y. x ∷ length y ∷ padded 13 y ++ (unwrap_or p 255 ∷ padded 6 cs ++ (legal ∷ 0 ∷ []))) is-seat is_key
+    ∙ ap₂ (λ x y. actor q ∷ length (key q) ∷ padded 13 (key q) ++ (x ∷ padded 6 y ++ (legal ∷ 0 ∷ []))) (ap (λ o. unwrap_or o 255) is-public ∙ shown_is q.public) is-cards
+    ∙ ap (λ y. actor q ∷ length (key q) ∷ padded 13 (key q) ++ (shown-public q.public ∷ padded 6 q.cards ++ (y ∷ 0 ∷ []))) is-legal ∙ sym (node_first q a e)
+    ) w
+
+-- a seat acts once both have a card
+pub both_dealt : (q : Position) → acts q ≡ true → 2 ≤ length q.cards
+unfolding live Rules.due
+both_dealt q e = ltb-false (length q.cards) 2 (or_false_left _ _ (or_false_left _ _ (not-true _ e)))
+
+-- no public card lies there while it is due
+pub none_public : (q : Position) → due q ≡ true → 2 ≤ length q.cards → q.public ≡ None
+unfolding Rules.due Rules.public-due ◌or◌
+none_public q e l = at q.public (and_left _ _ (sym (ap (λ b. b or Rules.public-due q.public q.first q.second) (le-ltb (length q.cards) 2 l)) ∙ e))
+  where
+    at : (p : Option ℕ) → is_none p ≡ true → p ≡ None
+    at None w = refl
+    at (Some c) w = true≢false false w refl
+
+-- ---- whether a number is a move
+module _ (q : Position) (a : ℕ) where
+  pub move_card : (b : Bool) → due q ≡ true → a < 6 → b ≡ has a (seen q.cards q.public) → not b ≡ is_move q a
+  unfolding is_move left ◌and◌
+  move_card b d l e = rw (d, lt-ltb a 6 l, e) refl
+
+  pub no_card : (n : ℕ) → due q ≡ true → n ≡ 6 → n ≤ a → ltb a n ≡ is_move q a
+  unfolding is_move left ◌and◌
+  no_card n d e l = let low : 6 ≤ a = omega (arith, e, l) in rw (d, e, le-ltb a 6 low) refl
+
+  pub move_action : (b : Bool) → due q ≡ false → b ≡ may (in_play q.first q.second) a → b ≡ is_move q a
+  unfolding is_move
+  move_action b d e = rw d e
+
+-- of three actions no more than three are legal
+pub those_few : (n : ℕ) (p : ℕ → Bool) → length (those n p) ≤ n
+unfolding those
+those_few zero p = omega arith
+those_few (suc n) p = at (tested (p n)) (those_few n p)
+  where
+    at : Tested (p n) → length (those n p) ≤ n → length (those (suc n) p) ≤ suc n
+    at (holds e) w = omega (arith, ap length (those_kept p n e), length-append (those n p) (n ∷ []))
+    at (fails e) w = omega (arith, ap length (those_passed p n e))
+
+pub options_few : (h : List ℕ) → length (options h) ≤ 3
+unfolding options
+options_few h = those_few 3 (may h)
 
 -- ---- lists of records
 records_append : (ps qs : List Position) → records_of (ps ++ qs) ≡ records_of ps ++ records_of qs
@@ -95,48 +145,60 @@ module _ (r : ℕ) (q : Position) where
   abbrev after : ℕ → List ℕ
   after a = records_of (turns r (next (moved q a)) (moved q a))
 
-  pub moves_none : (b : ℕ) → b ≡ 0 → next_records r q b ≡ []
+  pub moves_none : next_records r q 0 ≡ []
   unfolding next_records those joined
-  moves_none b e = ap (next_records r q) e
+  moves_none = refl
 
-  pub moves_passed : (b : ℕ) → (b ≡ 0 → ⊥) → is_move q (b - 1) ≡ false → next_records r q b ≡ next_records r q (b - 1)
+  moves_less : (a : ℕ) → is_move q a ≡ false → next_records r q (suc a) ≡ next_records r q a
   unfolding next_records
-  moves_passed zero f e = absurd (f refl)
-  moves_passed (suc b) f e = let z : suc b - 1 ≡ b = omega arith in rw z (ap (λ l. joined l after) (those_passed (is_move q) b (rw z at e)))
+  moves_less a e = ap (λ l. joined l after) (those_passed (is_move q) a e)
 
-  moves_kept : (b : ℕ) → (b ≡ 0 → ⊥) → is_move q (b - 1) ≡ true → next_records r q b ≡ next_records r q (b - 1) ++ after (b - 1)
+  pub moves_passed : (a : ℕ) → is_move q a ≡ false → next_records r q (a + 1) ≡ next_records r q a
+  moves_passed a e = ap (next_records r q) (add-one a) ∙ moves_less a e
+
+  moves_kept : (a : ℕ) → is_move q a ≡ true → next_records r q (suc a) ≡ next_records r q a ++ after a
   unfolding next_records
-  moves_kept zero f e = absurd (f refl)
-  moves_kept (suc b) f e = let z : suc b - 1 ≡ b = omega arith in
-      rw z (ap (λ l. joined l after) (those_kept (is_move q) b (rw z at e)) ∙ joined_last (those b (is_move q)) b after)
+  moves_kept a e = ap (λ l. joined l after) (those_kept (is_move q) a e) ∙ joined_last (those a (is_move q)) a after
 
-  pub fewer_moves : (b : ℕ) → (b ≡ 0 → ⊥) → length (next_records r q (b - 1)) ≤ length (next_records r q b)
-  fewer_moves b f = at (tested (is_move q (b - 1)))
+  moves_grow : (a : ℕ) → length (next_records r q a) ≤ length (next_records r q (suc a))
+  moves_grow a = at (tested (is_move q a))
     where
-      at : Tested (is_move q (b - 1)) → length (next_records r q (b - 1)) ≤ length (next_records r q b)
-      at (holds e) = omega (arith, ap length (moves_kept b f e), length-append (next_records r q (b - 1)) (after (b - 1)))
-      at (fails e) = omega (arith, ap length (moves_passed b f e))
+      at : Tested (is_move q a) → length (next_records r q a) ≤ length (next_records r q (suc a))
+      at (holds e) = omega (arith, ap length (moves_kept a e), length-append (next_records r q a) (after a))
+      at (fails e) = omega (arith, ap length (moves_less a e))
+
+  moves-mount : (a i : ℕ) → length (next_records r q a) ≤ length (next_records r q (i + a))
+  moves-mount a zero = rw (NatL.zero-add a) (NatL.le_refl _)
+  moves-mount a (suc i) = rw (NatL.suc-add i a) (NatL.le_trans (moves-mount a i) (moves_grow (i + a)))
 
 pub moves_spent : (r : ℕ) (q : Position) (b : ℕ) → r ≡ 0 → next_records r q b ≡ []
 unfolding next_records turns records_of
 moves_spent r q b e = ap (λ k. next_records k q b) e ∙ joined_none (those b (is_move q))
 
 -- a move: the node after it, then that one's moves
-pub moves_more : (r : ℕ) (q s : Position) (b : ℕ) → (r ≡ 0 → ⊥) → (b ≡ 0 → ⊥) → is_move q (b - 1) ≡ true → s ≡ moved q (b - 1)
-    → next_records r q b ≡ next_records r q (b - 1) ++ (node_records s ++ next_records (r - 1) s (move_bound s))
-moves_more zero q s b f g e w = absurd (f refl)
-moves_more (suc r) q s b f g e w = let z : suc r - 1 ≡ r = omega arith in
-    rw z (moves_kept (suc r) q b g e ∙ ap (λ l. next_records (suc r) q (b - 1) ++ l) (ap (λ p. records_of (turns (suc r) (next p) p)) (sym w) ∙ from_node r s))
+module _ (r : ℕ) (q s : Position) (a : ℕ) (more : r ≡ 0 → ⊥) (move : is_move q a ≡ true) (is-moved : s ≡ moved q a) where
+  pub moves_more : next_records r q (a + 1) ≡ next_records r q a ++ (node_records s ++ next_records (r - 1) s (move_bound s))
+  moves_more = let z : suc (r - 1) ≡ r = omega (arith, more) in
+      ap (next_records r q) (add-one a) ∙ moves_kept r q a move ∙ ap (λ l. next_records r q a ++ l)
+      (ap₂ (λ k p. records_of (turns k (next p) p)) (sym z) (sym is-moved) ∙ from_node (r - 1) s)
 
-module _ (r : ℕ) (q s : Position) (b m : ℕ) (more : r ≡ 0 → ⊥) (some-bound : b ≡ 0 → ⊥) (move : is_move q (b - 1) ≡ true) (is-moved : s ≡ moved q (b - 1)) (is_bound : m ≡ move_bound s) where
-  pub moves-length : length (next_records r q b) ≡ length (next_records r q (b - 1)) + (length (node_records s) + length (next_records (r - 1) s m))
-  moves-length = ap length (moves_more r q s b more some-bound move is-moved ∙ ap (λ k. next_records r q (b - 1) ++ (node_records s ++ next_records (r - 1) s k)) (sym is_bound))
-      ∙ length-append (next_records r q (b - 1)) (node_records s ++ next_records (r - 1) s m) ∙ ap (λ k. length (next_records r q (b - 1)) + k) (length-append (node_records s) (next_records (r - 1) s m))
+  pub moves_fit : (b : ℕ) → a < b → length (next_records r q a) + (length (node_records s) + length (next_records (r - 1) s (move_bound s))) ≤ length (next_records r q b)
+  moves_fit b l = omega (
+    arith,
+    up,
+    ap length moves_more,
+    length-append (next_records r q a) (node_records s ++ next_records (r - 1) s (move_bound s)),
+    length-append (node_records s) (next_records (r - 1) s (move_bound s)),
+  )
+    where
+      up : length (next_records r q (a + 1)) ≤ length (next_records r q b)
+      up = subst (λ k. length (next_records r q (a + 1)) ≤ length (next_records r q k)) (let e : b - (a + 1) + (a + 1) ≡ b = omega (arith, l) in e) (moves-mount r q (a + 1) (b - (a + 1)))
 
-  pub wrote-moves : {o x y z : List ℕ} {at i j k : ℕ} → Wrote o x (next_records r q (b - 1)) at i → Wrote x y (node_records s) i j → Wrote y z (next_records (r - 1) s m) j k → Wrote o z (next_records r q b) at k
-  wrote-moves u v w = wrote_as (ap (λ k. next_records r q (b - 1) ++ (node_records s ++ next_records (r - 1) s k)) is_bound ∙ sym (moves_more r q s b more some-bound move is-moved)) (wrote_append u (wrote_append v w))
+-- ---- a spot that holds the same position has the same room
+pub room_same : (s t : Spot) (k : ℕ) → placed s ≡ placed t → Room t k → Room s k
+room_same s t k e g = record { seats = omega (arith, g.seats, ap (λ q. length q.cards) e); places = omega (arith, g.places, ap (λ q. length q.cards) e, ap (λ q. length q.first) e, ap (λ q. length q.second) e) }
 
 -- ---- from the start: its moves alone
-pub from_start : listing_of_leduc ≡ next_records 10 start 6
-unfolding node_records live ◌or◌ Rattle.leduc_rules.specs.Rules.due move_bound
-from_start = walked ∙ from_node 10 start
+pub from_start : (q : Position) → q ≡ start → listing_of_leduc ≡ next_records 10 q (move_bound q)
+unfolding node_records live ◌or◌ Rules.due move_bound
+from_start q e = rw e (walked ∙ from_node 10 start)

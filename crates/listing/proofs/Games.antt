@@ -1,5 +1,5 @@
 -- The listing by game number, and what a call answers. Assumes nothing.
-use mathlib.Core.Path.{◌≡◌, refl, sym, ap, ap₂, ◌∙◌}
+use mathlib.Core.Path.{◌≡◌, sym, ap, ◌∙◌}
 use mathlib.Core.Bool.{false, cond}
 use mathlib.Core.List.{List, ◌++◌}
 use Prim.Native.Nat.{ℕ, zero, suc, ◌+◌, ◌*◌, ◌≤◌}
@@ -12,8 +12,7 @@ use Rattle.kuhn_tree.specs.Tree.{tree_of_kuhn}
 use Rattle.kuhn_tree.specs.Positions as Kuhn-tree
 use Rattle.leduc_tree.specs.Tree.{tree_of_leduc}
 use Rattle.leduc_tree.specs.Positions as Leduc-tree
-use Rattle.games.specs.declared.Game.{Game}
-use Rattle.games.specs.Games.{tree_of}
+use Rattle.games.specs.Games.{Game, tree_of}
 use Rattle.games.specs.Seats.{seats-out}
 use Rattle.games.specs.Facts.{nodes_of, sets_of}
 use Rattle.games.proofs.Facts.{counted_games}
@@ -23,7 +22,7 @@ use Rattle.kuhn_listing.specs.Listing as Kuhn
 use Rattle.kuhn_listing.specs.Facts.{listing_of_kuhn}
 use Rattle.leduc_listing.specs.Listing as Leduc
 use Rattle.leduc_listing.specs.Facts.{listing_of_leduc}
-use Rattle.listing.specs.Calls.{cards_at, listing_of, answer, written}
+use Rattle.listing.specs.Calls.{cards_at, listing_of, written}
 
 -- ---- which game is listed
 module _ (g : Game) where
@@ -47,19 +46,7 @@ module _ (g : Game) (out : seats-out g ≡ false) where
   pub sets-counted : (n : ℕ) → n ≡ sets_of g → n ≡ set_count (tree_of g)
   sets-counted n e = e ∙ sym (counted_games g out).1
 
--- ---- the answer and the output
-pub not_listed : (r q : ℕ) (g : Game) → r ≡ q → (r ≡ 0 → ⊥) → record { refusal = r; nodes = 0; sets = 0 } ≡ answer q g
-not_listed r zero g e n = absurd (n e)
-not_listed r (suc q) g e n = ap (λ x. record { refusal = x; nodes = 0; sets = 0 }) e
-
-pub listed : (r q a b : ℕ) (g : Game) → r ≡ q → r ≡ 0 → a ≡ size (tree_of g) → b ≡ set_count (tree_of g) → record { refusal = r; nodes = a; sets = b } ≡ answer q g
-listed r zero a b g e z v w = ap (λ x. record { refusal = x; nodes = a; sets = b }) z ∙ ap₂ (λ x y. record { refusal = 0; nodes = x; sets = y }) v w
-listed r (suc q) a b g e z v w = absurd (omega arith)
-
-pub not_written : (r : ℕ) (g : Game) (out : List ℕ) → (r ≡ 0 → ⊥) → out ≡ written r g out
-not_written zero g out n = absurd (n refl)
-not_written (suc r) g out n = refl
-
+-- ---- the output
 pub written_on : (r : ℕ) (g : Game) (out x : List ℕ) → r ≡ 0 → length (listing_of g) ≤ length out → x ≡ sets out 0 (listing_of g) → x ≡ written r g out
 written_on zero g out x z l e = e ∙ sets-eq (listing_of g) out 0 (omega arith) ∙ ap (λ n. listing_of g ++ drop n out) from_start
   where

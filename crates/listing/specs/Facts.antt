@@ -1,8 +1,7 @@
 -- What holds of the listing by game number, proved in proofs/Facts.antt.
 use Rattle.std.specs.Prelude.{◌≡◌, ℕ, ◌*◌, length}
 use Rattle.game_tree.specs.Sets.{set_count}
-use Rattle.games.specs.declared.Game.{Game}
-use Rattle.games.specs.Games.{tree_of}
+use Rattle.games.specs.Games.{Game, tree_of}
 use Rattle.kuhn_listing.specs.Facts.{listing_of_kuhn}
 use Rattle.leduc_listing.specs.Facts.{listing_of_leduc}
 use Rattle.listing.specs.Calls.{listing_of, game_of}

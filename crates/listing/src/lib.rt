@@ -3,13 +3,23 @@
 
 ghost use Rattle.std.specs.Prelude.{◌≡◌, ◌≤◌, length};
 ghost use Rattle.std.proofs.lemmas.List.Edits.{sets};
+ghost use Rattle.refusals.specs.Outcomes.{number_of};
 ghost use Rattle.games.specs.Known.{Known};
+ghost use Rattle.games.specs.internal.Numbered.{numbered};
 ghost use Rattle.tree_refusals.specs.Checks.{listing-refusal};
-ghost use Rattle.listing.specs.Calls.{listing_of, answer, written, game_of};
+ghost use Rattle.listing.specs.Calls.{listing_of, answer, answer_of, written, game_of};
 
 use games::Game;
+use refusals::{Refusal, number_of};
 
-// A call's refusal number, 0 if it was accepted, and the nodes and sets of the game's tree; these are 0 if it was refused. C has it as it is.
+// The nodes and sets of a game's tree.
+#[derive(Clone, Copy, Default)]
+pub struct Listed {
+    pub nodes: usize,
+    pub sets: usize,
+}
+
+// For C, a call's refusal number, 0 if it was accepted, and the nodes and sets; these are 0 if it was refused.
 #[repr(C)]
 #[derive(Clone, Copy)]
 pub struct ListingAnswer {
@@ -18,16 +28,29 @@ pub struct ListingAnswer {
     pub sets: usize,
 }
 
-// The listing of a game whose tree is not refused, from the start of an output.
-fn write_listing(g: Game, out: &mut [u8])
-    requires { Known g × (length (listing_of g) ≤ length out.old) }
-    ensures { out.new ≡ sets out.old 0 (listing_of g) }
-{
-    if g.number == Game::KUHN {
-        kuhn_listing::list_sets(out, g.seats);
-        return;
+impl From<Result<Listed, Refusal>> for ListingAnswer {
+    ghost from_gives = { λ outcome answer. answer ≡ answer_of outcome };
+
+    fn from(outcome: Result<Listed, Refusal>) -> Self {
+        let refusal = number_of(&outcome);
+        let Listed { nodes, sets } = outcome.unwrap_or_default();
+        ListingAnswer {
+            refusal,
+            nodes,
+            sets,
+        }
     }
-    leduc_listing::list_sets(out);
+}
+
+// The listing of a game whose tree is not refused, from the start of an output.
+fn write_listing(game: Game, out: &mut [u8])
+    requires { Known (numbered game) × (length (listing_of (numbered game)) ≤ length out.old) }
+    ensures { out.new ≡ sets out.old 0 (listing_of (numbered game)) }
+{
+    match game {
+        Game::Kuhn(seats) => kuhn_listing::list_sets(out, seats.count),
+        Game::Leduc => leduc_listing::list_sets(out),
+    }
 }
 
 // The sets of a game, written to out in set order, 24 bytes each: seat, key length, key, public card or 255, the first node's cards, legal count, 0.
@@ -37,24 +60,15 @@ pub fn enumerate_infosets(
     seats: usize,
     work: &[u64],
     out: &mut [u8],
-) -> ListingAnswer
-    ensures answer { result ≡ answer (listing-refusal (game_of number seats) (length work.now) (length out.old))
+) -> Result<Listed, Refusal>
+    ensures answer { answer_of result ≡ answer (listing-refusal (game_of number seats) (length work.now) (length out.old))
         (game_of number seats) }
-    ensures output { out.new ≡ written result.refusal (game_of number seats) out.old }
+    ensures output { out.new ≡ written (number_of result) (game_of number seats) out.old }
 {
-    let g = Game { number, seats };
-    let refusal = tree_refusals::listing_refusal(g, work.len(), out.len());
-    if refusal != refusals::ACCEPTED {
-        return ListingAnswer {
-            refusal,
-            nodes: 0,
-            sets: 0,
-        };
-    }
-    write_listing(g, out);
-    ListingAnswer {
-        refusal,
-        nodes: g.nodes(),
-        sets: g.sets(),
-    }
+    let game = tree_refusals::check_listing(number, seats, work.len(), out.len())?;
+    write_listing(game, out);
+    Ok(Listed {
+        nodes: game.nodes(),
+        sets: game.sets(),
+    })
 }

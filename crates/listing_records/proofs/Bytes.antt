@@ -1,11 +1,10 @@
 -- Bytes stored in runs, and the bytes of a record. Assumes nothing.
 use mathlib.Core.Path.{◌≡◌, refl, sym, ap, ap₂, subst, ◌∙◌}
 use mathlib.Core.List.{List, [], ◌∷◌, ◌++◌, append_assoc, append-nil, map}
-use Prim.Native.Nat.{ℕ, zero, suc, ◌+◌, ◌-◌, ◌*◌, ◌≤◌, ◌<◌}
-use native.Mathlib.Numerals.{add-one}
+use Prim.Native.Nat.{ℕ, zero, suc, ◌+◌, ◌-◌, ◌*◌, ◌≤◌}
 use native.Mathlib.Omega.{arith}
 use lib.ListN.{length, take, drop, set, replicate, length-append, length-replicate, length-set}
-use lib.Seq.{sets, sets-eq, length-sets, paste, length-take-le, take_all, take-append-add, take-append_seam, drop-append-add, set-append_seam, take-suc-set}
+use lib.Seq.{sets, sets-eq, length-sets, paste, length-take-le, take_all, take-append-add}
 use Rattle.game_tree.specs.Tree.{Tree}
 use Rattle.listing_records.specs.Listing.{padded, Cards, bytes_of, first_node, flat, listing}
 use Rattle.listing_records.specs.internal.Written.{joined, Wrote}
@@ -17,10 +16,6 @@ pub joined_last : {A : Type 0} (l : List ℕ) (c : ℕ) (g : ℕ → List A) →
 unfolding joined
 joined_last [] c g = append-nil (g c)
 joined_last (x ∷ l) c g = ap (λ r. g x ++ r) (joined_last l c g) ∙ sym (append_assoc (g x) (joined l g) (g c))
-
--- in an array
-pub one_more : (xs : List ℕ) (at x : ℕ) → at < length xs → take (at + 1) (set xs at x) ≡ take at xs ++ (x ∷ [])
-one_more xs at x l = ap (λ k. take k (set xs at x)) (add-one at) ∙ take-suc-set xs at x l
 
 -- ---- runs of bytes, one after another
 pub sets_append : (xs ys l : List ℕ) (i : ℕ) → sets l i (xs ++ ys) ≡ sets (sets l i xs) (i + length xs) ys
@@ -61,42 +56,18 @@ take-zeros zero k l = refl
 take-zeros (suc n) zero l = absurd (omega arith)
 take-zeros (suc n) (suc k) l = ap (λ r. 0 ∷ r) (take-zeros n k (omega arith))
 
-pub drop-zeros : (n k : ℕ) → n ≤ k → drop n (zeros k) ≡ zeros (k - n)
+drop-zeros : (n k : ℕ) → n ≤ k → drop n (zeros k) ≡ zeros (k - n)
 drop-zeros zero k l = let e : k ≡ k - 0 = omega arith in ap zeros e
 drop-zeros (suc n) zero l = absurd (omega arith)
 drop-zeros (suc n) (suc k) l = let e : k - n ≡ suc k - suc n = omega arith in drop-zeros n k (omega arith) ∙ ap zeros e
 
 -- what does not fill the places leaves zeros
-pub padded-short : (k : ℕ) (l : List ℕ) → length l ≤ k → padded k l ≡ l ++ zeros (k - length l)
+padded-short : (k : ℕ) (l : List ℕ) → length l ≤ k → padded k l ≡ l ++ zeros (k - length l)
 unfolding padded
 padded-short k l w = ap (λ n. take n (l ++ replicate k 0)) e ∙ take-append-add l (zeros k) (k - length l) ∙ ap (λ r. l ++ r) (take-zeros (k - length l) k (omega arith))
   where
     e : k ≡ length l + (k - length l)
     e = omega arith
-
--- one more, stored behind what is there
-pub padded-set : (k : ℕ) (xs : List ℕ) (i y : ℕ) → length xs ≡ i → i < k → set (padded k xs) i y ≡ padded k (xs ++ (y ∷ []))
-padded-set k xs i y e l = ap₂ (λ d n. set d n y) (padded-short k xs (omega arith) ∙ ap (λ n. xs ++ zeros n) one_less) (sym e) ∙ set-append_seam xs 0 (zeros (k - suc (length xs))) y
-    ∙ sym (append_assoc xs (y ∷ []) (zeros (k - suc (length xs)))) ∙ ap (λ n. (xs ++ (y ∷ [])) ++ zeros (k - n)) (sym long)
-    ∙ sym (padded-short k (xs ++ (y ∷ [])) (omega (arith, long)))
-  where
-    one_less : k - length xs ≡ suc (k - suc (length xs))
-    one_less = omega arith
-
-    long : length (xs ++ (y ∷ [])) ≡ suc (length xs)
-    long = length-append xs (y ∷ []) ∙ add-one (length xs)
-
--- n more, copied behind it
-pub padded_run : (k : ℕ) (xs : List ℕ) (i : ℕ) (ys : List ℕ) (n : ℕ) → length xs ≡ i → i + n ≤ k → n ≤ length ys → paste (padded k xs) i ys n ≡ padded k (xs ++ take n ys)
-padded_run k xs i ys n e l w = ap₂ (λ d j. paste d j ys n) (padded-short k xs (omega arith)) (sym e)
-    ∙ ap₂ (λ a b. (a ++ take n ys) ++ b) (take-append_seam xs (zeros (k - length xs))) (drop-append-add xs (zeros (k - length xs)) n ∙ drop-zeros n (k - length xs) (omega arith) ∙ ap zeros rest)
-    ∙ sym (padded-short k (xs ++ take n ys) (omega (arith, long)))
-  where
-    long : length (xs ++ take n ys) ≡ length xs + n
-    long = length-append xs (take n ys) ∙ ap (λ j. length xs + j) (length-take-le n ys w)
-
-    rest : k - length xs - n ≡ k - length (xs ++ take n ys)
-    rest = omega (arith, long)
 
 -- the first n of s, copied onto zeros
 pub padded-paste : (k : ℕ) (s : List ℕ) (n : ℕ) → n ≤ k → n ≤ length s → paste (zeros k) 0 s n ≡ padded k (take n s)
@@ -130,18 +101,20 @@ pub length-listing : (t : Tree) (cards_of : ℕ → Cards) → length (listing t
 unfolding listing
 length-listing t cards_of = length-flat (Sets.sets t) (λ x. cards_of (first_node t x))
 
--- two stores keep the length
-pub length_two : (l : List ℕ) (i a j b : ℕ) → length (set (set l i a) j b) ≡ length l
-length_two l i a j b = length-set (set l i a) j b ∙ length-set l i a
-
 -- a record stored part by part is one run
-module _ (l key cards : List ℕ) (at s k p g : ℕ) (whole-key : length key ≡ 13) (whole-cards : length cards ≡ 6) (room : at + 24 ≤ length l) where
+module _ (l k c : List ℕ) (at s p g : ℕ) (room : at + 24 ≤ length l) (key cards : List ℕ) (is_key : key ≡ padded 13 k) (is_cards : cards ≡ padded 6 c) where
+  whole-key : length key ≡ 13
+  whole-key = ap length is_key ∙ length-padded 13 k
+
+  whole-cards : length cards ≡ 6
+  whole-cards = ap length is_cards ∙ length-padded 6 c
+
   head : List ℕ
-  head = set (set l at s) (at + 1) k
+  head = set (set l at s) (at + 1) (length k)
 
   length-head : length head ≡ length l
   unfolding head
-  length-head = length_two l at s (at + 1) k
+  length-head = length-set (set l at s) (at + 1) (length k) ∙ length-set l at s
 
   after-key : List ℕ
   after-key = sets head (at + 2) key
@@ -150,19 +123,24 @@ module _ (l key cards : List ℕ) (at s k p g : ℕ) (whole-key : length key ≡
   unfolding after-key
   length-after-key = length-sets head (at + 2) key ∙ length-head
 
-  pub record_stored : (m₁ m₂ : List ℕ) → m₁ ≡ paste (set (set l at s) (at + 1) k) (at + 2) key 13 → m₂ ≡ paste (set m₁ (at + 15) p) (at + 16) cards 6
-      → set (set m₂ (at + 22) g) (at + 23) 0 ≡ sets l at (s ∷ k ∷ key ++ (p ∷ cards ++ (g ∷ 0 ∷ [])))
-  unfolding head after-key
-  record_stored m₁ m₂ e f = ap (λ m. set (set m (at + 22) g) (at + 23) 0) (f ∙ cards_run ∙ ap (λ m. sets (set m (at + 15) p) (at + 16) cards) (e ∙ key_run)) ∙ sym whole
+  pub record_stored : (m₁ m₂ : List ℕ) → m₁ ≡ paste (set (set l at s) (at + 1) (length k)) (at + 2) key (length key) → m₂ ≡ paste (set m₁ (at + 15) p) (at + 16) cards (length cards)
+      → Wrote l (set (set m₂ (at + 22) g) (at + 23) 0) (s ∷ length k ∷ padded 13 k ++ (p ∷ padded 6 c ++ (g ∷ 0 ∷ []))) at (at + 24)
+  unfolding head after-key bytes_of
+  record_stored m₁ m₂ e f = record {
+    next = omega (arith, length-bytes (s, k, g) (p, c));
+    wrote = ap (λ m. set (set m (at + 22) g) (at + 23) 0) (f ∙ cards_run ∙ ap (λ m. sets (set m (at + 15) p) (at + 16) cards) (e ∙ key_run)) ∙ sym whole
+        ∙ ap₂ (λ x y. sets l at (s ∷ length k ∷ x ++ (p ∷ y ++ (g ∷ 0 ∷ [])))) is_key is_cards;
+  }
     where
-      key_run : paste (set (set l at s) (at + 1) k) (at + 2) key 13 ≡ after-key
-      key_run = paste-sets head (at + 2) key 13 (omega (arith, length-head)) (omega arith) ∙ ap (sets head (at + 2)) (take_all 13 key (omega arith))
+      key_run : paste (set (set l at s) (at + 1) (length k)) (at + 2) key (length key) ≡ after-key
+      key_run = paste-sets head (at + 2) key (length key) (omega (arith, length-head, whole-key)) (omega arith) ∙ ap (sets head (at + 2)) (take_all (length key) key (omega arith))
 
       length_m₁ : length m₁ ≡ length l
       length_m₁ = ap length (e ∙ key_run) ∙ length-after-key
 
-      cards_run : paste (set m₁ (at + 15) p) (at + 16) cards 6 ≡ sets (set m₁ (at + 15) p) (at + 16) cards
-      cards_run = paste-sets (set m₁ (at + 15) p) (at + 16) cards 6 (omega (arith, length-set m₁ (at + 15) p, length_m₁)) (omega arith) ∙ ap (sets (set m₁ (at + 15) p) (at + 16)) (take_all 6 cards (omega arith))
+      cards_run : paste (set m₁ (at + 15) p) (at + 16) cards (length cards) ≡ sets (set m₁ (at + 15) p) (at + 16) cards
+      cards_run = paste-sets (set m₁ (at + 15) p) (at + 16) cards (length cards) (omega (arith, length-set m₁ (at + 15) p, length_m₁, whole-cards)) (omega arith)
+          ∙ ap (sets (set m₁ (at + 15) p) (at + 16)) (take_all (length cards) cards (omega arith))
 
       one : at + 1 ≡ suc at
       one = omega arith
@@ -170,9 +148,9 @@ module _ (l key cards : List ℕ) (at s k p g : ℕ) (whole-key : length key ≡
       two : at + 2 ≡ suc (suc at)
       two = omega arith
 
-      whole : sets l at (s ∷ k ∷ key ++ (p ∷ cards ++ (g ∷ 0 ∷ []))) ≡ set (set (sets (set after-key (at + 15) p) (at + 16) cards) (at + 22) g) (at + 23) 0
-      whole = ap₂ (λ i j. sets (set (set l at s) i k) j (key ++ (p ∷ cards ++ (g ∷ 0 ∷ [])))) (sym one) (sym two)
+      whole : sets l at (s ∷ length k ∷ key ++ (p ∷ cards ++ (g ∷ 0 ∷ []))) ≡ set (set (sets (set after-key (at + 15) p) (at + 16) cards) (at + 22) g) (at + 23) 0
+      whole = ap₂ (λ i j. sets (set (set l at s) i (length k)) j (key ++ (p ∷ cards ++ (g ∷ 0 ∷ [])))) (sym one) (sym two)
           ∙ sets_append key (p ∷ cards ++ (g ∷ 0 ∷ [])) head (at + 2)
-          ∙ ap₂ (λ i j. sets (set after-key i p) j (cards ++ (g ∷ 0 ∷ []))) (let e : at + 2 + length key ≡ at + 15 = omega arith in e) (let e : suc (at + 2 + length key) ≡ at + 16 = omega arith in e)
+          ∙ ap₂ (λ i j. sets (set after-key i p) j (cards ++ (g ∷ 0 ∷ []))) (let e : at + 2 + length key ≡ at + 15 = omega (arith, whole-key) in e) (let e : suc (at + 2 + length key) ≡ at + 16 = omega (arith, whole-key) in e)
           ∙ sets_append cards (g ∷ 0 ∷ []) (set after-key (at + 15) p) (at + 16)
-          ∙ ap₂ (λ i j. set (set (sets (set after-key (at + 15) p) (at + 16) cards) i g) j 0) (let e : at + 16 + length cards ≡ at + 22 = omega arith in e) (let e : suc (at + 16 + length cards) ≡ at + 23 = omega arith in e)
+          ∙ ap₂ (λ i j. set (set (sets (set after-key (at + 15) p) (at + 16) cards) i g) j 0) (let e : at + 16 + length cards ≡ at + 22 = omega (arith, whole-cards) in e) (let e : suc (at + 16 + length cards) ≡ at + 23 = omega (arith, whole-cards) in e)

@@ -1,9 +1,11 @@
 // The bytes of a listing: one record of 24 bytes.
 #![tactic(auto)]
 
-ghost use Rattle.std.specs.Prelude.{◌≡◌, [], ◌∷◌, ◌++◌, ◌+◌, ◌≤◌, length, take};
-ghost use Rattle.std.proofs.lemmas.List.Edits.{sets};
+ghost use Rattle.std.specs.Prelude.{◌≡◌, [], ◌∷◌, ◌++◌, ◌+◌, ◌≤◌, length, unwrap_or};
 ghost use Rattle.listing_records.specs.Listing.{padded};
+ghost use Rattle.listing_records.specs.internal.Written.{Wrote};
+
+use prelude::copy_at;
 
 // The bytes of a record, and of the key and the cards in it.
 pub const RECORD: usize = 24;
@@ -12,35 +14,42 @@ pub const KEY: usize = 13;
 
 pub const CARDS: usize = 6;
 
-// The first dealt cards, in 6 bytes.
-pub fn in_six(cards: &[u8], dealt: usize) -> [u8; 6]
-    requires { (dealt ≤ length cards.now) × (dealt ≤ 6) }
-    ensures { result ≡ padded 6 (take dealt cards.now) }
-{
-    let mut six = [0u8; 6];
-    prelude::copy_at(&mut six, 0, cards, dealt);
-    six
+// What a record says of a set: who acts, its key, the public card, the cards of the set's first node, and how many actions are legal.
+#[derive(Drop)]
+pub struct Record<'a> {
+    pub seat: u8,
+    pub key: &'a [u8],
+    pub public: Option<u8>,
+    pub cards: &'a [u8],
+    pub legal: u8,
 }
 
-// One record, from a place of an output on: seat, key length, key, public card or 255, cards, legal count, 0.
-pub fn put_record(
-    out: &mut [u8],
-    at: usize,
-    seat: u8,
-    count: u8,
-    key: [u8; 13],
-    public: u8,
-    cards: [u8; 6],
-    legal: u8,
-)
-    requires { at + 24 ≤ length out.old }
-    ensures { out.new ≡ sets out.old at (seat ∷ count ∷ key ++ (public ∷ cards ++ (legal ∷ 0 ∷ []))) }
+// Bytes in N places. Those that are left are 0.
+fn padded<const N: usize>(bytes: &[u8]) -> [u8; N]
+    requires { length bytes.now ≤ N }
+    ensures { result ≡ padded N bytes.now }
 {
-    out[at] = seat;
-    out[at + 1] = count;
-    prelude::copy_at(out, at + 2, &key, KEY);
-    out[at + 15] = public;
-    prelude::copy_at(out, at + 16, &cards, CARDS);
-    out[at + 22] = legal;
-    out[at + 23] = 0;
+    let mut whole = [0u8; N];
+    copy_at(&mut whole, 0, bytes);
+    whole
+}
+
+impl Record<'_> {
+    // The output and the place are no struct: that would hold a `&mut`, and each clause would speak of what stands behind it before and after.
+    // Writes it from a place of an output on: seat, key length, key, public card or 255, cards, legal count, 0. The place behind it.
+    pub fn put(&self, out: &mut [u8], at: usize) -> usize
+        requires fits { (length self.now.key.now ≤ 13) × (length self.now.cards.now ≤ 6) }
+        requires room { at + 24 ≤ length out.old }
+        ensures { Wrote out.old out.new (self.now.seat ∷ length self.now.key.now ∷ padded 13 self.now.key.now
+            ++ (unwrap_or self.now.public 255 ∷ padded 6 self.now.cards.now ++ (self.now.legal ∷ 0 ∷ []))) at result }
+    {
+        out[at] = self.seat;
+        out[at + 1] = self.key.len() as u8;
+        copy_at(out, at + 2, &padded::<KEY>(self.key));
+        out[at + 15] = self.public.unwrap_or(255);
+        copy_at(out, at + 16, &padded::<CARDS>(self.cards));
+        out[at + 22] = self.legal;
+        out[at + 23] = 0;
+        at + RECORD
+    }
 }

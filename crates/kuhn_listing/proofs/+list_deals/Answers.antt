@@ -1,50 +1,60 @@
--- The deals of the lower cards first, then what stands below this card. The measure counts the seats without a card, then the cards below the bound. Assumes nothing.
-use mathlib.Core.Path.{refl, sym, ◌∙◌}
-use native.Mathlib.Omega.{arith}
-use borrow.Author.Rules.{rules}
-use lib.ListN.{take}
+-- The deals of the lower cards first, then what stands below this card. Assumes nothing.
+use Rattle.std.proofs.Common.{◌≡◌, ◌+◌, ◌-◌, ◌≤◌, ◌<◌, ◌++◌, ◌∷◌, [], sym, ap, refl, ◌∙◌, arith, length, false, eqb}
+use Rattle.std.specs.List.{list_any}
+use Rattle.prelude.specs.Finite.{has}
+use Rattle.prelude.proofs.Bytes.{has_any}
 use Rattle.listing_records.proofs.Bytes.{wrote_as, wrote_nothing, wrote_append}
-use Rattle.kuhn_listing.proofs.Steps.{deals_none, deals-taken, fewer_deals, more_in_deck, parts_full, full-length, parts_more, more_length}
-use Prim.Native.Nat.{◌+◌, ◌<◌}
+use Rattle.kuhn_listing.specs.internal.Walk.{next_deals}
+use Rattle.kuhn_listing.proofs.Steps.{deals_none, deals-taken, deals_left, deals_fit, all_lower, full_deal, in_deck_more, popped}
+use Rattle.kuhn_listing.proofs.+list_deals.Goals.{then-not-contains, else-not-contains}
 use Rattle.kuhn_listing.proofs.+list_deals.Goals as goal
 
-pub returns-then-bound-eq0 : goal.returns-then-bound-eq0
-returns-then-bound-eq0 t c = let a = c.args in wrote_nothing (deals_none a.n a.dealt (take a.dealt a.cards) a.bound c.if-bound-eq0.true)
+pub list_deal-requires-clause-room : goal.list_deal-requires-clause-room
+list_deal-requires-clause-room t c = let a = c.args in
+    omega (arith, c.requires.room, ap length (full_deal a.n a.cards.now.items c.as_slice.result.now c.as_slice.ensures.value (sym c.len.ensures.value ∙ c.if-len-n.true)))
+
+pub returns-then-len-n-clause-records : goal.returns-then-len-n-clause-records
+returns-then-len-n-clause-records t c = let a = c.args in
+    wrote_as (sym (full_deal a.n a.cards.now.items c.as_slice.result.now c.as_slice.ensures.value (sym c.len.ensures.value ∙ c.if-len-n.true))) c.list_deal.ensures
+
+pub loop-card-init : goal.loop-card-init
+loop-card-init t c = record { wrote = wrote_nothing (deals_none c.args.n c.args.cards.now.items); same = refl }
 
 pub list_deals-next-requires : goal.list_deals-next-requires
-list_deals-next-requires t c = let a = c.args in
-    let h0 = fewer_deals a.n a.dealt (take a.dealt a.cards) a.bound c.if-bound-eq0.false c.requires.dealt_lt_n.2 in
-    (omega (arith, c.decreases, c.if-bound-eq0.false), ((search rules, search rules, omega (arith, c.requires.dealt_lt_n.2), c.requires.dealt_lt_n.3), omega (arith, c.requires.bound_in_bounds)))
-
-pub returns-then-contains : goal.returns-then-contains
-returns-then-contains t c = let a = c.args in
-    wrote_as (sym (deals-taken a.n a.dealt (take a.dealt a.cards) a.bound c.if-bound-eq0.false (sym c.contains.ensures ∙ c.if-contains.true)))
-    c.list_deals-next.ensures
-
-pub list_deal-requires : goal.list_deal-requires
-list_deal-requires t c = let a = c.args in let m = c.with_card-more in
-    let long = full-length a.n a.dealt a.bound a.cards m.result (let v : c.args.dealt < 6 = omega (arith, c.requires.dealt_lt_n) in search (rules, c.well_formed)) m.ensures c.if-bound-eq0.false c.requires.dealt_lt_n.2
-    (sym c.contains.ensures ∙ c.if-contains.false) c.if-dealt-n.true in
-    let deck = more_in_deck a.n a.dealt a.bound a.cards m.result (let v : c.args.dealt < 6 = omega (arith, c.requires.dealt_lt_n) in search (rules, c.well_formed)) m.ensures a.n c.if-dealt-n.true (omega (arith, c.requires.dealt_lt_n.2)) c.requires.dealt_lt_n.3 in
-    (record { le_n = (omega (arith, c.requires.dealt_lt_n), c.requires.dealt_lt_n.1, deck); n_in_bounds = omega (arith, c.requires.bound_in_bounds, c.list_deals-next.auto.out, c.list_deals-next.ensures.next) })
-
-pub returns-then-dealt-n : goal.returns-then-dealt-n
-returns-then-dealt-n t c = let a = c.args in
-    let parts = parts_full a.n a.dealt a.bound a.cards c.with_card-more.result (let v : c.args.dealt < 6 = omega (arith, c.requires.dealt_lt_n) in search (rules, c.well_formed)) c.with_card-more.ensures c.if-bound-eq0.false c.requires.dealt_lt_n.2
-    (sym c.contains.ensures ∙ c.if-contains.false) c.if-dealt-n.true in
-    wrote_as (sym parts) (wrote_append c.list_deals-next.ensures c.list_deal.ensures)
-
-pub list_deals-requires : goal.list_deals-requires
-list_deals-requires t c = let a = c.args in let m = c.with_card-more in
-    let long = more_length a.n a.dealt a.bound a.cards m.result (let v : c.args.dealt < 6 = omega (arith, c.requires.dealt_lt_n) in search (rules, c.well_formed)) m.ensures c.if-bound-eq0.false c.requires.dealt_lt_n.2
-    (sym c.contains.ensures ∙ c.if-contains.false) c.requires.dealt_lt_n.0 c.if-dealt-n.false in
-    let deck = more_in_deck a.n a.dealt a.bound a.cards m.result (let v : c.args.dealt < 6 = omega (arith, c.requires.dealt_lt_n) in search (rules, c.well_formed)) m.ensures (a.dealt + 1) refl (omega (arith, c.requires.dealt_lt_n.2)) c.requires.dealt_lt_n.3 in (
-      omega (arith, c.decreases, c.requires.dealt_lt_n.0, c.requires.dealt_lt_n.1, c.if-bound-eq0.false),
-      ((omega (arith, c.requires.dealt_lt_n.0, c.if-dealt-n.false), c.requires.dealt_lt_n.1, omega arith, deck), omega (arith, c.requires.bound_in_bounds, c.list_deals-next.auto.out, c.list_deals-next.ensures.next)),
+list_deals-next-requires t c = let a = c.args in let cs = a.cards.now.items in let card = c.loop-card.card in
+    let few : length cs < a.n = omega (arith, c.requires.deal.2, c.len.ensures.value, c.if-len-n.false) in
+    let low : card ≤ a.n = omega (arith, c.loop-card-test.true) in
+    let free : has card cs ≡ false = has_any card cs ∙ sym (c.contains.ensures ∙ ap (λ l. list_any (λ b. eqb b card) l) (c.as_slice-in-loop-card.ensures.value ∙ c.loop-card.invariant.same)) ∙ c.if-not-contains.true in
+    let is-more : c.push.new.self.items ≡ cs ++ (card ∷ []) = c.push.ensures.items ∙ ap (λ l. l ++ (card ∷ [])) c.loop-card.invariant.same in
+    let long : length c.push.new.self.items ≡ length cs + 1 = c.push.ensures.len ∙ ap (λ l. length l + 1) c.loop-card.invariant.same in
+    let less : a.n - length c.push.new.self.items < t = omega (arith, c.decreases, long, few) in (
+      less,
+      (
+        (c.requires.deal.0, c.requires.deal.1, omega (arith, long, few), in_deck_more a.n cs c.push.new.self.items card is-more low c.requires.deal.3),
+        omega (arith, c.requires.room, c.loop-card.invariant.wrote.next, c.loop-card.auto.out, deals_fit a.n cs card low c.push.new.self.items is-more few free),
+      ),
     )
 
-pub returns : goal.returns
-returns t c = let a = c.args in
-    let parts = parts_more a.n a.dealt a.bound a.cards c.with_card-more.result (let v : c.args.dealt < 6 = omega (arith, c.requires.dealt_lt_n) in search (rules, c.well_formed)) c.with_card-more.ensures c.if-bound-eq0.false c.requires.dealt_lt_n.2
-    (sym c.contains.ensures ∙ c.if-contains.false) c.requires.dealt_lt_n.0 c.if-dealt-n.false in
-    wrote_as (sym parts) (wrote_append c.list_deals-next.ensures c.list_deals.ensures)
+pub loop-card-preserved : goal.loop-card-preserved
+loop-card-preserved t c = let a = c.args in let cs = a.cards.now.items in let card = c.loop-card.card in
+    let few : length cs < a.n = omega (arith, c.requires.deal.2, c.len.ensures.value, c.if-len-n.false) in
+    let low : card ≤ a.n = omega (arith, c.loop-card-test.true) in
+    let had : has card cs ≡ c.contains.result = has_any card cs ∙ sym (c.contains.ensures ∙ ap (λ l. list_any (λ b. eqb b card) l) (c.as_slice-in-loop-card.ensures.value ∙ c.loop-card.invariant.same)) in
+    elim c.if-not-contains.branch [
+      | then-not-contains w ↦
+          let is-more : w.push.new.self.items ≡ cs ++ (card ∷ []) = w.push.ensures.items ∙ ap (λ l. l ++ (card ∷ [])) c.loop-card.invariant.same in
+          rw (w.out-is, w.cards-is, w.next-is) (record {
+            wrote = wrote_as (sym (deals_left a.n cs card low w.push.new.self.items is-more (had ∙ w.if-not-contains.true))) (wrote_append c.loop-card.invariant.wrote w.list_deals-next.ensures.records);
+            same = popped cs _ _ card (w.list_deals-next.ensures.same ∙ is-more) w.pop.ensures.rest;
+          })
+      | else-not-contains w ↦ rw (w.out-is, w.cards-is, w.next-is) (record {
+        wrote = wrote_as (sym (deals-taken a.n cs card low (had ∙ w.if-not-contains.false))) c.loop-card.invariant.wrote;
+        same = c.loop-card.invariant.same;
+      })
+    ]
+
+pub returns-clause-records : goal.returns-clause-records
+returns-clause-records t c = let a = c.args in let cs = a.cards.now.items in
+    let few : length cs < a.n = omega (arith, c.requires.deal.2, c.len.ensures.value, c.if-len-n.false) in
+    let e : c.loop-card.card ≡ a.n + 1 = omega (arith, c.loop-card.auto.card-end, c.loop-card-test.false) in
+    wrote_as (ap (λ b. next_deals a.n (length cs) cs b) e ∙ all_lower a.n cs few) c.loop-card.invariant.wrote

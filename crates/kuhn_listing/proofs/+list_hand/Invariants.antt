@@ -1,4 +1,4 @@
--- The records from a history on: none, or the node's and those after a pass and after a bet. The measure is the actions left. Assumes nothing.
+-- The records from a history on. The measure is the actions left. Assumes nothing.
 use Rattle.kuhn_listing.proofs.+list_hand.Given as goal
 
 abbrev pub decreases-list_hand : goal.decreases-list_hand

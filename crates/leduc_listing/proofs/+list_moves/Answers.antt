@@ -1,66 +1,48 @@
--- The lower moves first, then the node after this one and its moves. The measure counts the moves left, then those below the bound. Assumes nothing.
-use mathlib.Core.Path.{refl, sym, ◌∙◌}
-use native.Mathlib.Omega.{arith}
-use Rattle.listing_records.proofs.Bytes.{wrote_as, wrote_nothing}
-use Rattle.leduc_listing_positions.specs.internal.Spots.{placed}
-use Rattle.leduc_listing.proofs.Steps.{moves_none, moves_spent, moves_passed, fewer_moves, moves-length, wrote-moves}
+-- The moves, lower ones first: the node after each, then what follows its moves. Assumes nothing.
+use Rattle.std.proofs.Common.{◌≡◌, ap, sym, refl, ◌∙◌, arith, true}
+use Rattle.listing_records.proofs.Bytes.{wrote_as, wrote_nothing, wrote_append}
+use Rattle.leduc_listing_positions.specs.internal.Spots.{placed, undone}
+use Rattle.leduc_listing.specs.internal.Walk.{is_move, move_bound, moved}
+use Rattle.leduc_listing.proofs.Steps.{moves_none, moves_spent, moves_passed, moves_more, moves_fit, room_same}
+use Rattle.leduc_listing.proofs.+list_moves.Goals.{then-is_move, else-is_move}
 use Rattle.leduc_listing.proofs.+list_moves.Goals as goal
 
-pub returns-then-bound-eq0 : goal.returns-then-bound-eq0
-returns-then-bound-eq0 t c = wrote_nothing (moves_none c.args.left (placed c.args.s) c.args.bound c.if-bound-eq0.true)
+pub returns-then-left-eq0-clause-records : goal.returns-then-left-eq0-clause-records
+returns-then-left-eq0-clause-records t c = wrote_nothing (moves_spent c.args.left (placed c.args.spot.now) _ c.if-left-eq0.true)
 
-pub returns-then-left-eq0 : goal.returns-then-left-eq0
-returns-then-left-eq0 t c = wrote_nothing (moves_spent c.args.left (placed c.args.s) c.args.bound c.if-left-eq0.true)
+pub loop-a-init : goal.loop-a-init
+loop-a-init t c = record { wrote = wrote_nothing (moves_none c.args.left (placed c.args.spot.now)); same = refl }
+
+pub write_first-here-requires-clause-bytes : goal.write_first-here-requires-clause-bytes
+write_first-here-requires-clause-bytes t c = let q = placed c.args.spot.now in let a = c.loop-a.a in let same = c.loop-a.invariant.same in
+    let move : is_move q a ≡ true = sym (c.is_move.ensures ∙ ap (λ p. is_move p a) same) ∙ c.if-is_move.true in
+    let fit = moves_fit c.args.left q _ a c.if-left-eq0.false move (c.make-made.ensures.moved ∙ ap (λ p. moved p a) same) (move_bound q) (rw c.move_bound-a-end.ensures.0 at c.loop-a-test.true) in
+    omega (arith, fit, c.requires.bytes, c.loop-a.invariant.wrote.next, c.loop-a.auto.out)
 
 pub list_moves-next-requires : goal.list_moves-next-requires
-list_moves-next-requires t c = (omega (arith, c.decreases, c.if-bound-eq0.false), ((c.requires.room.0, omega (arith, c.requires.room.1)), omega (arith, c.requires.bound_in_bounds, fewer_moves c.args.left (placed c.args.s) c.args.bound c.if-bound-eq0.false)))
-
-pub is_move-requires : goal.is_move-requires
-is_move-requires t c = record { seats = c.requires.room.0.seats; places = omega (arith, c.requires.room.0.places) }
-
-pub returns-then-not-is_move : goal.returns-then-not-is_move
-returns-then-not-is_move t c = let a = c.args in
-    wrote_as (sym (moves_passed a.left (placed a.s) a.bound c.if-bound-eq0.false (sym c.is_move.ensures ∙ c.if-not-is_move.true)))
-    c.list_moves-next.ensures
-
-pub after-t-requires : goal.after-t-requires
-after-t-requires t c = (record { seats = c.requires.room.0.seats; places = omega (arith, c.requires.room.0.places) }, omega (arith, c.requires.room.1, c.if-bound-eq0.false))
-
-pub write_first-here-requires : goal.write_first-here-requires
-write_first-here-requires t c = let h0 = moves-length c.args.left (placed c.args.s) (placed c.after-t.result) c.args.bound _ c.if-left-eq0.false c.if-bound-eq0.false
-    (sym c.is_move.ensures ∙ c.if-not-is_move.false) c.after-t.ensures.0 refl in record {
-      room = record { seats = c.after-t.ensures.1; places = omega (arith, c.requires.room.0.places, c.after-t.ensures.2, c.if-left-eq0.false) };
-      s_in_bounds = omega (arith, c.requires.bound_in_bounds, c.list_moves-next.auto.out, c.list_moves-next.ensures.next);
-    }
-
-pub move_bound-moves-requires : goal.move_bound-moves-requires
-move_bound-moves-requires t c = record {
-  seats = c.after-t.ensures.1;
-  places = omega (arith, c.requires.room.0.places, c.after-t.ensures.2);
-}
-
-pub list_moves-requires : goal.list_moves-requires
-list_moves-requires t c = let h0 = moves-length c.args.left (placed c.args.s) (placed c.after-t.result) c.args.bound _ c.if-left-eq0.false c.if-bound-eq0.false
-    (sym c.is_move.ensures ∙ c.if-not-is_move.false) c.after-t.ensures.0 c.move_bound-moves.ensures.0 in (
-      omega (arith, c.decreases, c.if-bound-eq0.false, c.if-left-eq0.false, c.move_bound-moves.ensures.1),
+list_moves-next-requires t c = let q = placed c.args.spot.now in let a = c.loop-a.a in let same = c.loop-a.invariant.same in
+    let move : is_move q a ≡ true = sym (c.is_move.ensures ∙ ap (λ p. is_move p a) same) ∙ c.if-is_move.true in
+    let fit = moves_fit c.args.left q _ a c.if-left-eq0.false move (c.make-made.ensures.moved ∙ ap (λ p. moved p a) same) (move_bound q) (rw c.move_bound-a-end.ensures.0 at c.loop-a-test.true) in
+    let room = room_same c.loop-a.spot c.args.spot.now _ same c.requires.room in (
+      omega (arith, c.decreases, c.if-left-eq0.false),
       (
-        (
-          record { seats = c.after-t.ensures.1; places = omega (arith, c.requires.room.0.places, c.after-t.ensures.2, c.if-left-eq0.false) },
-          c.move_bound-moves.ensures.1,
-        ),
-        omega (
-          arith,
-          c.requires.bound_in_bounds,
-          c.list_moves-next.auto.out,
-          c.list_moves-next.ensures.next,
-          c.write_first-here.auto.out,
-          c.write_first-here.ensures.next,
-        ),
+        record { seats = c.make-made.ensures.few.0; places = omega (arith, room.places, c.make-made.ensures.few.1, c.if-left-eq0.false) },
+        omega (arith, fit, c.requires.bytes, c.loop-a.invariant.wrote.next, c.loop-a.auto.out, c.write_first-here.ensures.next, c.write_first-here.auto.out),
       ),
     )
 
-pub returns : goal.returns
-returns t c = let a = c.args in
-    wrote-moves a.left (placed a.s) (placed c.after-t.result) a.bound _ c.if-left-eq0.false c.if-bound-eq0.false
-    (sym c.is_move.ensures ∙ c.if-not-is_move.false) c.after-t.ensures.0 c.move_bound-moves.ensures.0 c.list_moves-next.ensures
-    c.write_first-here.ensures c.list_moves.ensures
+pub loop-a-preserved : goal.loop-a-preserved
+loop-a-preserved t c = let q = placed c.args.spot.now in let a = c.loop-a.a in let same = c.loop-a.invariant.same in
+    elim c.if-is_move.branch [
+      | then-is_move w ↦
+          let move : is_move q a ≡ true = sym (c.is_move.ensures ∙ ap (λ p. is_move p a) same) ∙ w.if-is_move.true in
+          let more = moves_more c.args.left q _ a c.if-left-eq0.false move (w.make-made.ensures.moved ∙ ap (λ p. moved p a) same) in
+          rw (w.out-is, w.spot-is, w.next-is) (record {
+            wrote = wrote_as (sym more) (wrote_append c.loop-a.invariant.wrote (wrote_append w.write_first-here.ensures w.list_moves-next.ensures.records));
+            same = w.take_back.ensures ∙ ap (undone w.make-made.result) w.list_moves-next.ensures.same ∙ w.make-made.ensures.back ∙ same;
+          })
+      | else-is_move w ↦ rw (w.out-is, w.spot-is, w.next-is) (record {
+        wrote = wrote_as (sym (moves_passed c.args.left q a (sym (c.is_move.ensures ∙ ap (λ p. is_move p a) same) ∙ w.if-is_move.false))) c.loop-a.invariant.wrote;
+        same = same;
+      })
+    ]

@@ -1,22 +1,30 @@
--- The position that a spot of the code holds: a tool of private contracts.
-use Rattle.std.specs.Prelude.{ℕ, ◌+◌, ◌≤◌, take}
+-- The position that a spot of the code holds, and its last move taken back: tools of private contracts.
+use Rattle.std.specs.Prelude.{ℕ, List, ◌+◌, ◌-◌, ◌≤◌, length, take, None}
 use Rattle.leduc_tree.specs.Tree.{Position}
-use Rattle.leduc_listing_positions.specs.declared.Spot.{Spot}
+use Rattle.leduc_listing_positions.specs.declared.Made.{Made}
+use Rattle.leduc_listing_positions.specs.declared.Made.TheVariants.{Card, Public, First, Second}
+use Rattle.leduc_listing_positions.specs.declared.spot.Spot.{Spot}
 
 -- the position that a spot of the code holds
 abbrev pub placed : Spot → Position
-placed s = record {
-  cards = take s.dealt s.cards;
-  public = s.public;
-  first = take s.acted1 s.first;
-  second = take s.acted2 s.second;
-}
+placed s = record { cards = s.cards.items; public = s.public; first = s.first.items; second = s.second.items }
 
 -- how many cards and actions it holds, but for the public card
 abbrev pub made : Spot → ℕ
-made s = s.dealt + s.acted1 + s.acted2
+made s = length s.cards.items + length s.first.items + length s.second.items
 
 -- it has places for so many moves more
 pub record Room (s : Spot) (more : ℕ) : Type 0 where
-  pub seats : s.dealt ≤ 2
+  pub seats : length s.cards.items ≤ 2
   pub places : made s + more ≤ 11
+
+-- a list without its last
+abbrev pub init : List ℕ → List ℕ
+init xs = take (length xs - 1) xs
+
+-- a position without the last card of a seat, the public card, or the last action of a round
+abbrev pub undone : Made → Position → Position
+undone Card q = record { cards = init q.cards; public = q.public; first = q.first; second = q.second }
+undone Public q = record { cards = q.cards; public = None; first = q.first; second = q.second }
+undone First q = record { cards = q.cards; public = q.public; first = init q.first; second = q.second }
+undone Second q = record { cards = q.cards; public = q.public; first = q.first; second = init q.second }

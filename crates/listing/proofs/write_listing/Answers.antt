@@ -3,22 +3,31 @@ use mathlib.Core.Path.{sym, ap, ◌∙◌}
 use native.Mathlib.Omega.{arith}
 use lib.ListN.{length}
 use lib.Seq.{sets}
+use Rattle.games.specs.internal.Numbered.{numbered}
 use Rattle.games.proofs.Known.{kuhn_two, kuhn-six}
+use Rattle.kuhn_listing.specs.Facts.{listing_of_kuhn}
 use Rattle.listing.proofs.Games.{kuhn-listed, leduc-listed}
 use Rattle.listing.proofs.write_listing.Goals as goal
 
 pub list_sets-requires : goal.list_sets-requires
 list_sets-requires c =
-    let g = c.args.g in
-    let known = c.requires.0 in
-    let k = c.if-g-eq-KUHN.true in
-    (omega (arith, kuhn_two g known k), kuhn-six g known k, omega (arith, c.requires.1, ap length (kuhn-listed g k)))
+    let g = numbered c.args.game in
+    let k = ap (λ x. (numbered x).number) c.in-Kuhn.is in
+    let s = ap (λ x. (numbered x).seats) c.in-Kuhn.is in (
+      omega (arith, s, kuhn_two g c.requires.0 k),
+      omega (arith, s, kuhn-six g c.requires.0 k),
+      omega (arith, c.requires.1, ap length (kuhn-listed g k ∙ ap listing_of_kuhn s)),
+    )
 
-pub returns-then-g-eq-KUHN : goal.returns-then-g-eq-KUHN
-returns-then-g-eq-KUHN c = c.list_sets.ensures ∙ ap (sets c.args.out.now 0) (sym (kuhn-listed c.args.g c.if-g-eq-KUHN.true))
+pub list_sets-requires-in-Leduc : goal.list_sets-requires-in-Leduc
+list_sets-requires-in-Leduc c = omega (arith, c.requires.1, ap length (leduc-listed (numbered c.args.game) (rw c.in-Leduc.is (λ e. omega arith))))
 
-pub list_sets-requires-2 : goal.list_sets-requires-2
-list_sets-requires-2 c = omega (arith, c.requires.1, ap length (leduc-listed c.args.g c.if-g-eq-KUHN.false))
+pub returns-in-Kuhn : goal.returns-in-Kuhn
+returns-in-Kuhn c =
+    let k = ap (λ x. (numbered x).number) c.in-Kuhn.is in
+    let s = ap (λ x. (numbered x).seats) c.in-Kuhn.is in
+    c.list_sets.ensures ∙ ap (sets c.args.out.now 0) (sym (kuhn-listed (numbered c.args.game) k ∙ ap listing_of_kuhn s))
 
-pub returns : goal.returns
-returns c = c.list_sets-2.ensures ∙ ap (sets c.args.out.now 0) (sym (leduc-listed c.args.g c.if-g-eq-KUHN.false))
+pub returns-in-Leduc : goal.returns-in-Leduc
+returns-in-Leduc c = c.list_sets-in-Leduc.ensures
+    ∙ ap (sets c.args.out.now 0) (sym (leduc-listed (numbered c.args.game) (rw c.in-Leduc.is (λ e. omega arith))))

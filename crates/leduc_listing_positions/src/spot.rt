@@ -1,0 +1,143 @@
+// A spot.
+ghost use Rattle.std.specs.Prelude.{◌≡◌, ◌++◌, ◌+◌, ◌≤◌, length, None};
+
+use crate::Made;
+use arrayvec::ArrayVec;
+use leduc_betting::betting::round_over;
+use leduc_betting::cards::{all_seen, nth_remaining};
+use leduc_rules::SEATS;
+use leduc_rules::hand::Hand;
+use listing_records::KEY;
+
+// A position of the walk: the seats' cards, the public card, and the actions of each round, with places for as many as a hand has moves: 11, the first card
+// and the LATER_MOVES of the crate leduc_listing.
+#[derive(Drop)]
+pub struct Spot {
+    pub cards: ArrayVec<u8, 2>,
+    pub public: Option<u8>,
+    pub first: ArrayVec<u8, 11>,
+    pub second: ArrayVec<u8, 11>,
+}
+
+// Puts bytes behind those of a key.
+fn append(key: &mut ArrayVec<u8, KEY>, bytes: &[u8])
+    requires { length key.old.items + length bytes.now ≤ 13 }
+    ensures { key.new.items ≡ key.old.items ++ bytes.now }
+{
+    key.try_extend_from_slice(bytes).unwrap();
+}
+
+impl Spot {
+    ghost use Rattle.leduc_tree.specs.Tree.{start, actor, key, dealt, acted};
+    ghost use Rattle.leduc_tree.specs.Turns.{is_first};
+    ghost use Rattle.leduc_listing_positions.specs.internal.Spots.{placed, made, Room, undone};
+
+    // No card dealt and no action made.
+    pub fn start() -> Spot
+        ensures { placed result ≡ start }
+    {
+        Spot {
+            cards: ArrayVec::new(),
+            public: None,
+            first: ArrayVec::new(),
+            second: ArrayVec::new(),
+        }
+    }
+
+    // It as the rules see it.
+    pub fn hand(&self) -> Hand<'_>
+        ensures cards { result.cards.now ≡ self.now.cards.items }
+        ensures public { result.public ≡ self.now.public }
+        ensures first { result.first.now ≡ self.now.first.items }
+        ensures second { result.second.now ≡ self.now.second.items }
+    {
+        Hand {
+            cards: self.cards.as_slice(),
+            public: self.public,
+            first: self.first.as_slice(),
+            second: self.second.as_slice(),
+        }
+    }
+
+    // Whether its node is the first of its set: the other seat's card is the lowest that is neither the acting seat's nor the public one.
+    pub fn is_first(&self) -> bool
+        requires { length self.now.cards.items ≡ 2 }
+        ensures { result ≡ is_first (placed self.now) }
+    {
+        let hand = self.hand();
+        let seat = hand.turn();
+        let own = [hand.cards[seat]];
+        let known = all_seen(&own, self.public);
+        let lowest = nth_remaining(known.as_slice(), 0).unwrap();
+        usize::from(hand.cards[1 - seat]) == lowest
+    }
+
+    // Its key: seat, card, public card or 255, and each round's length and actions.
+    pub fn key(&self) -> ArrayVec<u8, KEY>
+        requires dealt { length self.now.cards.items ≡ 2 }
+        requires few { length self.now.first.items + length self.now.second.items ≤ 8 }
+        ensures { result.items ≡ key (placed self.now) }
+    {
+        let hand = self.hand();
+        let seat = hand.turn();
+        let mut key = ArrayVec::new();
+        key.push(seat as u8);
+        key.push(hand.cards[seat]);
+        key.push(self.public.unwrap_or(255));
+        key.push(self.first.len() as u8);
+        append(&mut key, hand.first);
+        key.push(self.second.len() as u8);
+        append(&mut key, hand.second);
+        key
+    }
+
+    // Deals a card: to a seat that has none, else it is the public card.
+    pub fn deal(&mut self, card: u8) -> Made
+        requires hidden { 2 ≤ length self.old.cards.items → self.old.public ≡ None }
+        ensures moved { placed self.new ≡ dealt (placed self.old) card }
+        ensures back { undone result (placed self.new) ≡ placed self.old }
+        ensures few { (length self.new.cards.items ≤ 2) × (made self.new ≤ made self.old + 1) }
+    {
+        if self.cards.len() < SEATS {
+            self.cards.push(card);
+            Made::Card
+        } else {
+            self.public = Some(card);
+            Made::Public
+        }
+    }
+
+    // Makes an action: in round 2 once round 1 has closed.
+    pub fn act(&mut self, action: u8) -> Made
+        requires { Room self.old 1 }
+        ensures moved { placed self.new ≡ acted (placed self.old) action }
+        ensures back { undone result (placed self.new) ≡ placed self.old }
+        ensures few { (length self.new.cards.items ≤ 2) × (made self.new ≤ made self.old + 1) }
+    {
+        if round_over(self.first.as_slice()) {
+            self.second.push(action);
+            Made::Second
+        } else {
+            self.first.push(action);
+            Made::First
+        }
+    }
+
+    // Takes the last move back, by where it went.
+    pub fn take_back(&mut self, made: Made)
+        ensures { placed self.new ≡ undone made (placed self.old) }
+    {
+        match made {
+            Made::Card => {
+                self.cards.pop();
+            }
+            Made::Public => self.public = None,
+            Made::First => {
+                self.first.pop();
+            }
+            Made::Second => {
+                self.second.pop();
+            }
+        }
+    }
+}
