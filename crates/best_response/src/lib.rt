@@ -1,31 +1,38 @@
 // The f64 values of a profile, under the Rust's names: best response values, worths, NashConv and exploitability.
 #![tactic(auto)]
 
-ghost use Rattle.std.specs.Prelude.{◌≡◌, ◌*◌, ◌≤◌, length};
+ghost use Rattle.std.specs.Prelude.{◌≡◌, length};
+ghost use Rattle.refusals.specs.Outcomes.{number_of};
 ghost use Rattle.games.specs.Games.{game_of};
-ghost use Rattle.games.specs.Facts.{nodes_of};
-ghost use Rattle.refusals.specs.Refusals.{first};
-ghost use Rattle.refusals.specs.internal.Settled.{Settled};
 ghost use Rattle.tree_refusals.specs.Checks.{value-refusal, values_refusal};
-ghost use Rattle.tree_refusals.specs.internal.Accepted.{AcceptedProfile};
 ghost use Rattle.arena_store.specs.Memory.{MemoryAfter};
 ghost use Rattle.f64_games.specs.Values.{best_of, bests_of, worths_of, nash_conv_of, exploitability_of};
-ghost use Rattle.best_response.specs.Calls.{single, answer};
-ghost use Rattle.best_response.specs.internal.Asked.{checks_of, PassedOf, SeatOf, count_of, values_of};
+ghost use Rattle.best_response.specs.Calls.{single, answer, answer_of};
 
 use games::Game;
+use refusals::{Refusal, number_of};
+use tree_refusals::{check_value, check_values};
 
-// What a call asks of a profile.
-#[derive(Clone, Copy)]
-pub enum Asked {
-    Best(usize),
-    Bests,
-    Worths,
-    NashConv,
-    Exploitability,
+// Count values, 0.0 past them.
+#[derive(Clone, Copy, Default)]
+pub struct Values {
+    pub count: usize,
+    pub values: [f64; 6],
 }
 
-// A call's refusal number, 0 if it was accepted, and count values, 0.0 past them; every number but the first is 0 if it was refused. C has it as it is.
+impl Values {
+    // One value, in place 0.
+    fn one(value: f64) -> Values
+        ensures { result ≡ record { count = 1; values = single value } }
+    {
+        Values {
+            count: 1,
+            values: [value, 0.0, 0.0, 0.0, 0.0, 0.0],
+        }
+    }
+}
+
+// For C, a call's refusal number, 0 if it was accepted, and the values; every number but the first is 0 if it was refused.
 #[repr(C)]
 #[derive(Clone, Copy)]
 pub struct ValuesAnswer {
@@ -34,61 +41,17 @@ pub struct ValuesAnswer {
     pub values: [f64; 6],
 }
 
-// One value, in place 0.
-fn alone(x: f64) -> [f64; 6]
-    ensures { result ≡ single x }
-{
-    [x, 0.0, 0.0, 0.0, 0.0, 0.0]
-}
+impl From<Result<Values, Refusal>> for ValuesAnswer {
+    ghost from_gives = { λ outcome answer. answer ≡ answer_of outcome };
 
-// The values of a profile that is not refused, with the game's tree stored in the words for it.
-fn evaluate(g: Game, words: &mut [u64], asked: Asked, profile: &[f64]) -> [f64; 6]
-    requires { AcceptedProfile g profile.now × (12 * nodes_of g ≤ length words.old) × SeatOf asked g }
-    ensures { result ≡ values_of asked g profile.now }
-{
-    arena_store::store(g, words);
-    match asked {
-        Asked::Best(seat) => alone(f64_games::best_value(g, words, seat, profile)),
-        Asked::Bests => f64_games::best_values(g, words, profile),
-        Asked::Worths => f64_games::worths(g, words, profile),
-        Asked::NashConv => alone(f64_games::nash_conv(g, words, profile)),
-        Asked::Exploitability => alone(f64_games::exploitability(g, words, profile)),
-    }
-}
-
-// How many values are asked for.
-fn count_of(g: Game, asked: Asked) -> usize
-    ensures { result ≡ count_of asked g }
-{
-    match asked {
-        Asked::Best(_) => 1,
-        Asked::Bests => g.seats,
-        Asked::Worths => g.seats,
-        Asked::NashConv => 1,
-        Asked::Exploitability => 1,
-    }
-}
-
-// The answer of each call, from what refuses it: its values from the tree built at the front of the work memory.
-fn call(g: Game, refusal: u64, work: &mut [u64], asked: Asked, profile: &[f64]) -> ValuesAnswer
-    requires { Settled (checks_of asked g (length work.old) (length profile.now)) (PassedOf asked g (length work.old) profile.now) refusal }
-    ensures { (result ≡ answer (first (checks_of asked g (length work.old) (length profile.now)))
-        (count_of asked g) (values_of asked g profile.now))
-        × MemoryAfter result.refusal g work.old work.new }
-{
-    if refusal != refusals::ACCEPTED {
-        return ValuesAnswer {
+    fn from(outcome: Result<Values, Refusal>) -> Self {
+        let refusal = number_of(&outcome);
+        let Values { count, values } = outcome.unwrap_or_default();
+        ValuesAnswer {
             refusal,
-            count: 0,
-            values: [0.0; 6],
-        };
-    }
-    let length = Game::WORDS * g.nodes();
-    let values = evaluate(g, &mut work[..length], asked, profile);
-    ValuesAnswer {
-        refusal,
-        count: count_of(g, asked),
-        values,
+            count,
+            values,
+        }
     }
 }
 
@@ -99,14 +62,15 @@ pub fn best_response_value(
     work: &mut [u64],
     seat: usize,
     profile: &[f64],
-) -> ValuesAnswer
-    ensures answer { result ≡ answer (value-refusal (game_of number seats) (length work.old) seat (length profile.now))
+) -> Result<Values, Refusal>
+    ensures answer { answer_of result ≡ answer (value-refusal (game_of number seats) (length work.old) seat (length profile.now))
         1 (single (best_of (game_of number seats) profile.now seat)) }
-    ensures memory { MemoryAfter result.refusal (game_of number seats) work.old work.new }
+    ensures memory { MemoryAfter (number_of result) (game_of number seats) work.old work.new }
 {
-    let g = Game { number, seats };
-    let refusal = tree_refusals::value_refusal(g, work.len(), seat, profile);
-    call(g, refusal, work, Asked::Best(seat), profile)
+    let profile = check_value(number, seats, work.len(), seat, profile)?;
+    let words = &mut work[..Game::WORDS * profile.game.nodes()];
+    arena_store::store(profile.game, words);
+    Ok(Values::one(f64_games::best_value(&profile, words, seat)))
 }
 
 // The best response value of each seat.
@@ -115,14 +79,19 @@ pub fn best_response_values(
     seats: usize,
     work: &mut [u64],
     profile: &[f64],
-) -> ValuesAnswer
-    ensures answer { result ≡ answer (values_refusal (game_of number seats) (length work.old) (length profile.now))
+) -> Result<Values, Refusal>
+    ensures answer { answer_of result ≡ answer (values_refusal (game_of number seats) (length work.old) (length profile.now))
         seats (bests_of (game_of number seats) profile.now) }
-    ensures memory { MemoryAfter result.refusal (game_of number seats) work.old work.new }
+    ensures memory { MemoryAfter (number_of result) (game_of number seats) work.old work.new }
 {
-    let g = Game { number, seats };
-    let refusal = tree_refusals::values_refusal(g, work.len(), profile);
-    call(g, refusal, work, Asked::Bests, profile)
+    let profile = check_values(number, seats, work.len(), profile)?;
+    let words = &mut work[..Game::WORDS * profile.game.nodes()];
+    arena_store::store(profile.game, words);
+    let values = f64_games::best_values(&profile, words);
+    Ok(Values {
+        count: profile.game.seats(),
+        values,
+    })
 }
 
 // What a profile is worth to each seat.
@@ -131,25 +100,34 @@ pub fn profile_values(
     seats: usize,
     work: &mut [u64],
     profile: &[f64],
-) -> ValuesAnswer
-    ensures answer { result ≡ answer (values_refusal (game_of number seats) (length work.old) (length profile.now))
+) -> Result<Values, Refusal>
+    ensures answer { answer_of result ≡ answer (values_refusal (game_of number seats) (length work.old) (length profile.now))
         seats (worths_of (game_of number seats) profile.now) }
-    ensures memory { MemoryAfter result.refusal (game_of number seats) work.old work.new }
+    ensures memory { MemoryAfter (number_of result) (game_of number seats) work.old work.new }
 {
-    let g = Game { number, seats };
-    let refusal = tree_refusals::values_refusal(g, work.len(), profile);
-    call(g, refusal, work, Asked::Worths, profile)
+    let profile = check_values(number, seats, work.len(), profile)?;
+    let words = &mut work[..Game::WORDS * profile.game.nodes()];
+    arena_store::store(profile.game, words);
+    let values = f64_games::worths(&profile, words);
+    let count = profile.game.seats();
+    Ok(Values { count, values })
 }
 
 // NashConv of a profile: the sum of best response value − worth by seat.
-pub fn nash_conv(number: usize, seats: usize, work: &mut [u64], profile: &[f64]) -> ValuesAnswer
-    ensures answer { result ≡ answer (values_refusal (game_of number seats) (length work.old) (length profile.now))
+pub fn nash_conv(
+    number: usize,
+    seats: usize,
+    work: &mut [u64],
+    profile: &[f64],
+) -> Result<Values, Refusal>
+    ensures answer { answer_of result ≡ answer (values_refusal (game_of number seats) (length work.old) (length profile.now))
         1 (single (nash_conv_of (game_of number seats) profile.now)) }
-    ensures memory { MemoryAfter result.refusal (game_of number seats) work.old work.new }
+    ensures memory { MemoryAfter (number_of result) (game_of number seats) work.old work.new }
 {
-    let g = Game { number, seats };
-    let refusal = tree_refusals::values_refusal(g, work.len(), profile);
-    call(g, refusal, work, Asked::NashConv, profile)
+    let profile = check_values(number, seats, work.len(), profile)?;
+    let words = &mut work[..Game::WORDS * profile.game.nodes()];
+    arena_store::store(profile.game, words);
+    Ok(Values::one(f64_games::nash_conv(&profile, words)))
 }
 
 // Exploitability of a profile: NashConv divided by the seats.
@@ -158,12 +136,13 @@ pub fn exploitability(
     seats: usize,
     work: &mut [u64],
     profile: &[f64],
-) -> ValuesAnswer
-    ensures answer { result ≡ answer (values_refusal (game_of number seats) (length work.old) (length profile.now))
+) -> Result<Values, Refusal>
+    ensures answer { answer_of result ≡ answer (values_refusal (game_of number seats) (length work.old) (length profile.now))
         1 (single (exploitability_of (game_of number seats) profile.now)) }
-    ensures memory { MemoryAfter result.refusal (game_of number seats) work.old work.new }
+    ensures memory { MemoryAfter (number_of result) (game_of number seats) work.old work.new }
 {
-    let g = Game { number, seats };
-    let refusal = tree_refusals::values_refusal(g, work.len(), profile);
-    call(g, refusal, work, Asked::Exploitability, profile)
+    let profile = check_values(number, seats, work.len(), profile)?;
+    let words = &mut work[..Game::WORDS * profile.game.nodes()];
+    arena_store::store(profile.game, words);
+    Ok(Values::one(f64_games::exploitability(&profile, words)))
 }

@@ -1,10 +1,8 @@
--- Kuhn's twins: what each holds, from the struct of crate kuhn, and a position's way back.
+-- Kuhn's position and answers as C has them: what each holds, and a position's way back.
 use Rattle.std.specs.Prelude.{ℕ}
 use Rattle.kuhn.specs.declared.KuhnPoker.{KuhnPoker}
 use Rattle.kuhn_positions.specs.declared.KuhnState.{KuhnState}
-use Rattle.kuhn.specs.declared.Moved.{Moved}
-use Rattle.kuhn.specs.declared.Written.{Written}
-use Rattle.kuhn.specs.declared.Payoffs.{Payoffs}
+use Rattle.refusals.specs.Outcomes.{Moved, Written, Paid}
 use Rattle.c_structs.specs.declared.of_kuhn.KuhnPosition.{KuhnPosition}
 use Rattle.c_structs.specs.declared.of_kuhn.KuhnMoved.{KuhnMoved}
 use Rattle.c_structs.specs.declared.of_kuhn.KuhnWritten.{KuhnWritten}
@@ -20,11 +18,11 @@ state_of p = record { cards = p.cards; dealt = p.dealt; history = p.history; act
 abbrev pub position_of : KuhnState → KuhnPosition
 position_of s = record { cards = s.cards; dealt = s.dealt; history = s.history; acted = s.acted }
 
-abbrev pub moved_of : Moved → KuhnMoved
+abbrev pub moved_of : Moved KuhnState → KuhnMoved
 moved_of a = record { refusal = a.refusal; position = position_of a.state }
 
-abbrev pub written_of : Written → KuhnWritten
+abbrev pub written_of : Written KuhnState → KuhnWritten
 written_of a = record { refusal = a.refusal; position = position_of a.state; count = a.count }
 
-abbrev pub payoffs_of : Payoffs → KuhnPayoffs
+abbrev pub payoffs_of : Paid KuhnState → KuhnPayoffs
 payoffs_of a = record { refusal = a.refusal; position = position_of a.state; count = a.count; payoffs = a.payoffs }

@@ -1,28 +1,24 @@
--- Leduc's twins: what each holds, from the struct of crate leduc, and a position's way back.
-use Rattle.std.specs.Prelude.{Bool, true, false, ℕ, eqb}
-use Rattle.leduc_betting.specs.declared.Public.{Public}
-use Rattle.leduc_betting.specs.declared.Public.TheVariants.{Hidden, Card}
+-- Leduc's position and answers as C has them: what each holds, and a position's way back.
+use Rattle.std.specs.Prelude.{Bool, true, false, ℕ, eqb, Option, None, Some}
 use Rattle.leduc_positions.specs.declared.LeducState.{LeducState}
-use Rattle.leduc.specs.declared.Moved.{Moved}
-use Rattle.leduc.specs.declared.Written.{Written}
-use Rattle.leduc.specs.declared.Payoffs.{Payoffs}
+use Rattle.refusals.specs.Outcomes.{Moved, Written, Paid}
 use Rattle.c_structs.specs.declared.of_leduc.LeducPosition.{LeducPosition}
 use Rattle.c_structs.specs.declared.of_leduc.LeducMoved.{LeducMoved}
 use Rattle.c_structs.specs.declared.of_leduc.LeducWritten.{LeducWritten}
 use Rattle.c_structs.specs.declared.of_leduc.LeducPayoffs.{LeducPayoffs}
 
 -- the public card of a byte: none at 255, else the card, in the deck or not
-abbrev pub card_unless : Bool → ℕ → Public
-card_unless true b = Hidden
-card_unless false b = Card b
+abbrev pub card_unless : Bool → ℕ → Option ℕ
+card_unless true b = None
+card_unless false b = Some b
 
-abbrev pub public_of : ℕ → Public
+abbrev pub public_of : ℕ → Option ℕ
 public_of b = card_unless (eqb b 255) b
 
 -- its byte
-abbrev pub byte_of : Public → ℕ
-byte_of Hidden = 255
-byte_of (Card c) = c
+abbrev pub byte_of : Option ℕ → ℕ
+byte_of None = 255
+byte_of (Some c) = c
 
 abbrev pub state_of : LeducPosition → LeducState
 state_of p = record {
@@ -44,11 +40,11 @@ position_of s = record {
   acted2 = s.acted2;
 }
 
-abbrev pub moved_of : Moved → LeducMoved
+abbrev pub moved_of : Moved LeducState → LeducMoved
 moved_of a = record { refusal = a.refusal; position = position_of a.state }
 
-abbrev pub written_of : Written → LeducWritten
+abbrev pub written_of : Written LeducState → LeducWritten
 written_of a = record { refusal = a.refusal; position = position_of a.state; count = a.count }
 
-abbrev pub payoffs_of : Payoffs → LeducPayoffs
+abbrev pub payoffs_of : Paid LeducState → LeducPayoffs
 payoffs_of a = record { refusal = a.refusal; position = position_of a.state; count = a.count; payoffs = a.payoffs }

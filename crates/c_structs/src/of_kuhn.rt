@@ -1,6 +1,12 @@
-// Kuhn's position and answers as C has them, field by field those of crate kuhn, and the conversions.
+// Kuhn's position and answers as C has them, field by field those of crate kuhn, and the conversions. The position is kept beside KuhnState, since the
+// header gives it another name and numbers of 64 bits, and the answers are kept beside Leduc's, since a generic struct cannot cross to C.
+// Lengths cross by `as`, since Rust has no From between u64 and usize.
 ghost use Rattle.std.specs.Prelude.{◌≡◌};
+ghost use Rattle.refusals.specs.Outcomes.{moved_by, written_by, paid_by};
 ghost use Rattle.c_structs.specs.Kuhn.{state_of, position_of, moved_of, written_of, payoffs_of};
+
+use kuhn::KuhnState;
+use refusals::{Payoffs, Refusal, number_of};
 
 // A position.
 #[repr(C)]
@@ -12,12 +18,64 @@ pub struct KuhnPosition {
     pub acted: u64,
 }
 
+// The way in: what the calls of crate kuhn take.
+impl From<KuhnPosition> for KuhnState {
+    ghost from_gives = { λ position state. state ≡ state_of position };
+
+    fn from(position: KuhnPosition) -> KuhnState {
+        let KuhnPosition {
+            cards,
+            dealt,
+            history,
+            acted,
+        } = position;
+        KuhnState {
+            cards,
+            dealt: dealt as usize,
+            history,
+            acted: acted as usize,
+        }
+    }
+}
+
+// The way out: a position handed in comes back to the byte.
+impl From<KuhnState> for KuhnPosition {
+    ghost from_gives = { λ state position. position ≡ position_of state };
+
+    fn from(state: KuhnState) -> KuhnPosition {
+        let KuhnState {
+            cards,
+            dealt,
+            history,
+            acted,
+        } = state;
+        KuhnPosition {
+            cards,
+            dealt: dealt as u64,
+            history,
+            acted: acted as u64,
+        }
+    }
+}
+
 // What a start, a deal, a step or a saved-position check answers.
 #[repr(C)]
 #[derive(Clone, Copy)]
 pub struct KuhnMoved {
     pub refusal: u64,
     pub position: KuhnPosition,
+}
+
+impl KuhnMoved {
+    // The answer of a call on a position.
+    pub fn of(state: KuhnState, outcome: Result<KuhnState, Refusal>) -> Self
+        ensures { result ≡ moved_of (moved_by state outcome) }
+    {
+        KuhnMoved {
+            refusal: number_of(&outcome),
+            position: KuhnPosition::from(outcome.unwrap_or(state)),
+        }
+    }
 }
 
 // What a legal list or a key answers.
@@ -27,6 +85,19 @@ pub struct KuhnWritten {
     pub refusal: u64,
     pub position: KuhnPosition,
     pub count: u64,
+}
+
+impl KuhnWritten {
+    // The answer of a call on a position.
+    pub fn of(state: KuhnState, outcome: Result<usize, Refusal>) -> Self
+        ensures { result ≡ written_of (written_by state outcome) }
+    {
+        KuhnWritten {
+            refusal: number_of(&outcome),
+            position: KuhnPosition::from(state),
+            count: outcome.unwrap_or(0) as u64,
+        }
+    }
 }
 
 // What a payoff answers.
@@ -39,64 +110,22 @@ pub struct KuhnPayoffs {
     pub payoffs: [i64; 10],
 }
 
-// The way in: what the calls of crate kuhn take.
-pub fn state_of(position: KuhnPosition) -> kuhn_positions::KuhnState
-    ensures { result ≡ state_of position }
-{
-    let cards = position.cards;
-    let history = position.history;
-    kuhn_positions::KuhnState {
-        cards,
-        dealt: position.dealt as usize,
-        history,
-        acted: position.acted as usize,
-    }
-}
-
-// The way out: a position handed in comes back to the byte.
-pub fn position_of(state: kuhn_positions::KuhnState) -> KuhnPosition
-    ensures { result ≡ position_of state }
-{
-    let cards = state.cards;
-    let history = state.history;
-    KuhnPosition {
-        cards,
-        dealt: state.dealt as u64,
-        history,
-        acted: state.acted as u64,
-    }
-}
-
-pub fn moved_of(answer: kuhn::Moved) -> KuhnMoved
-    ensures { result ≡ moved_of answer }
-{
-    let position = position_of(answer.state);
-    KuhnMoved {
-        refusal: answer.refusal,
-        position,
-    }
-}
-
-pub fn written_of(answer: kuhn::Written) -> KuhnWritten
-    ensures { result ≡ written_of answer }
-{
-    let position = position_of(answer.state);
-    KuhnWritten {
-        refusal: answer.refusal,
-        position,
-        count: answer.count as u64,
-    }
-}
-
-pub fn payoffs_of(answer: kuhn::Payoffs) -> KuhnPayoffs
-    ensures { result ≡ payoffs_of answer }
-{
-    let payoffs = answer.payoffs;
-    let position = position_of(answer.state);
-    KuhnPayoffs {
-        refusal: answer.refusal,
-        position,
-        count: answer.count as u64,
-        payoffs,
+impl KuhnPayoffs {
+    // The answer of a call on a position.
+    pub fn of(state: KuhnState, outcome: Result<Payoffs, Refusal>) -> Self
+        ensures { result ≡ payoffs_of (paid_by state outcome) }
+    {
+        let refusal = number_of(&outcome);
+        let none = Payoffs {
+            count: 0,
+            payoffs: [0; 10],
+        };
+        let Payoffs { count, payoffs } = outcome.unwrap_or(none);
+        KuhnPayoffs {
+            refusal,
+            position: KuhnPosition::from(state),
+            count: count as u64,
+            payoffs,
+        }
     }
 }

@@ -1,9 +1,11 @@
-// Leduc's position and answers as C has them, and the conversions. The public card is a byte, NONE for none; all else is field by field
-// that of crate leduc.
+// Leduc's position and answers as C has them, and the conversions. The public card is a byte, NONE for none; all else is field by field that of crate leduc.
+// The position and the answers are kept beside those of Rattle for the reasons that of_kuhn.rt gives.
 ghost use Rattle.std.specs.Prelude.{◌≡◌};
+ghost use Rattle.refusals.specs.Outcomes.{moved_by, written_by, paid_by};
 ghost use Rattle.c_structs.specs.Leduc.{public_of, byte_of, state_of, position_of, moved_of, written_of, payoffs_of};
 
-use leduc_betting::Public;
+use leduc::LeducState;
+use refusals::{Payoffs, Refusal, number_of};
 
 // The byte of no public card. It is in no deck, so every card of a game has a byte of its own.
 pub const NONE: u8 = 255;
@@ -20,12 +22,88 @@ pub struct LeducPosition {
     pub acted2: u64,
 }
 
+// Every byte comes back from here through byte_of; the other way round all but the card 255, which comes back as none.
+fn public_of(byte: u8) -> Option<u8>
+    ensures { result ≡ public_of byte }
+{
+    if byte == NONE { None } else { Some(byte) }
+}
+
+fn byte_of(public: Option<u8>) -> u8
+    ensures { result ≡ byte_of public }
+{
+    match public {
+        None => NONE,
+        Some(card) => card,
+    }
+}
+
+// The way in: what the calls of crate leduc take.
+impl From<LeducPosition> for LeducState {
+    ghost from_gives = { λ position state. state ≡ state_of position };
+
+    fn from(position: LeducPosition) -> LeducState {
+        let LeducPosition {
+            cards,
+            dealt,
+            public,
+            history,
+            acted1,
+            acted2,
+        } = position;
+        LeducState {
+            cards,
+            dealt: dealt as usize,
+            public: public_of(public),
+            history,
+            acted1: acted1 as usize,
+            acted2: acted2 as usize,
+        }
+    }
+}
+
+// The way out: a position handed in comes back to the byte.
+impl From<LeducState> for LeducPosition {
+    ghost from_gives = { λ state position. position ≡ position_of state };
+
+    fn from(state: LeducState) -> LeducPosition {
+        let LeducState {
+            cards,
+            dealt,
+            public,
+            history,
+            acted1,
+            acted2,
+        } = state;
+        LeducPosition {
+            cards,
+            dealt: dealt as u64,
+            public: byte_of(public),
+            history,
+            acted1: acted1 as u64,
+            acted2: acted2 as u64,
+        }
+    }
+}
+
 // What a start, a deal, a step or a saved-position check answers.
 #[repr(C)]
 #[derive(Clone, Copy)]
 pub struct LeducMoved {
     pub refusal: u64,
     pub position: LeducPosition,
+}
+
+impl LeducMoved {
+    // The answer of a call on a position.
+    pub fn of(state: LeducState, outcome: Result<LeducState, Refusal>) -> Self
+        ensures { result ≡ moved_of (moved_by state outcome) }
+    {
+        LeducMoved {
+            refusal: number_of(&outcome),
+            position: LeducPosition::from(outcome.unwrap_or(state)),
+        }
+    }
 }
 
 // What a legal list or a key answers.
@@ -35,6 +113,19 @@ pub struct LeducWritten {
     pub refusal: u64,
     pub position: LeducPosition,
     pub count: u64,
+}
+
+impl LeducWritten {
+    // The answer of a call on a position.
+    pub fn of(state: LeducState, outcome: Result<usize, Refusal>) -> Self
+        ensures { result ≡ written_of (written_by state outcome) }
+    {
+        LeducWritten {
+            refusal: number_of(&outcome),
+            position: LeducPosition::from(state),
+            count: outcome.unwrap_or(0) as u64,
+        }
+    }
 }
 
 // What a payoff answers.
@@ -47,90 +138,22 @@ pub struct LeducPayoffs {
     pub payoffs: [i64; 10],
 }
 
-// Every byte comes back from here through byte_of; the other way round all but the card 255, which comes back as none.
-fn public_of(byte: u8) -> Public
-    ensures { result ≡ public_of byte }
-{
-    if byte == NONE {
-        return Public::Hidden;
-    }
-    Public::Card(byte)
-}
-
-fn byte_of(public: Public) -> u8
-    ensures { result ≡ byte_of public }
-{
-    match public {
-        Public::Hidden => NONE,
-        Public::Card(card) => card,
-    }
-}
-
-// The way in: what the calls of crate leduc take.
-pub fn state_of(position: LeducPosition) -> leduc_positions::LeducState
-    ensures { result ≡ state_of position }
-{
-    let cards = position.cards;
-    let history = position.history;
-    let public = public_of(position.public);
-    leduc_positions::LeducState {
-        cards,
-        dealt: position.dealt as usize,
-        public,
-        history,
-        acted1: position.acted1 as usize,
-        acted2: position.acted2 as usize,
-    }
-}
-
-// The way out: a position handed in comes back to the byte.
-pub fn position_of(state: leduc_positions::LeducState) -> LeducPosition
-    ensures { result ≡ position_of state }
-{
-    let cards = state.cards;
-    let history = state.history;
-    let card = state.public;
-    let public = byte_of(card);
-    LeducPosition {
-        cards,
-        dealt: state.dealt as u64,
-        public,
-        history,
-        acted1: state.acted1 as u64,
-        acted2: state.acted2 as u64,
-    }
-}
-
-pub fn moved_of(answer: leduc::Moved) -> LeducMoved
-    ensures { result ≡ moved_of answer }
-{
-    let position = position_of(answer.state);
-    LeducMoved {
-        refusal: answer.refusal,
-        position,
-    }
-}
-
-pub fn written_of(answer: leduc::Written) -> LeducWritten
-    ensures { result ≡ written_of answer }
-{
-    let position = position_of(answer.state);
-    LeducWritten {
-        refusal: answer.refusal,
-        position,
-        count: answer.count as u64,
-    }
-}
-
-pub fn payoffs_of(answer: leduc::Payoffs) -> LeducPayoffs
-    ensures { result ≡ payoffs_of answer }
-{
-    let payoffs = answer.payoffs;
-    let position = position_of(answer.state);
-    LeducPayoffs {
-        refusal: answer.refusal,
-        position,
-        count: answer.count as u64,
-        payoffs,
+impl LeducPayoffs {
+    // The answer of a call on a position.
+    pub fn of(state: LeducState, outcome: Result<Payoffs, Refusal>) -> Self
+        ensures { result ≡ payoffs_of (paid_by state outcome) }
+    {
+        let refusal = number_of(&outcome);
+        let none = Payoffs {
+            count: 0,
+            payoffs: [0; 10],
+        };
+        let Payoffs { count, payoffs } = outcome.unwrap_or(none);
+        LeducPayoffs {
+            refusal,
+            position: LeducPosition::from(state),
+            count: count as u64,
+            payoffs,
+        }
     }
 }

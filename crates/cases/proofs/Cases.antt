@@ -5,7 +5,7 @@ use Rattle.kuhn_rules.specs.Rules.{bet-made, after-bet, ended, overrun, bets, st
 use Rattle.kuhn_rules.specs.Reached.{strange, twice, unknown, fair, played, possible}
 use Rattle.kuhn_rules.specs.Stakes.{payoffs_of}
 use Rattle.kuhn_positions.specs.Positions.{reachable}
-use Rattle.kuhn.specs.Calls.{payoff-refusal, saved_refusal}
+use Rattle.kuhn.specs.Calls.{payoff_refusal, saved_refusal}
 use Rattle.leduc_betting.specs.Betting as LeducBetting
 use Rattle.leduc_betting.specs.Cards as LeducCards
 use Rattle.leduc_rules.specs.Rules as LeducRules
@@ -24,7 +24,7 @@ use Rattle.cases.specs.Cases.{Agree, cases}
 
 pub cases_agree : Agree cases
 unfolding ◌and◌ ◌or◌ some every sum has places bet-made after-bet ended overrun bets stands contribution wins paid_by_others payoff strange twice unknown
-    fair played possible reachable payoff-refusal payoffs_of saved_refusal those LeducBetting.ends_with LeducBetting.folded LeducBetting.closes
+    fair played possible reachable payoff_refusal payoffs_of saved_refusal those LeducBetting.ends_with LeducBetting.folded LeducBetting.closes
     LeducBetting.open_round LeducBetting.behind LeducBetting.raises LeducBetting.may LeducBetting.options LeducBetting.in_play LeducBetting.turn
     LeducBetting.ended LeducRules.public-due LeducRules.due LeducRules.live LeducRules.legal LeducRules.key LeducRules.after-action LeducRules.put_in
     LeducRules.contribution LeducRules.folds LeducRules.pairs LeducRules.beats LeducRules.wins LeducRules.payoff LeducCards.strange LeducCards.twice

@@ -41,7 +41,7 @@ payments_agree = refl
 pub refusals_agree : Agree refusals
 unfolding ◌and◌ ◌or◌ some every has places those KuhnRules.bet-made KuhnRules.after-bet KuhnRules.ended KuhnRules.overrun KuhnRules.left KuhnRules.remaining
     KuhnRules.legal KuhnReached.strange KuhnReached.twice KuhnReached.unknown KuhnReached.fair KuhnReached.played KuhnReached.possible
-    KuhnPositions.reachable KuhnCalls.payoff-refusal KuhnCalls.saved_refusal KuhnTree.next KuhnTree.each KuhnTree.below KuhnTree.tree_of_kuhn Sums.sumℕ
+    KuhnPositions.reachable KuhnCalls.payoff_refusal KuhnCalls.saved_refusal KuhnTree.next KuhnTree.each KuhnTree.below KuhnTree.tree_of_kuhn Sums.sumℕ
     Sets.size Sets.sets Sets.entries_of Table.add_up Games.tree_of LeducBetting.ends_with LeducBetting.folded LeducBetting.closes LeducBetting.open_round
     LeducBetting.behind LeducBetting.raises LeducBetting.may LeducBetting.options LeducBetting.in_play LeducBetting.turn LeducBetting.ended
     LeducBetting.played LeducBetting.unknown LeducRules.public-due LeducRules.due LeducRules.live LeducCards.strange LeducCards.twice
@@ -51,7 +51,7 @@ refusals_agree = refl
 
 pub kuhn-moves : KuhnMoves
 unfolding ◌and◌ ◌or◌ some every has those KuhnRules.bet-made KuhnRules.after-bet KuhnRules.ended KuhnRules.overrun KuhnRules.left KuhnRules.remaining KuhnReached.strange
-    KuhnReached.twice KuhnReached.unknown KuhnReached.fair KuhnReached.played KuhnReached.possible KuhnPositions.reachable KuhnCalls.deal-refusal KuhnCalls.step_refusal
+    KuhnReached.twice KuhnReached.unknown KuhnReached.fair KuhnReached.played KuhnReached.possible KuhnPositions.reachable KuhnCalls.deal_refusal KuhnCalls.step_refusal
 kuhn-moves = (refl, refl)
 
 pub leduc-moves : LeducMoves

@@ -26,9 +26,8 @@ use Rattle.leduc_betting.specs.Cards as Cards
 use Rattle.leduc_rules.specs.Rules as Rules
 use Rattle.leduc_tree.specs.Tree as Leduc
 use Rattle.leduc_tree.specs.Turns.{joined, turns, is_first, first_ones, first_turns, actions_in_order}
-use Rattle.games.specs.Games.{tree_of, m, root_units}
+use Rattle.games.specs.Games.{Game, tree_of, m, root_units}
 use Rattle.games.specs.internal.Actions.{actions_of}
-use Rattle.games.specs.declared.Game.{Game}
 use Rattle.games.proofs.Facts.{counted_games, actions-listed, reply-best, finer-reply, conv_zero}
 use Rattle.tree_refusals.specs.Accepted.{AcceptedTable}
 use Rattle.units_best.specs.Best.{BestReply}

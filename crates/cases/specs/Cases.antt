@@ -1,23 +1,20 @@
 -- Document 01's worked cases ("Holding the evaluator to its hand") as one list: what the definitions give, and what the paper says.
-use Rattle.std.specs.Prelude.{◌≡◌, cond, List, [], ◌∷◌, ◌++◌, map, ℕ, ◌-◌, eqb, ℤ, pos, neg_ℤ, length, take, replicate}
+use Rattle.std.specs.Prelude.{◌≡◌, cond, List, [], ◌∷◌, ◌++◌, map, ℕ, ◌-◌, eqb, ℤ, pos, neg_ℤ, length, take, replicate, Option, None, Some}
 use Prim.Native.String.{String}
 use Rattle.kuhn_rules.specs.Rules.{PASS, BET}
 use Rattle.kuhn.specs.Calls.{paid, saved_refusal}
 use Rattle.kuhn.specs.declared.KuhnPoker.{KuhnPoker}
 use Rattle.kuhn_positions.specs.declared.KuhnState.{KuhnState}
-use Rattle.kuhn.specs.declared.Payoffs.{Payoffs}
+use Rattle.refusals.specs.Outcomes.{Paid, written}
 use Rattle.leduc_betting.specs.Betting.{FOLD, CALL, RAISE}
 use Rattle.leduc_rules.specs.Rules.{contribution}
 use Rattle.leduc_rules.specs.Stakes.{ante, raise₁, raise₂}
-use Rattle.leduc_betting.specs.declared.Public.{Public}
-use Rattle.leduc_betting.specs.declared.Public.TheVariants.{Hidden, Card}
 use Rattle.leduc.specs.Calls as Leduc
 use Rattle.leduc_positions.specs.Positions.{legal_of}
-use Rattle.leduc.specs.Calls.{legal-refusal, listed, key_of, key-refusal, keyed, written}
+use Rattle.leduc.specs.Calls.{legal-refusal, listed, key_of, key-refusal, keyed}
 use Rattle.leduc_positions.specs.declared.LeducState.{LeducState}
 use Rattle.game_tree.specs.Table.{Table}
-use Rattle.games.specs.Games.{game_of}
-use Rattle.games.specs.declared.Game.{Game}
+use Rattle.games.specs.Games.{Game, game_of}
 use Rattle.worths.specs.Calls as Worths
 use Rattle.worths.specs.declared.WorthsAnswer.{WorthsAnswer}
 use Rattle.best_reply.specs.Calls as Reply
@@ -64,13 +61,13 @@ kuhn_at cs h =
     record { cards = cs ++ replicate (10 - length cs) 0; dealt = length cs; history = h ++ replicate (19 - length h) 0; acted = length h }
 
 -- the payoffs of an answer: none, if the call was refused
-abbrev pub payoffs : Payoffs → List ℤ
+abbrev pub payoffs : Paid KuhnState → List ℤ
 payoffs r = take r.count r.payoffs
 
 -- ---- Leduc
 
 -- the position with these cards, this public card and these histories, 0 past them
-abbrev pub leduc_at : List ℕ → Public → List ℕ → List ℕ → LeducState
+abbrev pub leduc_at : List ℕ → Option ℕ → List ℕ → List ℕ → LeducState
 leduc_at cs p h₁ h₂ = record {
   cards = cs ++ replicate (2 - length cs) 0;
   dealt = length cs;
@@ -161,14 +158,14 @@ cases =
     ∷ case "b" (payoffs (paid kuhn2 (kuhn_at (0 ∷ 1 ∷ []) (BET ∷ PASS ∷ [])))) (plus 1 ∷ minus 1 ∷ [])
     ∷ case "c" (payoffs (paid kuhn2 (kuhn_at (2 ∷ 0 ∷ []) (PASS ∷ BET ∷ BET ∷ [])))) (plus 2 ∷ minus 2 ∷ [])
     ∷ case "d" (refusal (saved_refusal kuhn2 (kuhn_at (0 ∷ 1 ∷ []) (PASS ∷ PASS ∷ BET ∷ [])) 1)) (refusal 14)
-    ∷ case "e" (leduc-legal (leduc_at (0 ∷ 5 ∷ []) Hidden [] []) 0) (bytes (CALL ∷ RAISE ∷ []))
-    ∷ case "f" (leduc-legal (leduc_at (0 ∷ 5 ∷ []) Hidden (RAISE ∷ []) []) 1) (bytes (FOLD ∷ CALL ∷ RAISE ∷ []))
-    ∷ case "g" (leduc-legal (leduc_at (0 ∷ 5 ∷ []) Hidden (RAISE ∷ RAISE ∷ []) []) 0) (bytes (FOLD ∷ CALL ∷ []))
-    ∷ case "h" (leduc-payoffs (leduc_at (0 ∷ 5 ∷ []) (Card 1) (CALL ∷ CALL ∷ []) (CALL ∷ CALL ∷ []))) (plus 1 ∷ minus 1 ∷ [])
+    ∷ case "e" (leduc-legal (leduc_at (0 ∷ 5 ∷ []) None [] []) 0) (bytes (CALL ∷ RAISE ∷ []))
+    ∷ case "f" (leduc-legal (leduc_at (0 ∷ 5 ∷ []) None (RAISE ∷ []) []) 1) (bytes (FOLD ∷ CALL ∷ RAISE ∷ []))
+    ∷ case "g" (leduc-legal (leduc_at (0 ∷ 5 ∷ []) None (RAISE ∷ RAISE ∷ []) []) 0) (bytes (FOLD ∷ CALL ∷ []))
+    ∷ case "h" (leduc-payoffs (leduc_at (0 ∷ 5 ∷ []) (Some 1) (CALL ∷ CALL ∷ []) (CALL ∷ CALL ∷ []))) (plus 1 ∷ minus 1 ∷ [])
     ∷ case "i" (paid_in (RAISE ∷ RAISE ∷ CALL ∷ []) (RAISE ∷ RAISE ∷ CALL ∷ [])
-    ++ leduc-payoffs (leduc_at (0 ∷ 1 ∷ []) (Card 2) (RAISE ∷ RAISE ∷ CALL ∷ []) (RAISE ∷ RAISE ∷ CALL ∷ [])))
+    ++ leduc-payoffs (leduc_at (0 ∷ 1 ∷ []) (Some 2) (RAISE ∷ RAISE ∷ CALL ∷ []) (RAISE ∷ RAISE ∷ CALL ∷ [])))
     (plus 13 ∷ plus 13 ∷ plus 0 ∷ plus 0 ∷ [])
-    ∷ case "j" (leduc-key (leduc_at (0 ∷ 4 ∷ []) Hidden (RAISE ∷ []) []) 1) (bytes (1 ∷ 4 ∷ 255 ∷ 1 ∷ 2 ∷ 0 ∷ []))
+    ∷ case "j" (leduc-key (leduc_at (0 ∷ 4 ∷ []) None (RAISE ∷ []) []) 1) (bytes (1 ∷ 4 ∷ 255 ∷ 1 ∷ 2 ∷ 0 ∷ []))
     ∷ case "k" (evaluated 1 passes ++ reply 0 1 passes) ((plus 0 ∷ plus 0 ∷ plus 6 ∷ plus 6 ∷ plus 12 ∷ []) ++ bytes bluffs)
     ∷ case "l" (evaluated 3 settled) (minus 9 ∷ plus 9 ∷ minus 9 ∷ plus 9 ∷ plus 0 ∷ [])
     ∷ []

@@ -1,12 +1,11 @@
 -- Values that the worked cases leave open, computed from the definitions: payoffs of each round's raise, ranks, a refusal for each
 -- number, moves, bits. Proved in proofs/Pinned.antt.
-use Rattle.std.specs.Prelude.{◌≡◌, List, [], ◌∷◌, ◌++◌, ℕ, ◌*◌, ◌≤◌, Float, take, replicate}
+use Rattle.std.specs.Prelude.{◌≡◌, List, [], ◌∷◌, ◌++◌, ℕ, ◌*◌, ◌≤◌, Float, take, replicate, None, Some}
 use Rattle.std.specs.Float.{binary64}
 use Rattle.std.specs.Float.Ieee.{of_bits, to_bits}
 use Rattle.kuhn_rules.specs.Rules.{PASS, BET}
 use Rattle.kuhn.specs.Calls as Kuhn
 use Rattle.leduc_betting.specs.Betting.{FOLD, CALL, RAISE}
-use Rattle.leduc_betting.specs.declared.Public.TheVariants.{Hidden, Card}
 use Rattle.leduc.specs.Calls as Leduc
 use Rattle.refusals.specs.Refusals.{first}
 use Rattle.game_tree.specs.Sets.{size}
@@ -29,20 +28,20 @@ raised = RAISE ∷ CALL ∷ []
 
 abbrev pub payments : List Case
 payments =
-    case "RAISE CALL in round 1 alone" (paid_in raised called ++ leduc-payoffs (leduc_at (0 ∷ 5 ∷ []) (Card 2) raised called))
+    case "RAISE CALL in round 1 alone" (paid_in raised called ++ leduc-payoffs (leduc_at (0 ∷ 5 ∷ []) (Some 2) raised called))
     (plus 3 ∷ plus 3 ∷ minus 3 ∷ plus 3 ∷ [])
-    ∷ case "RAISE CALL in round 2 alone" (paid_in called raised ++ leduc-payoffs (leduc_at (0 ∷ 5 ∷ []) (Card 2) called raised))
+    ∷ case "RAISE CALL in round 2 alone" (paid_in called raised ++ leduc-payoffs (leduc_at (0 ∷ 5 ∷ []) (Some 2) called raised))
     (plus 5 ∷ plus 5 ∷ minus 5 ∷ plus 5 ∷ [])
-    ∷ case "RAISE FOLD in round 2" (leduc-payoffs (leduc_at (0 ∷ 5 ∷ []) (Card 2) called (RAISE ∷ FOLD ∷ []))) (plus 1 ∷ minus 1 ∷ [])
-    ∷ case "2 and 4, no pair" (leduc-payoffs (leduc_at (2 ∷ 4 ∷ []) (Card 0) called called)) (minus 1 ∷ plus 1 ∷ [])
-    ∷ case "2 and 4, 3 public" (leduc-payoffs (leduc_at (2 ∷ 4 ∷ []) (Card 3) called called)) (plus 1 ∷ minus 1 ∷ [])
+    ∷ case "RAISE FOLD in round 2" (leduc-payoffs (leduc_at (0 ∷ 5 ∷ []) (Some 2) called (RAISE ∷ FOLD ∷ []))) (plus 1 ∷ minus 1 ∷ [])
+    ∷ case "2 and 4, no pair" (leduc-payoffs (leduc_at (2 ∷ 4 ∷ []) (Some 0) called called)) (minus 1 ∷ plus 1 ∷ [])
+    ∷ case "2 and 4, 3 public" (leduc-payoffs (leduc_at (2 ∷ 4 ∷ []) (Some 3) called called)) (plus 1 ∷ minus 1 ∷ [])
     ∷ []
 
 -- ---- a refusal for each number; 1 and 3 come whatever the table
 
 abbrev pub refusals : List Case
 refusals =
-    case "2" (refusal (Kuhn.start-refusal (record { players = 11 }))) (refusal 2)
+    case "2" (refusal (Kuhn.start_refusal (record { players = 11 }))) (refusal 2)
     ∷ case "4" (refusal (evaluation_refusal kuhn2_tables 695 1 passes)) (refusal 4)
     ∷ case "5" (refusal (refused 2 1 passes)) (refusal 5)
     ∷ case "6" (refusal (table-refusal 65 passes)) (refusal 6)
@@ -51,15 +50,15 @@ refusals =
     ∷ case "9" (refusal (reply-refusal kuhn2_tables room 0 1 passes 23)) (refusal 9)
     ∷ case "10" (refusal (Kuhn.saved_refusal kuhn2 (kuhn_at (0 ∷ []) []) 0)) (refusal 10)
     ∷ case "11" (refusal (Kuhn.saved_refusal kuhn2 (kuhn_at (0 ∷ 3 ∷ []) []) 0)) (refusal 11)
-    ∷ case "12" (refusal (Leduc.saved_refusal (leduc_at (4 ∷ 4 ∷ []) Hidden [] []) 0)) (refusal 12)
-    ∷ case "13" (refusal (Leduc.saved_refusal (leduc_at (0 ∷ 5 ∷ []) Hidden (3 ∷ []) []) 0)) (refusal 13)
-    ∷ case "14" (refusal (Leduc.saved_refusal (leduc_at (0 ∷ 5 ∷ []) (Card 1) (CALL ∷ []) (CALL ∷ [])) 0)) (refusal 14)
-    ∷ case "15" (refusal (Leduc.saved_refusal (leduc_at (0 ∷ 5 ∷ []) Hidden (FOLD ∷ []) []) 1)) (refusal 15)
-    ∷ case "16" (refusal (Leduc.saved_refusal (leduc_at (0 ∷ 5 ∷ []) Hidden (CALL ∷ CALL ∷ []) []) 0)) (refusal 16)
-    ∷ case "17" (refusal (Leduc.saved_refusal (leduc_at (0 ∷ 5 ∷ []) (Card 1) (CALL ∷ []) []) 0)) (refusal 17)
+    ∷ case "12" (refusal (Leduc.saved_refusal (leduc_at (4 ∷ 4 ∷ []) None [] []) 0)) (refusal 12)
+    ∷ case "13" (refusal (Leduc.saved_refusal (leduc_at (0 ∷ 5 ∷ []) None (3 ∷ []) []) 0)) (refusal 13)
+    ∷ case "14" (refusal (Leduc.saved_refusal (leduc_at (0 ∷ 5 ∷ []) (Some 1) (CALL ∷ []) (CALL ∷ [])) 0)) (refusal 14)
+    ∷ case "15" (refusal (Leduc.saved_refusal (leduc_at (0 ∷ 5 ∷ []) None (FOLD ∷ []) []) 1)) (refusal 15)
+    ∷ case "16" (refusal (Leduc.saved_refusal (leduc_at (0 ∷ 5 ∷ []) None (CALL ∷ CALL ∷ []) []) 0)) (refusal 16)
+    ∷ case "17" (refusal (Leduc.saved_refusal (leduc_at (0 ∷ 5 ∷ []) (Some 1) (CALL ∷ []) []) 0)) (refusal 17)
     ∷ case "18" (refusal (Kuhn.saved_refusal kuhn2 (kuhn_at (0 ∷ 1 ∷ []) (PASS ∷ PASS ∷ [])) 0)) (refusal 18)
-    ∷ case "19" (refusal (Kuhn.payoff-refusal kuhn2 (kuhn_at (0 ∷ 1 ∷ []) (PASS ∷ PASS ∷ BET ∷ [])))) (refusal 19)
-    ∷ case "20" (refusal (Leduc.payoff-refusal (leduc_at (0 ∷ 5 ∷ []) Hidden (CALL ∷ []) []))) (refusal 20)
+    ∷ case "19" (refusal (Kuhn.payoff_refusal kuhn2 (kuhn_at (0 ∷ 1 ∷ []) (PASS ∷ PASS ∷ BET ∷ [])))) (refusal 19)
+    ∷ case "20" (refusal (Leduc.payoff-refusal (leduc_at (0 ∷ 5 ∷ []) None (CALL ∷ []) []))) (refusal 20)
     ∷ []
 
 -- 1: a game with the number 2
@@ -94,12 +93,12 @@ KuhnMoves = (Kuhn.dealt kuhn2 (kuhn_at (2 ∷ []) []) 1 ≡ record { refusal = 0
 
 -- Leduc: of the cards 1 to 4 outcome 2 is card 3; RAISE opens round 2; FOLD, by a seat that is not behind, becomes CALL
 abbrev pub LeducMoves : Type 0
-LeducMoves = (Leduc.dealt (leduc_at (0 ∷ 5 ∷ []) Hidden called []) 2
-    ≡ record { refusal = 0; state = leduc_at (0 ∷ 5 ∷ []) (Card 3) called [] })
-    × (Leduc.stepped (leduc_at (0 ∷ 5 ∷ []) (Card 3) called []) RAISE
-    ≡ record { refusal = 0; state = leduc_at (0 ∷ 5 ∷ []) (Card 3) called (RAISE ∷ []) })
-    × (Leduc.stepped (leduc_at (0 ∷ 5 ∷ []) Hidden [] []) FOLD
-    ≡ record { refusal = 0; state = leduc_at (0 ∷ 5 ∷ []) Hidden (CALL ∷ []) [] })
+LeducMoves = (Leduc.dealt (leduc_at (0 ∷ 5 ∷ []) None called []) 2
+    ≡ record { refusal = 0; state = leduc_at (0 ∷ 5 ∷ []) (Some 3) called [] })
+    × (Leduc.stepped (leduc_at (0 ∷ 5 ∷ []) (Some 3) called []) RAISE
+    ≡ record { refusal = 0; state = leduc_at (0 ∷ 5 ∷ []) (Some 3) called (RAISE ∷ []) })
+    × (Leduc.stepped (leduc_at (0 ∷ 5 ∷ []) None [] []) FOLD
+    ≡ record { refusal = 0; state = leduc_at (0 ∷ 5 ∷ []) None (CALL ∷ []) [] })
 
 -- ---- bits: Kuhn 2, every entry 0.5
 

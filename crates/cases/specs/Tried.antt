@@ -7,8 +7,7 @@ use Rattle.game_tree.specs.TableTheorem.{finer_reply}
 use Rattle.leduc_betting.specs.Betting.{CALL}
 use Rattle.leduc_tree.specs.Tree.{Position, choices}
 use Rattle.leduc_tree.specs.Turns.{first_turns}
-use Rattle.games.specs.Games.{game_of, tree_of, m, root_units}
-use Rattle.games.specs.declared.Game.{Game}
+use Rattle.games.specs.Games.{Game, game_of, tree_of, m, root_units}
 use Rattle.tree_refusals.specs.Accepted.{AcceptedTable}
 use Rattle.units_best.specs.Best.{BestReply}
 use Rattle.cases.specs.Cases.{kuhn2_tables, passes, bluffs, settled}

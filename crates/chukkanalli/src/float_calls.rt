@@ -21,7 +21,13 @@ pub extern "C" fn chukkanalli_best_response_value(
         1 (Response.single (best_of (game_of game seats) profile.now seat)) }
     ensures memory { MemoryAfter result.refusal (game_of game seats) work.old work.new }
 {
-    best_response::best_response_value(game as usize, seats as usize, work, seat as usize, profile)
+    best_response::best_response_value(
+        game as usize,
+        seats as usize,
+        work,
+        seat as usize,
+        profile,
+    ).into()
 }
 
 // The best response value of each seat.
@@ -36,7 +42,7 @@ pub extern "C" fn chukkanalli_best_response_values(
         seats (bests_of (game_of game seats) profile.now) }
     ensures memory { MemoryAfter result.refusal (game_of game seats) work.old work.new }
 {
-    best_response::best_response_values(game as usize, seats as usize, work, profile)
+    best_response::best_response_values(game as usize, seats as usize, work, profile).into()
 }
 
 // What a profile is worth to each seat.
@@ -51,7 +57,7 @@ pub extern "C" fn chukkanalli_profile_values(
         seats (worths_of (game_of game seats) profile.now) }
     ensures memory { MemoryAfter result.refusal (game_of game seats) work.old work.new }
 {
-    best_response::profile_values(game as usize, seats as usize, work, profile)
+    best_response::profile_values(game as usize, seats as usize, work, profile).into()
 }
 
 // NashConv: the sum of best response value − worth by seat.
@@ -66,7 +72,7 @@ pub extern "C" fn chukkanalli_nash_conv(
         1 (Response.single (nash_conv_of (game_of game seats) profile.now)) }
     ensures memory { MemoryAfter result.refusal (game_of game seats) work.old work.new }
 {
-    best_response::nash_conv(game as usize, seats as usize, work, profile)
+    best_response::nash_conv(game as usize, seats as usize, work, profile).into()
 }
 
 // Exploitability: NashConv divided by the seats.
@@ -81,5 +87,5 @@ pub extern "C" fn chukkanalli_exploitability(
         1 (Response.single (exploitability_of (game_of game seats) profile.now)) }
     ensures memory { MemoryAfter result.refusal (game_of game seats) work.old work.new }
 {
-    best_response::exploitability(game as usize, seats as usize, work, profile)
+    best_response::exploitability(game as usize, seats as usize, work, profile).into()
 }

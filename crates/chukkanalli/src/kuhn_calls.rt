@@ -1,22 +1,27 @@
-// Kuhn's calls for C: the seat count first, then what the call of crate kuhn takes.
+// Kuhn's calls for C: the seat count first, then what the call of crate kuhn takes. Numbers go in by `as`, since Rust has no From between u64 and usize.
 ghost use Rattle.std.specs.Prelude.{◌≡◌, length};
-ghost use Rattle.kuhn.specs.Calls.{start-refusal, started, dealt, stepped, listed, legal_of, keyed, key_of, written, paid, checked};
+ghost use Rattle.refusals.specs.Outcomes.{written};
+ghost use Rattle.kuhn.specs.Calls.{start_refusal, started, dealt, stepped, listed, legal_of, keyed, key_of, paid, checked};
 ghost use Rattle.c_structs.specs.Kuhn.{game_of, state_of, moved_of, written_of, payoffs_of};
 
-use c_structs::of_kuhn::{
-    KuhnMoved, KuhnPayoffs, KuhnPosition, KuhnWritten, moved_of, payoffs_of, state_of, written_of,
-};
-use kuhn::KuhnPoker;
+use c_structs::of_kuhn::{KuhnMoved, KuhnPayoffs, KuhnPosition, KuhnWritten};
+use kuhn::{KuhnPoker, KuhnState};
 
-// Number 2: the seat count is outside 2 to 10.
+// The game of a seat count.
+fn game_of(seats: u64) -> KuhnPoker
+    ensures { result ≡ game_of seats }
+{
+    KuhnPoker {
+        players: seats as usize,
+    }
+}
+
+// Refuses a seat count outside 2 to 10.
 #[unsafe(no_mangle)]
 pub extern "C" fn chukkanalli_kuhn_validate(seats: u64) -> u64
-    ensures { result ≡ start-refusal (game_of seats) }
+    ensures { result ≡ start_refusal (game_of seats) }
 {
-    let game = KuhnPoker {
-        players: seats as usize,
-    };
-    game.validate()
+    refusals::number_of(&game_of(seats).validate())
 }
 
 // Start.
@@ -24,10 +29,7 @@ pub extern "C" fn chukkanalli_kuhn_validate(seats: u64) -> u64
 pub extern "C" fn chukkanalli_kuhn_initial_state(seats: u64) -> KuhnMoved
     ensures { result ≡ moved_of (started (game_of seats)) }
 {
-    let game = KuhnPoker {
-        players: seats as usize,
-    };
-    moved_of(game.initial_state())
+    KuhnMoved::of(KuhnState::new(), game_of(seats).initial_state())
 }
 
 // Legal list.
@@ -41,10 +43,9 @@ pub extern "C" fn chukkanalli_kuhn_legal_actions(
     ensures answer { result ≡ written_of (listed (game_of seats) (state_of position) seat (length out.old)) }
     ensures output { out.new ≡ written result.refusal (legal_of (game_of seats) (state_of position) seat) out.old }
 {
-    let game = KuhnPoker {
-        players: seats as usize,
-    };
-    written_of(game.legal_actions(state_of(position), seat as usize, out))
+    let state = KuhnState::from(position);
+    let answer = game_of(seats).legal_actions(state, seat as usize, out);
+    KuhnWritten::of(state, answer)
 }
 
 // Deal.
@@ -56,10 +57,9 @@ pub extern "C" fn chukkanalli_kuhn_apply_chance_node(
 ) -> KuhnMoved
     ensures { result ≡ moved_of (dealt (game_of seats) (state_of position) outcome) }
 {
-    let game = KuhnPoker {
-        players: seats as usize,
-    };
-    moved_of(game.apply_chance_node(state_of(position), outcome as usize))
+    let state = KuhnState::from(position);
+    let answer = game_of(seats).apply_chance_node(state, outcome as usize);
+    KuhnMoved::of(state, answer)
 }
 
 // Step.
@@ -71,10 +71,9 @@ pub extern "C" fn chukkanalli_kuhn_step(
 ) -> KuhnMoved
     ensures { result ≡ moved_of (stepped (game_of seats) (state_of position) action) }
 {
-    let game = KuhnPoker {
-        players: seats as usize,
-    };
-    moved_of(game.step(state_of(position), action as usize))
+    let state = KuhnState::from(position);
+    let answer = game_of(seats).step(state, action as usize);
+    KuhnMoved::of(state, answer)
 }
 
 // Key.
@@ -88,10 +87,9 @@ pub extern "C" fn chukkanalli_kuhn_information_state_key(
     ensures answer { result ≡ written_of (keyed (game_of seats) (state_of position) seat (length out.old)) }
     ensures output { out.new ≡ written result.refusal (key_of (state_of position) seat) out.old }
 {
-    let game = KuhnPoker {
-        players: seats as usize,
-    };
-    written_of(game.information_state_key(state_of(position), seat as usize, out))
+    let state = KuhnState::from(position);
+    let answer = game_of(seats).information_state_key(state, seat as usize, out);
+    KuhnWritten::of(state, answer)
 }
 
 // Payoff.
@@ -99,10 +97,9 @@ pub extern "C" fn chukkanalli_kuhn_information_state_key(
 pub extern "C" fn chukkanalli_kuhn_payouts(seats: u64, position: KuhnPosition) -> KuhnPayoffs
     ensures { result ≡ payoffs_of (paid (game_of seats) (state_of position)) }
 {
-    let game = KuhnPoker {
-        players: seats as usize,
-    };
-    payoffs_of(game.payouts(state_of(position)))
+    let state = KuhnState::from(position);
+    let answer = game_of(seats).payouts(state);
+    KuhnPayoffs::of(state, answer)
 }
 
 // Saved position.
@@ -114,8 +111,7 @@ pub extern "C" fn chukkanalli_kuhn_validate_decoded_state(
 ) -> KuhnMoved
     ensures { result ≡ moved_of (checked (game_of seats) (state_of position) done) }
 {
-    let game = KuhnPoker {
-        players: seats as usize,
-    };
-    moved_of(game.validate_decoded_state(state_of(position), done))
+    let state = KuhnState::from(position);
+    let answer = game_of(seats).validate_decoded_state(state, done);
+    KuhnMoved::of(state, answer.and(Ok(state)))
 }

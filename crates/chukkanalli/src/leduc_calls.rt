@@ -1,21 +1,20 @@
 // Leduc's calls for C: what the call of crate leduc takes.
 ghost use Rattle.std.specs.Prelude.{◌≡◌, length};
+ghost use Rattle.refusals.specs.Outcomes.{written};
 ghost use Rattle.leduc_positions.specs.Positions.{legal_of};
-ghost use Rattle.leduc.specs.Calls.{started, dealt, stepped, legal-refusal, listed, key_of, key-refusal, keyed, written, paid, checked};
+ghost use Rattle.leduc.specs.Calls.{started, dealt, stepped, listed, key_of, keyed, paid, checked};
 ghost use Rattle.c_structs.specs.Leduc.{state_of, moved_of, written_of, payoffs_of};
 
-use c_structs::of_leduc::{
-    LeducMoved, LeducPayoffs, LeducPosition, LeducWritten, moved_of, payoffs_of, state_of,
-    written_of,
-};
-use leduc::LeducPoker;
+use c_structs::of_leduc::{LeducMoved, LeducPayoffs, LeducPosition, LeducWritten};
+use leduc::{LeducPoker, LeducState};
 
 // Start.
 #[unsafe(no_mangle)]
 pub extern "C" fn chukkanalli_leduc_initial_state() -> LeducMoved
     ensures { result ≡ moved_of started }
 {
-    moved_of(LeducPoker::initial_state())
+    let state = LeducPoker::initial_state();
+    LeducMoved::of(state, Ok(state))
 }
 
 // Legal list.
@@ -26,10 +25,11 @@ pub extern "C" fn chukkanalli_leduc_legal_actions(
     out: &mut [u8],
 ) -> LeducWritten
     ensures answer { result ≡ written_of (listed (state_of position) seat (length out.old)) }
-    ensures output { out.new ≡ written (legal-refusal (state_of position) seat (length out.old))
-        (legal_of (state_of position) seat) out.old }
+    ensures output { out.new ≡ written result.refusal (legal_of (state_of position) seat) out.old }
 {
-    written_of(LeducPoker::legal_actions(state_of(position), seat as usize, out))
+    let state = LeducState::from(position);
+    let answer = LeducPoker::legal_actions(state, seat as usize, out);
+    LeducWritten::of(state, answer)
 }
 
 // Deal.
@@ -40,7 +40,9 @@ pub extern "C" fn chukkanalli_leduc_apply_chance_node(
 ) -> LeducMoved
     ensures { result ≡ moved_of (dealt (state_of position) outcome) }
 {
-    moved_of(LeducPoker::apply_chance_node(state_of(position), outcome as usize))
+    let state = LeducState::from(position);
+    let answer = LeducPoker::apply_chance_node(state, outcome as usize);
+    LeducMoved::of(state, answer)
 }
 
 // Step.
@@ -48,7 +50,9 @@ pub extern "C" fn chukkanalli_leduc_apply_chance_node(
 pub extern "C" fn chukkanalli_leduc_step(position: LeducPosition, action: u64) -> LeducMoved
     ensures { result ≡ moved_of (stepped (state_of position) action) }
 {
-    moved_of(LeducPoker::step(state_of(position), action as usize))
+    let state = LeducState::from(position);
+    let answer = LeducPoker::step(state, action as usize);
+    LeducMoved::of(state, answer)
 }
 
 // Key.
@@ -59,10 +63,11 @@ pub extern "C" fn chukkanalli_leduc_information_state_key(
     out: &mut [u8],
 ) -> LeducWritten
     ensures answer { result ≡ written_of (keyed (state_of position) seat (length out.old)) }
-    ensures output { out.new ≡ written (key-refusal (state_of position) seat (length out.old))
-        (key_of (state_of position) seat) out.old }
+    ensures output { out.new ≡ written result.refusal (key_of (state_of position) seat) out.old }
 {
-    written_of(LeducPoker::information_state_key(state_of(position), seat as usize, out))
+    let state = LeducState::from(position);
+    let answer = LeducPoker::information_state_key(state, seat as usize, out);
+    LeducWritten::of(state, answer)
 }
 
 // Payoff.
@@ -70,7 +75,9 @@ pub extern "C" fn chukkanalli_leduc_information_state_key(
 pub extern "C" fn chukkanalli_leduc_payouts(position: LeducPosition) -> LeducPayoffs
     ensures { result ≡ payoffs_of (paid (state_of position)) }
 {
-    payoffs_of(LeducPoker::payouts(state_of(position)))
+    let state = LeducState::from(position);
+    let answer = LeducPoker::payouts(state);
+    LeducPayoffs::of(state, answer)
 }
 
 // Saved position.
@@ -81,5 +88,7 @@ pub extern "C" fn chukkanalli_leduc_validate_decoded_state(
 ) -> LeducMoved
     ensures { result ≡ moved_of (checked (state_of position) done) }
 {
-    moved_of(LeducPoker::validate_decoded_state(state_of(position), done))
+    let state = LeducState::from(position);
+    let answer = LeducPoker::validate_decoded_state(state, done);
+    LeducMoved::of(state, answer.and(Ok(state)))
 }

@@ -16,5 +16,5 @@ pub extern "C" fn chukkanalli_enumerate_infosets(
     ensures answer { result ≡ answer (listing-refusal (game_of game seats) (length work.now) (length out.old)) (game_of game seats) }
     ensures output { out.new ≡ written result.refusal (game_of game seats) out.old }
 {
-    listing::enumerate_infosets(game as usize, seats as usize, work, out)
+    listing::enumerate_infosets(game as usize, seats as usize, work, out).into()
 }

@@ -24,7 +24,7 @@ pub extern "C" fn chukkanalli_worths(
         (game_of game seats) d table.now }
     ensures memory { MemoryAfter result.refusal (game_of game seats) work.old work.new }
 {
-    worths::worths(game as usize, seats as usize, work, d as usize, table)
+    worths::worths(game as usize, seats as usize, work, d as usize, table).into()
 }
 
 // A seat's best value, and the reply that is worth it.
@@ -54,6 +54,7 @@ pub extern "C" fn chukkanalli_best_reply(
         table,
         out,
     )
+    .into()
 }
 
 // NashConv: the sum of best value − worth over the seats.
@@ -71,5 +72,5 @@ pub extern "C" fn chukkanalli_nash_conv_units(
     ensures equilibrium { Conv.ZeroAtEquilibrium result (game_of game seats) d table.now }
     ensures memory { MemoryAfter result.refusal (game_of game seats) work.old work.new }
 {
-    nash_conv_units::nash_conv_units(game as usize, seats as usize, work, d as usize, table)
+    nash_conv_units::nash_conv_units(game as usize, seats as usize, work, d as usize, table).into()
 }

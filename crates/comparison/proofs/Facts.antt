@@ -7,14 +7,14 @@ use native.Mathlib.Omega.{arith}
 use lib.IntN.{ℤ, pos, negsuc}
 use Rattle.comparison.specs.Order.{compared, compared_quotients, number_of}
 use Rattle.comparison.specs.Facts.{NotGreater, turned, Tells, CaseTells, NumberTells, EqualToItself, EqualToMultiples, NoughtOfNought, Turns, Comparable, NeitherGreater, Transitive, LessOnward}
-use Rattle.comparison.specs.declared.Comparison.{Comparison}
-use Rattle.comparison.specs.declared.Comparison.TheVariants.{Less, Equal, Greater}
+use Rattle.std.specs.declared.cmp.Ordering.{Ordering}
+use Rattle.std.specs.declared.cmp.Ordering.TheVariants.{Less, Equal, Greater}
 use Rattle.comparison.proofs.Standing.{Stands, below, level, above, stands, case_is}
 
 -- ---- two numbers
 
 module _ (x y : ℕ) where
-  said : {c : Comparison} → compared x y ≡ c → Stands x y c
+  said : {c : Ordering} → compared x y ≡ c → Stands x y c
   said e = subst (Stands x y) e (stands x y)
 
   if_less : Stands x y Less → x < y
@@ -36,7 +36,7 @@ module _ (x y : ℕ) where
   at_most : NotGreater (compared x y) → x ≤ y
   at_most n = at (stands x y) n
     where
-      at : {c : Comparison} → Stands x y c → NotGreater c → x ≤ y
+      at : {c : Ordering} → Stands x y c → NotGreater c → x ≤ y
       at (below l) n = omega arith
       at (level e) n = omega arith
       at (above l) n = absurd (n refl)
@@ -49,7 +49,7 @@ module _ (x y : ℕ) where
   turn : compared y x ≡ turned (compared x y)
   turn = at (stands x y)
     where
-      at : {c : Comparison} → Stands x y c → compared y x ≡ turned c
+      at : {c : Ordering} → Stands x y c → compared y x ≡ turned c
       at (below l) = sym (case_is y x (above l))
       at (level e) = sym (case_is y x (level (sym e)))
       at (above l) = sym (case_is y x (below l))
@@ -57,7 +57,7 @@ module _ (x y : ℕ) where
   either : NotGreater (compared x y) ⊎ NotGreater (compared y x)
   either = at (stands x y)
     where
-      at : {c : Comparison} → Stands x y c → NotGreater (compared x y) ⊎ NotGreater (compared y x)
+      at : {c : Ordering} → Stands x y c → NotGreater (compared x y) ⊎ NotGreater (compared y x)
       at (below l) = inl (not_greater x y (omega arith))
       at (level e) = inl (not_greater x y (omega arith))
       at (above l) = inr (not_greater y x (omega arith))
@@ -69,12 +69,12 @@ module _ (x y : ℕ) where
   not_either e = let q = if_equal x y (said x y e) in (not_greater x y (omega arith), not_greater y x (omega arith))
 
 -- the case of a number
-abbrev case_of : ℤ → Comparison
+abbrev case_of : ℤ → Ordering
 case_of (negsuc n) = Less
 case_of (pos zero) = Equal
 case_of (pos (suc n)) = Greater
 
-number_back : (c : Comparison) → case_of (number_of c) ≡ c
+number_back : (c : Ordering) → case_of (number_of c) ≡ c
 number_back Less = refl
 number_back Equal = refl
 number_back Greater = refl
@@ -116,7 +116,7 @@ number-tells a u b v = let t = case-tells a u b v in record {
   greater = (λ e. t.greater.0 (same Greater e), λ l. ap number_of (t.greater.1 l));
 }
   where
-    same : (d : Comparison) → number_of (compared_quotients a u b v) ≡ number_of d → compared_quotients a u b v ≡ d
+    same : (d : Ordering) → number_of (compared_quotients a u b v) ≡ number_of d → compared_quotients a u b v ≡ d
     same d e = sym (number_back (compared_quotients a u b v)) ∙ ap case_of e ∙ number_back d
 
 pub equal_to_itself : EqualToItself

@@ -1,20 +1,20 @@
--- What the comparison of a / u with b / v is, by cross products alone, with no fraction and no division (document 02, Nine). Proved in
+-- What the comparison of a / u with b / v is, by cross products alone, with no fraction and no division. Proved in
 -- proofs/Facts.antt.
 use Rattle.std.specs.Prelude.{◌≡◌, ◌⊎◌, ◌↔◌, ℕ, ◌*◌, ◌<◌, pos, neg_ℤ}
 use Rattle.comparison.specs.Order.{compared_quotients, number_of}
-use Rattle.comparison.specs.declared.Comparison.{Comparison}
-use Rattle.comparison.specs.declared.Comparison.TheVariants.{Less, Equal, Greater}
+use Rattle.std.specs.declared.cmp.Ordering.{Ordering}
+use Rattle.std.specs.declared.cmp.Ordering.TheVariants.{Less, Equal, Greater}
 
 -- the units of a quotient: with 0 of them the comparison is no order
 abbrev pub Units : ℕ → Type 0
 Units u = 0 < u
 
 -- at most: less or equal
-abbrev pub NotGreater : Comparison → Type 0
+abbrev pub NotGreater : Ordering → Type 0
 NotGreater c = c ≡ Greater → ⊥
 
 -- the answer the other way round
-abbrev pub turned : Comparison → Comparison
+abbrev pub turned : Ordering → Ordering
 turned Less = Greater
 turned Equal = Equal
 turned Greater = Less

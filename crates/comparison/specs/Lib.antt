@@ -1,3 +1,3 @@
--- How two quotients of whole numbers compare (document 02, Nine): Order has what the calls answer, Facts what follows.
+-- How two quotients of whole numbers compare: Order has what the calls answer, Facts what follows.
 pub mod Order
 pub mod Facts

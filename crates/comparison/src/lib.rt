@@ -2,18 +2,12 @@
 #![tactic(auto)]
 
 ghost use Rattle.std.specs.Prelude.{◌≡◌, ◌+◌, ◌*◌, ◌^◌};
-ghost use Rattle.comparison.specs.Order.{compared, compared_quotients, number_of};
+ghost use Rattle.comparison.specs.Order.{compared_quotients, number_of};
 
-// How one quotient stands to another.
-#[derive(Clone, Copy)]
-pub enum Comparison {
-    Less,
-    Equal,
-    Greater,
-}
+use std::cmp::Ordering;
 
-// A number of 128 bits.
-#[derive(Clone, Copy)]
+// A number of 128 bits, which the order of its fields compares: the upper half first.
+#[derive(Clone, Copy, PartialEq, Eq, PartialOrd, Ord)]
 pub struct Wide {
     pub high: u64,
     pub low: u64,
@@ -22,7 +16,8 @@ pub struct Wide {
 // 2^32: a number of 64 bits has two digits in this base.
 const BASE: u64 = 4294967296;
 
-// The whole product of two numbers, by digits of 32 bits: column by column, each with the carry of the one before it.
+// The whole product of two numbers, by digits of 32 bits: column by column, each with the carry of the one before it. Kept in halves of 64 bits and not in a
+// u128, since a demand names the halves, and what a lost carry would do is tried on them.
 pub fn product(a: u64, b: u64) -> Wide
     ensures { result.high * 2 ^ 64 + result.low ≡ a * b }
 {
@@ -39,38 +34,20 @@ pub fn product(a: u64, b: u64) -> Wide
     }
 }
 
-// How one number stands to another.
-fn order(x: u64, y: u64) -> Comparison
-    ensures { result ≡ compared x y }
-{
-    if x < y {
-        return Comparison::Less;
-    }
-    if y < x {
-        return Comparison::Greater;
-    }
-    Comparison::Equal
-}
-
 // How NashConv a of u units stands to NashConv b of v units: as a × v does to b × u.
-pub fn compare(a: u64, u: u64, b: u64, v: u64) -> Comparison
+pub fn compare(a: u64, u: u64, b: u64, v: u64) -> Ordering
     ensures { result ≡ compared_quotients a u b v }
 {
-    let left = product(a, v);
-    let right = product(b, u);
-    if left.high == right.high {
-        return order(left.low, right.low);
-    }
-    order(left.high, right.high)
+    product(a, v).cmp(&product(b, u))
 }
 
 // The number of a comparison for C.
-pub fn number(comparison: Comparison) -> i64
+pub fn number(comparison: Ordering) -> i64
     ensures { result ≡ number_of comparison }
 {
     match comparison {
-        Comparison::Less => -1,
-        Comparison::Equal => 0,
-        Comparison::Greater => 1,
+        Ordering::Less => -1,
+        Ordering::Equal => 0,
+        Ordering::Greater => 1,
     }
 }

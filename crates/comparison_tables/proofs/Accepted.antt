@@ -12,8 +12,7 @@ use Rattle.prelude.specs.Finite.{◌or◌}
 use Rattle.prelude.proofs.Tests.{or_false_left, or_false_right}
 use Rattle.game_tree.specs.Sets.{size, set_actions, entries}
 use Rattle.game_tree.specs.Table.{Table, add_up}
-use Rattle.games.specs.declared.Game.{Game}
-use Rattle.games.specs.Games.{tree_of, most_parts}
+use Rattle.games.specs.Games.{Game, tree_of, most_parts}
 use Rattle.games.specs.Seats.{seats-out}
 use Rattle.games.proofs.Facts.{nodes_are}
 use Rattle.tree_refusals.specs.Checks.{evaluation_refusal}

@@ -8,15 +8,12 @@ use lib.Dec.{ltb→lt, lt→ltb}
 use lib.IntN.{ℤ, pos, ◌-ℤ◌, ◌*ℤ◌, nat_abs, +ℤ_idl, -ℤ-+ℤ_cancel}
 use lib.Signed.{◌≤ℤ◌, ◌<ℤ◌, ≤ℤ_refl, yes_non_neg, pos-nat_abs}
 use Rattle.comparison.specs.Facts.{Tells}
-use Rattle.comparison.specs.declared.Comparison.TheVariants.{Less, Equal, Greater}
+use Rattle.std.specs.declared.cmp.Ordering.TheVariants.{Less, Equal, Greater}
 use Rattle.comparison.proofs.Facts as Comparison
 use Rattle.game_tree.specs.Table.{Table, table_best, table_worth, nash_conv_over}
 use Rattle.game_tree.proofs.Integers.{+ℤ-mono, +ℤ-cancel}
-use Rattle.kuhn_tree.specs.Tree.{factorial}
-use Rattle.kuhn_tree.specs.Tree as Kuhn
-use Rattle.games.specs.declared.Game.{Game}
-use Rattle.games.specs.Games.{is_kuhn, tree_of, C, m, root_units}
-use Rattle.games.proofs.Facts.{reply-best}
+use Rattle.games.specs.Games.{Game, tree_of, C, m, root_units}
+use Rattle.games.proofs.Facts.{fans-positive, reply-best}
 use Rattle.tree_refusals.specs.Accepted.{AcceptedTable}
 use Rattle.nash_conv_units.specs.Calls.{nash_conv_of, answer}
 use Rattle.comparison_tables.proofs.Accepted.{accepted-table}
@@ -25,21 +22,6 @@ use Rattle.comparison_tables.specs.Tables.{Evaluated, answer_of, between, crosse
 -- a difference of a number and one that is not above it
 not_below : {a b : ℤ} → a ≤ℤ b → pos 0 ≤ℤ (b -ℤ a)
 not_below {a} {b} l = +ℤ-cancel (pos 0) (b -ℤ a) a (rw (+ℤ_idl a, -ℤ-+ℤ_cancel b a) l)
-
--- ---- units
-
-factorial-positive : (n : ℕ) → 0 < factorial n
-unfolding factorial
-factorial-positive zero = omega arith
-factorial-positive (suc n) = NatL.mul-pos {m = suc n} (omega arith) (factorial-positive n)
-
-fans-positive : (g : Game) → 0 < C g
-unfolding Kuhn.C
-fans-positive g = at (is_kuhn g)
-  where
-    at : (t : Bool) → 0 < cond t (Kuhn.C g.seats) 120
-    at true = factorial-positive (g.seats + 1)
-    at false = omega arith
 
 -- ---- a table that is not refused
 module _ (g : Game) (D : ℕ) (table : Table) (a : AcceptedTable g D table) where

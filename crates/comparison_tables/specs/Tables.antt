@@ -3,11 +3,10 @@
 use Rattle.std.specs.Prelude.{◌≡◌, ◌⊎◌, ◌↔◌, ℕ, ℤ, pos, ◌*ℤ◌, ◌<ℤ◌}
 use Rattle.comparison.specs.Order.{compared_quotients}
 use Rattle.comparison.specs.Facts.{Units, NotGreater, Tells}
-use Rattle.comparison.specs.declared.Comparison.{Comparison}
-use Rattle.comparison.specs.declared.Comparison.TheVariants.{Less, Equal, Greater}
+use Rattle.std.specs.declared.cmp.Ordering.{Ordering}
+use Rattle.std.specs.declared.cmp.Ordering.TheVariants.{Less, Equal, Greater}
 use Rattle.game_tree.specs.Table.{Table}
-use Rattle.games.specs.declared.Game.{Game}
-use Rattle.games.specs.Games.{root_units}
+use Rattle.games.specs.Games.{Game, root_units}
 use Rattle.tree_refusals.specs.Checks.{evaluation_refusal}
 use Rattle.nash_conv_units.specs.Calls.{nash_conv_of, answer}
 use Rattle.nash_conv_units.specs.declared.NashConvAnswer.{NashConvAnswer}
@@ -25,7 +24,7 @@ abbrev pub answer_of : Evaluated → NashConvAnswer
 answer_of x = answer (evaluation_refusal x.game x.words x.D x.table) x.game x.D x.table
 
 -- what compare answers of the four numbers answered
-abbrev pub between : Evaluated → Evaluated → Comparison
+abbrev pub between : Evaluated → Evaluated → Ordering
 between x y = compared_quotients (answer_of x).nash_conv (answer_of x).units (answer_of y).nash_conv (answer_of y).units
 
 -- x's NashConv times y's units, over whole numbers

@@ -2,11 +2,10 @@
 -- by computing.
 use Rattle.std.specs.Prelude.{◌≡◌, List, [], ◌∷◌, map, ℕ}
 use Rattle.comparison.specs.Order.{compared_quotients}
-use Rattle.comparison.specs.declared.Comparison.{Comparison}
-use Rattle.comparison.specs.declared.Comparison.TheVariants.{Less, Equal, Greater}
+use Rattle.std.specs.declared.cmp.Ordering.{Ordering}
+use Rattle.std.specs.declared.cmp.Ordering.TheVariants.{Less, Equal, Greater}
 use Rattle.game_tree.specs.Table.{Table}
-use Rattle.games.specs.Games.{game_of}
-use Rattle.games.specs.declared.Game.{Game}
+use Rattle.games.specs.Games.{Game, game_of}
 use Rattle.tree_refusals.specs.Checks.{evaluation_refusal}
 use Rattle.nash_conv_units.specs.Calls.{answer}
 use Rattle.nash_conv_units.specs.declared.NashConvAnswer.{NashConvAnswer}
@@ -33,12 +32,12 @@ Answered = (answered 1 1 0 ≡ says 12 6) × (answered 2 2 0 ≡ says 96 48) × 
 
 -- two quotients, and how the first stands to the second
 pub data Try : Type 0 where
-  try : (a u b v : ℕ) → Comparison → Try
+  try : (a u b v : ℕ) → Ordering → Try
 
-abbrev pub given : Try → Comparison
+abbrev pub given : Try → Ordering
 given (try a u b v c) = compared_quotients a u b v
 
-abbrev pub said : Try → Comparison
+abbrev pub said : Try → Ordering
 said (try a u b v c) = c
 
 -- Always PASS in Kuhn 2 has the same quotient with D 1 and D 2, and as Leduc's first actions have with D 1; of Leduc further 956821248 of

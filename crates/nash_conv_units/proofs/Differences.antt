@@ -1,12 +1,11 @@
 -- A difference of signed numbers that is not below 0. Assumes nothing.
-use mathlib.Core.Path.{◌≡◌, refl, ap₂, ◌∙◌}
+use mathlib.Core.Path.{◌≡◌, refl}
 use Prim.Native.Nat.{ℕ, zero, suc, ◌*◌, ◌^◌, ◌≤◌, ◌<◌}
 use native.Mathlib.Omega.{arith}
-use lib.Dec.{T}
 use lib.IntN.{ℤ, pos, negsuc, neg_ℤ, ◌-ℤ◌, nat_abs, +ℤ_idl, -ℤ-+ℤ_cancel}
-use lib.Signed.{◌≤ℤ◌, non_neg, yes_non_neg, pos-nat_abs}
+use lib.Signed.{◌≤ℤ◌, yes_non_neg, pos-nat_abs}
 use mir.Syntax.{w64}
-use mir.Val.{Fits, SFits, to_z, of_z}
+use mir.Val.{SFits, to_z, of_z}
 use mir.ValLaws.{to_z-of_z}
 use Rattle.game_tree.proofs.Integers.{+ℤ-cancel, size_of_sum}
 
@@ -34,24 +33,5 @@ module _ (a b : ℤ) (l : a ≤ℤ b) where
   not_below : pos 0 ≤ℤ (b -ℤ a)
   not_below = +ℤ-cancel (pos 0) (b -ℤ a) a (rw (+ℤ_idl a, -ℤ-+ℤ_cancel b a) l)
 
-  difference_is : pos (nat_abs (b -ℤ a)) ≡ b -ℤ a
+  pub difference_is : pos (nat_abs (b -ℤ a)) ≡ b -ℤ a
   difference_is = pos-nat_abs (b -ℤ a) (yes_non_neg not_below)
-
-  module _ (h : nat_abs a < 2 ^ 62) (k : nat_abs b < 2 ^ 62) where
-    small : nat_abs (b -ℤ a) < 2 ^ 63
-    small = omega (arith, size_of_sum b (neg_ℤ a), size_of_negative a)
-
-    bits_of : bits b -ℤ bits a ≡ b -ℤ a
-    bits_of = ap₂ (λ x y. x -ℤ y) (bits_of_small b (omega arith)) (bits_of_small a (omega arith))
-
-    pub difference_fits : SFits w64 (bits b -ℤ bits a)
-    difference_fits = rw bits_of (small_fits (b -ℤ a) small)
-
-    back : bits (bits b -ℤ bits a) ≡ b -ℤ a
-    back = to_z-of_z w64 (bits b -ℤ bits a) difference_fits ∙ bits_of
-
-    pub difference-casts : T (non_neg (bits (bits b -ℤ bits a))) × Fits w64 (nat_abs (bits (bits b -ℤ bits a)))
-    difference-casts = rw back (yes_non_neg not_below, record { fits = omega (arith, small) })
-
-    pub difference_whole : pos (nat_abs (bits (bits b -ℤ bits a))) ≡ b -ℤ a
-    difference_whole = rw back difference_is

@@ -9,7 +9,6 @@ use native.Mathlib.Omega.{arith}
 use lib.Dec.{ltb}
 use lib.IntN.{ℤ, pos, ◌+ℤ◌, ◌-ℤ◌, nat_abs}
 use lib.ListN.{get_or}
-use lib.Signed.{◌≤ℤ◌}
 use mir.Syntax.{w64}
 use mir.Val.{Fits}
 use borrow.Author.Tests.{lt-ltb}
@@ -18,8 +17,7 @@ use Rattle.game_tree.specs.Tree.{Tree}
 use Rattle.game_tree.specs.Table.{Table, table_worth, table_best, nash_conv_over}
 use Rattle.game_tree.proofs.Integers.{size_of_sum}
 use Rattle.game_tree.proofs.TableTheorem.{table_bounds}
-use Rattle.games.specs.declared.Game.{Game}
-use Rattle.games.specs.Games.{tree_of, root_units}
+use Rattle.games.specs.Games.{Game, tree_of, root_units}
 use Rattle.games.specs.Facts.{largest_payoff}
 use Rattle.games.specs.Facts as Games
 use Rattle.games.proofs.Facts.{games_fit}
@@ -28,7 +26,7 @@ use Rattle.tree_refusals.specs.Accepted.{AcceptedTable}
 use Rattle.arena_store.proofs.Shaped.{games_shaped}
 use Rattle.units_worths.specs.Worths.{worths_of}
 use Rattle.units_worths.proofs.Facts.{units-fit}
-use Rattle.nash_conv_units.proofs.Differences.{bits, bits_of_small, difference-size}
+use Rattle.nash_conv_units.proofs.Differences.{bits, bits_of_small, difference-size, difference_is}
 
 module _ (g : Game) (D : ℕ) (table : Table) (a : AcceptedTable g D table) where
   abbrev T : Tree
@@ -61,7 +59,7 @@ module _ (g : Game) (D : ℕ) (table : Table) (a : AcceptedTable g D table) wher
     sizes = table_bounds T D U (largest_payoff g) i table a.least fit.actions a.valid (fit.pays i l)
 
     -- its worth, from those of all
-    pub seat-worth : (worths : List ℤ) → worths ≡ worths_of g D table → bits (get_or worths i (pos 0)) ≡ table_worth T D U table i
+    seat-worth : (worths : List ℤ) → worths ≡ worths_of g D table → bits (get_or worths i (pos 0)) ≡ table_worth T D U table i
     unfolding worths_of
     seat-worth worths e =
         let q : get_or worths i (pos 0) ≡ table_worth T D U table i = ap (λ x. get_or x i (pos 0)) e
@@ -69,17 +67,11 @@ module _ (g : Game) (D : ℕ) (table : Table) (a : AcceptedTable g D table) wher
         ∙ rw (lt-ltb i g.seats l) refl in
         ap bits q ∙ bits_of_small (table_worth T D U table i) (omega (arith, sizes.0, most_few))
 
-    -- its worth and its best value, which no rival table beats: the table is a rival of itself
-    module _ (w b v : ℤ) (p : w ≡ table_worth T D U table i) (q : b ≡ v) (e : v ≡ table_best T D U table i) where
-      pub excess_asked : Unbeaten g D i table v → (w ≤ℤ b) × (nat_abs w < 2 ^ 62) × (nat_abs b < 2 ^ 62)
-      excess_asked u = (
-        rw (p, q) (u.0 table (a.valid, λ x l f. refl)),
-        rw p (NatL.lt_of_le_of_lt sizes.0 most_few),
-        rw (q ∙ e) (NatL.lt_of_le_of_lt sizes.1 most_few),
-      )
-
-      pub excess_is : (r : ℕ) → pos r ≡ b -ℤ w → pos r ≡ table_best T D U table i -ℤ table_worth T D U table i
-      excess_is r x = x ∙ ap₂ (λ y z. y -ℤ z) (q ∙ e) p
+    -- what it would gain by its best value, which no rival table beats: the table is a rival of itself
+    pub gain_is : (worths : List ℤ) → worths ≡ worths_of g D table → (b v : ℤ) → b ≡ v → v ≡ table_best T D U table i → Unbeaten g D i table v
+        → (r : ℕ) → r ≡ nat_abs (b -ℤ bits (get_or worths i (pos 0))) → pos r ≡ table_best T D U table i -ℤ table_worth T D U table i
+    gain_is worths e b v p q u r x = ap pos (x ∙ ap₂ (λ y z. nat_abs (y -ℤ z)) (p ∙ q) (seat-worth worths e))
+        ∙ difference_is (table_worth T D U table i) (table_best T D U table i) (rw (← q) (u.0 table (a.valid, λ y h f. refl)))
 
   -- ---- the seats passed
   conv-few : (k : ℕ) → k ≤ g.seats → nat_abs (nash_conv_over T D U table k) ≤ k * (2 * most)
@@ -109,6 +101,3 @@ module _ (g : Game) (D : ℕ) (table : Table) (a : AcceptedTable g D table) wher
         let q : sum + e ≡ nat_abs (nash_conv_over T D U table (suc k)) = ap nat_abs next in
         let r = NatL.mul-le-mul_right (2 * most) l in
         record { fits = omega (arith, (units-fit g D a.game a.most).conv) }
-
-  pub all_seats : (k sum : ℕ) → k ≤ g.seats → g.seats ≤ k → pos sum ≡ nash_conv_over T D U table k → pos sum ≡ nash_conv_over T D U table g.seats
-  all_seats k sum a b s = let q : k ≡ g.seats = omega arith in s ∙ ap (nash_conv_over T D U table) q

@@ -1,19 +1,25 @@
 // The worths of a table: what it is worth to each seat, in whole units.
 #![tactic(auto)]
 
-ghost use Rattle.std.specs.Prelude.{◌≡◌, ◌*◌, ◌≤◌, length};
+ghost use Rattle.std.specs.Prelude.{◌≡◌, length};
+ghost use Rattle.refusals.specs.Outcomes.{number_of};
 ghost use Rattle.games.specs.Games.{game_of};
-ghost use Rattle.games.specs.Facts.{nodes_of};
-ghost use Rattle.units_worths.specs.Worths.{worths_of};
 ghost use Rattle.tree_refusals.specs.Checks.{evaluation_refusal};
-ghost use Rattle.tree_refusals.specs.Accepted.{AcceptedTable};
 ghost use Rattle.arena_store.specs.Memory.{MemoryAfter};
-ghost use Rattle.worths.specs.Calls.{answer};
+ghost use Rattle.worths.specs.Calls.{answer, answer_of};
 
 use games::Game;
+use refusals::{Refusal, number_of};
+use units_worths::worths::table_worths;
 
-// A call's refusal number, 0 if it was accepted, and the worth of each of count seats, 0 past them; every number but the first is 0 if it was refused. C has it
-// as it is.
+// The worth of each of count seats, 0 past them.
+#[derive(Clone, Copy, Default)]
+pub struct SeatWorths {
+    pub count: usize,
+    pub worths: [i64; 6],
+}
+
+// For C, a call's refusal number, 0 if it was accepted, and the worths; every number but the first is 0 if it was refused.
 #[repr(C)]
 #[derive(Clone, Copy)]
 pub struct WorthsAnswer {
@@ -22,36 +28,39 @@ pub struct WorthsAnswer {
     pub worths: [i64; 6],
 }
 
-// The worths of a table that is not refused, with the game's tree stored in the words for it.
-fn evaluate(g: Game, words: &mut [u64], d: usize, table: &[u8]) -> [i64; 6]
-    requires { AcceptedTable g d table.now × (12 * nodes_of g ≤ length words.old) }
-    ensures { result ≡ worths_of g d table.now }
-{
-    arena_store::store(g, words);
-    units_worths::worths::table_worths(g, words, d, table)
+impl From<Result<SeatWorths, Refusal>> for WorthsAnswer {
+    ghost from_gives = { λ outcome answer. answer ≡ answer_of outcome };
+
+    fn from(outcome: Result<SeatWorths, Refusal>) -> Self {
+        let refusal = number_of(&outcome);
+        let SeatWorths { count, worths } = outcome.unwrap_or_default();
+        WorthsAnswer {
+            refusal,
+            count,
+            worths,
+        }
+    }
 }
 
 // What a table with d parts in each set is worth to each seat, in whole units. The tree is built at the front of the work memory, which has 12 words for each
 // node.
-pub fn worths(number: usize, seats: usize, work: &mut [u64], d: usize, table: &[u8]) -> WorthsAnswer
-    ensures answer { result ≡ answer (evaluation_refusal (game_of number seats) (length work.old) d table.now)
+pub fn worths(
+    number: usize,
+    seats: usize,
+    work: &mut [u64],
+    d: usize,
+    table: &[u8],
+) -> Result<SeatWorths, Refusal>
+    ensures answer { answer_of result ≡ answer (evaluation_refusal (game_of number seats) (length work.old) d table.now)
         (game_of number seats) d table.now }
-    ensures memory { MemoryAfter result.refusal (game_of number seats) work.old work.new }
+    ensures memory { MemoryAfter (number_of result) (game_of number seats) work.old work.new }
 {
-    let g = Game { number, seats };
-    let refusal = tree_refusals::evaluation_refusal(g, work.len(), d, table);
-    if refusal != refusals::ACCEPTED {
-        return WorthsAnswer {
-            refusal,
-            count: 0,
-            worths: [0i64; 6],
-        };
-    }
-    let length = Game::WORDS * g.nodes();
-    let worths = evaluate(g, &mut work[..length], d, table);
-    WorthsAnswer {
-        refusal,
-        count: seats,
+    let table = tree_refusals::check_evaluation(number, seats, work.len(), d, table)?;
+    let words = &mut work[..Game::WORDS * table.game.nodes()];
+    arena_store::store(table.game, words);
+    let worths = table_worths(&table, words);
+    Ok(SeatWorths {
+        count: table.game.seats(),
         worths,
-    }
+    })
 }

@@ -1,2 +1,0 @@
--- Lemmas on the calls' answers.
-pub mod Outcome

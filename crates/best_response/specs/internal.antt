@@ -1,2 +1,0 @@
--- What stands between functions: no public contract and no statement for readers reaches it.
-pub mod Asked

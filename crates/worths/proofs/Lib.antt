@@ -1,2 +1,0 @@
--- Laws of the call for the worths.
-pub mod Outcome
