@@ -1,11 +1,10 @@
-// What the replay programs share: a list from standard input, words and a checksum to standard output, and memory to lend.
+// What the replay programs share: a list from standard input, a line of words and a checksum for each of its lines, memory to lend,
+// the rules calls of a list on positions of either game, and what its calls over a tree have in common.
 // Test support. It is proved safe and ending; its contracts say no more.
 #![tactic(auto)]
 
-mod line;
-mod list;
-mod memory;
-
-pub use line::{Line, print_whole};
-pub use list::{Source, behind, number, tried};
-pub use memory::{least, places, untouched_bytes, untouched_words};
+pub mod line;
+pub mod list;
+pub mod memory;
+pub mod rules;
+pub mod tree;

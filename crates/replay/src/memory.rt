@@ -1,49 +1,36 @@
-// Memory as a line has it, and as it is before a call.
-ghost use Rattle.std.specs.Prelude.{◌≤◌};
+// Memory as a record gives it, and as it is before a call.
 
-use crate::list::number;
+ghost use Rattle.std.specs.Prelude.{◌≡◌, IfOk, vec_len};
 
-// As much of `asked` as there is.
-pub fn least(asked: usize, there: usize) -> usize
-    ensures { result ≤ there }
+use std::alloc::{AllocError, Global};
+
+// The first bytes, as many as are asked for and there.
+pub fn first(bytes: &[u8], count: usize) -> &[u8] {
+    bytes.get(..count).unwrap_or(bytes)
+}
+
+// An array of a position: the bytes that a record gives, and behind them the filling. The array begins at place `start` of the position's,
+// and place p is filled with p + 1 times the number.
+pub fn filled<const N: usize>(given: &[u8], fill: u8, start: u8) -> [u8; N] {
+    let mut bytes = [0; N];
+    let mut filling = fill.wrapping_mul(start);
+    for (i, byte) in bytes.iter_mut().enumerate() {
+        filling = filling.wrapping_add(fill);
+        *byte = given.get(i).copied().unwrap_or(filling);
+    }
+    bytes
+}
+
+// So many bytes of output, as they are before a call.
+pub fn output(alloc: Global, room: usize) -> Result<Vec<u8>, AllocError>
+    ensures { IfOk result (λ bytes. vec_len bytes ≡ room) }
 {
-    if asked < there { asked } else { there }
+    (0..room)
+        .map(|place| (place.wrapping_add(200) % 256) as u8)
+        .collect(alloc)
 }
 
-// Byte i behind the count at place `at` of a line, or what fills the array where there are not so many.
-fn place(numbers: &[u64; 4096], at: usize, i: usize, filling: u64) -> u8 {
-    if (i as u64) < number(numbers, at) {
-        let next = std::num::wrapping_add_usize(at, 1);
-        return (number(numbers, std::num::wrapping_add_usize(next, i)) % 256) as u8;
-    }
-    (filling % 256) as u8
-}
-
-// The bytes behind the count at place `at` of a line, and behind them the filling: `first` for the first place, and `fill` more at each.
-pub fn places(numbers: &[u64; 4096], at: usize, first: u64, fill: u64, bytes: &mut [u8]) {
-    let mut filling = first;
-    let mut i = 0;
-    while i < bytes.len() {
-        bytes[i] = place(numbers, at, i, filling);
-        filling = std::num::wrapping_add_u64(filling, fill);
-        i += 1;
-    }
-}
-
-// What an output holds before each call.
-pub fn untouched_bytes(bytes: &mut [u8]) {
-    let mut i = 0;
-    while i < bytes.len() {
-        bytes[i] = (std::num::wrapping_add_usize(200, i) % 256) as u8;
-        i += 1;
-    }
-}
-
-// What work memory holds before each call.
-pub fn untouched_words(words: &mut [u64]) {
-    let mut i = 0;
-    while i < words.len() {
-        words[i] = std::num::wrapping_add_u64(200, i as u64);
-        i += 1;
-    }
+// So many words of work memory, as they are before a call.
+pub fn work(alloc: Global, words: usize) -> Result<Vec<u64>, AllocError> {
+    (200..=u64::MAX).take(words).collect(alloc)
 }

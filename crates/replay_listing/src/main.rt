@@ -2,106 +2,68 @@
 // compare/README.md has the format of both.
 #![tactic(auto)]
 
-use listing::ListingAnswer;
-use replay::{Line, Source};
-use std::io;
-use std::io::Stdout;
+use listing::Listed;
+use refusals::number_of;
+use replay::line::Line;
+use replay::list::Record;
+use replay::{list, memory};
+use std::alloc::Global;
+use std::fmt::Display;
+use std::{fmt, io};
 
-// The first of the words that an accepted call has to leave; 0 after a refused one.
-fn kept_from(nodes: usize) -> usize {
-    if nodes <= 4000000 { 12 * nodes } else { 0 }
+// How many bytes the listing has for a set.
+const RECORD: usize = 24;
+
+// How many words a node takes of the work memory.
+const NODE: usize = 12;
+
+// What a call answers, and the output with its sets.
+#[derive(Drop)]
+struct Answer {
+    line: Line,
+    sets: usize,
+    out: Vec<u8>,
 }
 
-// The line of an answer, with a checksum of all that the call may not have touched.
-fn say_answer(to: Stdout, answer: ListingAnswer, work: &[u64], out: &[u8]) -> io::Result<()> {
-    let nodes = answer.nodes as u64;
-    let sets = answer.sets as u64;
-    let line = Line::new(to, true);
-    line.say(answer.refusal)?;
-    line.say(nodes)?;
-    line.say(sets)?;
-    let numbered = line
-        .mix_number(answer.refusal)
-        .mix_number(nodes)
-        .mix_number(sets);
-    numbered
-        .mix_all(out)
-        .mix_words(work, kept_from(answer.nodes))
-        .end()
-}
-
-// The two hexadecimal digits of a byte; the last one of a set, which is 24 bytes, ends the line.
-fn say_byte(to: Stdout, byte: u8, place: usize) -> io::Result<()> {
-    print!(to; "{byte:02x}")?;
-    if place % 24 == 23 {
-        to.write_all(b"\n")?;
+impl Answer {
+    // One record: the game, the seats, and how many words and bytes are lent. The checksum has all that the call may not have touched.
+    fn of_record(alloc: Global, record: &mut Record) -> io::Result<Self> {
+        let game = record.number()?;
+        let seats = record.number()?;
+        let work = memory::work(alloc, record.number()?)?;
+        let mut out = memory::output(alloc, record.number()?)?;
+        let answer = listing::enumerate_infosets(game, seats, &work, &mut out);
+        let refusal = number_of(&answer);
+        let Listed { nodes, sets } = answer.unwrap_or_default();
+        let mut line = Line::new(alloc, true);
+        line.say(refusal)?;
+        line.say(nodes)?;
+        line.say(sets)?;
+        line.mix_number(refusal);
+        line.mix_length(nodes);
+        line.mix_length(sets);
+        line.mix_all(&out);
+        line.mix_left(&work, &answer, nodes.saturating_mul(NODE));
+        Ok(Answer { line, sets, out })
     }
-    Ok(())
 }
 
-fn say_sets(to: Stdout, sets: &[u8]) -> io::Result<()> {
-    let mut i = 0;
-    while i < sets.len() {
-        say_byte(to, sets[i], i)?;
-        i += 1;
+// The line, and below it a line for each set, in hexadecimal digits.
+impl Display for Answer {
+    fn fmt<W: fmt::Write>(&self, f: &mut fmt::Formatter<W>) -> fmt::Result {
+        let line = &self.line;
+        write!(f, "{line}")?;
+        for set in self.out.chunks(RECORD).take(self.sets) {
+            f.write_str("\n")?;
+            for byte in set {
+                write!(f, "{byte:02x}")?;
+            }
+        }
+        Ok(())
     }
-    Ok(())
-}
-
-// Makes a call, and writes its answer and its sets.
-fn replay_call(
-    to: Stdout,
-    game: usize,
-    seats: usize,
-    work: &[u64],
-    out: &mut [u8],
-) -> io::Result<()> {
-    let answer = listing::enumerate_infosets(game, seats, work, out);
-    say_answer(to, answer, work, out)?;
-    let length = replay::least(answer.sets % 4294967296 * 24, out.len());
-    say_sets(to, &out[0..length])
-}
-
-// Lends the first words and bytes that the line asks for.
-fn lend(to: Stdout, numbers: &[u64; 4096], work: &[u64], out: &mut [u8]) -> io::Result<()> {
-    let words = replay::least(numbers[2] as usize, work.len());
-    let room = replay::least(numbers[3] as usize, out.len());
-    let lent = &mut out[0..room];
-    replay_call(
-        to,
-        numbers[0] as usize,
-        numbers[1] as usize,
-        &work[0..words],
-        lent,
-    )
-}
-
-// The work memory, which the listing cannot write to, and the output before a call.
-fn fill(
-    to: Stdout,
-    numbers: &[u64; 4096],
-    work: &mut [u64; 113491],
-    out: &mut [u8; 22489],
-) -> io::Result<()> {
-    replay::untouched_words(work);
-    replay::untouched_bytes(out);
-    lend(to, numbers, work, out)
-}
-
-// One line of the list.
-fn replay_line(to: Stdout, numbers: &[u64; 4096]) -> io::Result<()> {
-    let mut work = [0u64; 113491];
-    let mut out = [0u8; 22489];
-    fill(to, numbers, &mut work, &mut out)
 }
 
 fn main(rt: HostRuntime) -> io::Result<()> {
-    let mut list = [0u8; 4194304];
-    let mut numbers = [0u64; 4096];
-    let mut source = Source::open(rt.stdin(), &mut list)?;
-    while source.left > 0 {
-        source = source.line(&list, &mut numbers);
-        replay_line(rt.stdout(), &numbers)?;
-    }
-    Ok(())
+    let alloc = rt.alloc();
+    list::replay(&rt, |record| Answer::of_record(alloc, record))
 }

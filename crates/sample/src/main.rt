@@ -1,15 +1,16 @@
 // Plays one hand of Kuhn poker through the rules calls, then replies to a table through the evaluation, and prints both.
 #![tactic(auto)]
 
+mod failure;
 mod hand;
 mod reply;
 mod words;
 
-use std::io;
+use crate::failure::Failure;
 
-fn main(rt: HostRuntime) -> io::Result<()> {
-    let out = rt.stdout();
-    hand::play(out)?;
-    words::say(out, b"\n")?;
-    reply::show(out)
+fn main(rt: HostRuntime) -> Result<(), Failure> {
+    hand::play(&rt)?;
+    println!(rt)?;
+    reply::show(&rt)?;
+    Ok(())
 }

@@ -1,56 +1,47 @@
-// Words and numbers on standard output.
+// What the calls answer in bytes, as it is printed.
+
 use kuhn::KuhnPoker;
-use std::io;
-use std::io::Stdout;
+use std::fmt;
+use std::fmt::Display;
 
-pub fn wide(byte: u8) -> u64 {
-    byte as u64
-}
+// An action by its name.
+#[derive(Clone, Copy)]
+pub struct Action(pub u8);
 
-pub fn say(out: Stdout, text: &[u8]) -> io::Result<()> {
-    out.write_all(text)
-}
-
-pub fn say_number(out: Stdout, number: u64) -> io::Result<()> {
-    out.print(number)
-}
-
-pub fn say_action(out: Stdout, action: u8) -> io::Result<()> {
-    if action == KuhnPoker::PASS {
-        say(out, b" PASS")
-    } else {
-        say(out, b" BET")
+impl Display for Action {
+    fn fmt<W: fmt::Write>(&self, f: &mut fmt::Formatter<W>) -> fmt::Result {
+        let name = if self.0 == KuhnPoker::PASS {
+            "PASS"
+        } else {
+            "BET"
+        };
+        f.write_str(name)
     }
 }
 
-// The actions from place `from` up to place `to`.
-pub fn say_actions(out: Stdout, actions: &[u8], from: usize, to: usize) -> io::Result<()> {
-    let mut i = from;
-    while i < actions.len() && i < to {
-        say_action(out, actions[i])?;
-        i += 1;
+// Actions, each behind a space.
+#[derive(Clone, Copy)]
+pub struct Actions<'a>(pub &'a [u8]);
+
+impl Display for Actions<'_> {
+    fn fmt<W: fmt::Write>(&self, f: &mut fmt::Formatter<W>) -> fmt::Result {
+        for action in self.0 {
+            let action = Action(*action);
+            write!(f, " {action}")?;
+        }
+        Ok(())
     }
-    Ok(())
 }
 
-fn say_byte(out: Stdout, byte: u8) -> io::Result<()> {
-    say(out, b" ")?;
-    say_number(out, wide(byte))
-}
+// The bytes of a key, each behind a space.
+#[derive(Clone, Copy)]
+pub struct Key<'a>(pub &'a [u8]);
 
-// The first bytes of a key.
-pub fn say_key(out: Stdout, key: &[u8], count: usize) -> io::Result<()> {
-    let mut i = 0;
-    while i < key.len() && i < count {
-        say_byte(out, key[i])?;
-        i += 1;
+impl Display for Key<'_> {
+    fn fmt<W: fmt::Write>(&self, f: &mut fmt::Formatter<W>) -> fmt::Result {
+        for byte in self.0 {
+            write!(f, " {byte}")?;
+        }
+        Ok(())
     }
-    Ok(())
-}
-
-pub fn say_payoff(out: Stdout, payoff: i64) -> io::Result<()> {
-    if 0 < payoff {
-        say(out, b"+")?;
-    }
-    replay::print_whole(out, payoff)
 }
