@@ -8,11 +8,10 @@ use crate::documents::{self, asserted, called, refused_with, tables, Tables};
 use crate::files::Files;
 use crate::header::{header, Header};
 use crate::interface::{differences, different_constants, Interface, Shape};
-use crate::rattle::Sources;
+use crate::rattle::{Sources, ACCEPTED};
 use crate::{header, library, rattle};
 
 const SENTENCES: &str = "crates/refusals/specs/Refusals.antt";
-const ACCEPTED: &str = "ACCEPTED";
 
 /// A refusal by its name in crates/, as a constant has it.
 struct Refusal {
@@ -77,7 +76,7 @@ fn refusal(found: &Declaration, number: u64) -> Refusal {
     Refusal { name: found.name.to_uppercase().replace('-', "_"), number, sentence }
 }
 
-/// The numbers of specs/Refusals.antt, with their sentences, held to the constants of src/.
+/// The numbers of specs/Refusals.antt, with their sentences, held to the variants of src/.
 fn refusals(files: &Files, sources: &Sources) -> Result<Vec<Refusal>, String> {
     let text = files.text(SENTENCES)?;
     let lines: Vec<&str> = text.lines().collect();

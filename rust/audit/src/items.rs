@@ -22,15 +22,24 @@ pub enum Form<'a> {
     Mod(String),
     Const(Const<'a>),
     Struct(Struct<'a>),
+    Enum(Enum<'a>),
     Function(Function<'a>),
-    /// What stands between `impl` and its braces, and its items.
-    Impl(String, Vec<Item<'a>>),
+    /// What an `impl` gives for a ghost member.
+    Member(Clause<'a>),
+    Impl(Impl<'a>),
     /// The items of an `extern "C"` block.
     Extern(Vec<Item<'a>>),
     /// A macro's name, and what stands in its braces.
     Macro(String, Vec<Token<'a>>),
-    /// An item that holds nothing of the border: an enum, a type, a trait, a module in braces, a macro's declaration.
+    /// An item that holds nothing of the border: a type, a trait, a module in braces, a macro's declaration.
     Other,
+}
+
+pub struct Impl<'a> {
+    /// What stands between `impl` and its braces.
+    pub of: String,
+    pub generics: Vec<String>,
+    pub items: Vec<Item<'a>>,
 }
 
 pub struct Const<'a> {
@@ -43,12 +52,21 @@ pub struct Struct<'a> {
     pub generics: Vec<String>,
     /// What stands in its braces.
     pub body: Vec<Token<'a>>,
+    pub ghosts: Vec<Clause<'a>>,
+}
+
+pub struct Enum<'a> {
+    pub name: String,
+    /// What stands in its braces.
+    pub body: Vec<Token<'a>>,
 }
 
 pub struct Function<'a> {
     pub name: String,
     /// The text behind `extern`.
     pub abi: Option<String>,
+    /// Its type and const parameters.
+    pub generics: Vec<String>,
     /// What stands between its parentheses.
     pub parameters: Vec<Token<'a>>,
     /// What stands behind `->`.
@@ -57,7 +75,7 @@ pub struct Function<'a> {
     pub body: Vec<Token<'a>>,
 }
 
-/// A `requires` or an `ensures`.
+/// A `requires`, an `ensures` or a ghost field; a ghost member of an `impl`.
 pub struct Clause<'a> {
     pub asks: bool,
     pub name: Option<String>,
@@ -201,6 +219,25 @@ impl<'a> Reader<'a> {
         self.error(&format!("one of {ends:?} is expected"))
     }
 
+    /// The angles that open here with what stands in them; nothing where none do.
+    fn angles(&mut self) -> Result<Vec<Token<'a>>, String> {
+        let first = self.next;
+        let mut open = 0;
+        while self.peek().is_some_and(|token| open > 0 || token.is("<")) {
+            let arrow = self.next > 0 && self.tokens[self.next - 1].is("-");
+            open += usize::from(self.is("<"));
+            open -= usize::from(self.is(">") && !arrow);
+            self.next += 1;
+            if open == 0 {
+                break;
+            }
+        }
+        if open > 0 {
+            return self.error("angles do not end");
+        }
+        Ok(self.tokens[first..self.next].to_vec())
+    }
+
     fn items(&mut self) -> Result<Vec<Item<'a>>, String> {
         let mut items = Vec::new();
         // What `#![ ]` says first is said of all of them.
@@ -254,10 +291,12 @@ impl<'a> Reader<'a> {
             return Ok(Form::Use(paths));
         }
         if self.take("ghost") {
-            let at = self.peek().map_or(0, |token| token.at);
             if !self.is("use") {
-                return self.error("\"use\" is expected");
+                let member = self.ghost("=")?;
+                self.expect(";")?;
+                return Ok(Form::Member(member));
             }
+            let at = self.peek().map_or(0, |token| token.at);
             self.until(&[";"])?;
             let end = self.tokens[self.next].at;
             self.next += 1;
@@ -292,11 +331,18 @@ impl<'a> Reader<'a> {
             return Ok(Form::Extern(Reader::over(self.path, self.text, &body).items()?));
         }
         if self.take("impl") {
-            let of = joined(&self.until(&["{"])?);
+            let angles = self.angles()?;
+            let of = joined(&angles) + &joined(&self.until(&["{"])?);
             let body = self.group("{")?;
-            return Ok(Form::Impl(of, Reader::over(self.path, self.text, &body).items()?));
+            let items = Reader::over(self.path, self.text, &body).items()?;
+            return Ok(Form::Impl(Impl { of, generics: generic_names(&angles), items }));
         }
-        if self.is("enum") || self.is("trait") {
+        if self.take("enum") {
+            let name = self.word()?;
+            self.until(&["{"])?;
+            return Ok(Form::Enum(Enum { name, body: self.group("{")? }));
+        }
+        if self.is("trait") {
             self.until(&["{"])?;
             self.group("{")?;
             return Ok(Form::Other);
@@ -358,7 +404,7 @@ impl<'a> Reader<'a> {
             }
         }
         if self.take(";") {
-            return Ok(Form::Struct(Struct { name, generics, body: Vec::new() }));
+            return Ok(Form::Struct(Struct { name, generics, body: Vec::new(), ghosts: Vec::new() }));
         }
         if self.is("(") {
             self.group("(")?;
@@ -366,7 +412,41 @@ impl<'a> Reader<'a> {
             return Ok(Form::Other);
         }
         let body = self.group("{")?;
-        Ok(Form::Struct(Struct { name, generics, body }))
+        let ghosts = Reader::over(self.path, self.text, &body).ghosts()?;
+        Ok(Form::Struct(Struct { name, generics, body, ghosts }))
+    }
+
+    /// The ghost fields among the fields of a struct.
+    fn ghosts(&mut self) -> Result<Vec<Clause<'a>>, String> {
+        let mut ghosts = Vec::new();
+        while let Some(token) = self.peek() {
+            if self.take("ghost") {
+                ghosts.push(self.ghost(":")?);
+                continue;
+            }
+            match closer(token.text) {
+                Some(_) if token.kind == Kind::Mark => drop(self.group(token.text)?),
+                _ => self.next += 1,
+            }
+        }
+        Ok(ghosts)
+    }
+
+    /// What stands behind `ghost`: a name, this mark, and antt in braces.
+    fn ghost(&mut self, mark: &str) -> Result<Clause<'a>, String> {
+        let line = self.peek().map_or(0, |token| token.line);
+        let name = Some(self.word()?);
+        self.expect(mark)?;
+        let text = self.braced()?;
+        Ok(Clause { asks: false, name, text, line })
+    }
+
+    /// The text in braces.
+    fn braced(&mut self) -> Result<&'a str, String> {
+        let from = self.peek().map_or(0, |token| token.at + 1);
+        self.group("{")?;
+        let end = self.tokens[self.next - 1].at;
+        Ok(&self.text[from..end])
     }
 
     fn constant(&mut self) -> Result<Form<'a>, String> {
@@ -384,7 +464,7 @@ impl<'a> Reader<'a> {
         self.until(&["fn"])?;
         self.next += 1;
         let name = self.word()?;
-        self.until(&["("])?;
+        let generics = generic_names(&self.angles()?);
         let parameters = self.group("(")?;
         let mut result = Vec::new();
         if self.take("-") {
@@ -396,17 +476,14 @@ impl<'a> Reader<'a> {
             clauses.push(self.clause()?);
         }
         let body = if self.take(";") { Vec::new() } else { self.group("{")? };
-        Ok(Form::Function(Function { name, abi, parameters, result, clauses, body }))
+        Ok(Form::Function(Function { name, abi, generics, parameters, result, clauses, body }))
     }
 
     fn clause(&mut self) -> Result<Clause<'a>, String> {
         let line = self.peek().map_or(0, |token| token.line);
         let asks = self.word()? == "requires";
         let name = if self.is("{") { None } else { Some(self.word()?) };
-        let from = self.peek().map_or(0, |token| token.at + 1);
-        self.group("{")?;
-        let end = self.tokens[self.next - 1].at;
-        Ok(Clause { asks, name, text: &self.text[from..end], line })
+        Ok(Clause { asks, name, text: self.braced()?, line })
     }
 
     pub fn type_(&mut self) -> Result<Type, String> {
@@ -480,11 +557,69 @@ pub fn whole_named_types(path: &str, tokens: &[Token]) -> Result<Vec<(String, Ty
     Reader::over(path, "", tokens).named_types()
 }
 
+/// The names of the type and const parameters in these angles.
+fn generic_names(angles: &[Token]) -> Vec<String> {
+    let mut names = Vec::new();
+    let mut open = 0;
+    for (at, token) in angles.iter().enumerate() {
+        let behind = |mark: &str| at > 0 && angles[at - 1].is(mark);
+        if open == 1 && token.kind == Kind::Word && !token.is("const") && (at == 1 || behind(",") || behind("const")) {
+            names.push(token.text.to_string());
+        }
+        open += usize::from(token.is("<"));
+        open -= usize::from(token.is(">") && !behind("-"));
+    }
+    names
+}
+
+/// The names of a struct's fields, those that are no ghosts.
+pub fn field_names(tokens: &[Token]) -> Vec<String> {
+    let mut names = Vec::new();
+    let mut depth = 0;
+    for (at, token) in tokens.iter().enumerate() {
+        depth += usize::from(token.kind == Kind::Mark && closer(token.text).is_some());
+        depth -= usize::from(token.kind == Kind::Mark && [")", "]", "}"].contains(&token.text));
+        let next = |ahead: usize| tokens.get(at + ahead).is_some_and(|token| token.is(":"));
+        let path = next(2) || at > 0 && tokens[at - 1].is(":");
+        let ghost = at > 0 && tokens[at - 1].is("ghost");
+        if depth == 0 && token.kind == Kind::Word && next(1) && !path && !ghost {
+            names.push(token.text.to_string());
+        }
+    }
+    names
+}
+
+/// The variants of an enum without fields, each with its number: one more than that of the variant before it, unless it is written.
+pub fn numbered_variants(path: &str, tokens: &[Token]) -> Result<Vec<(String, u64)>, String> {
+    let mut reader = Reader::over(path, "", tokens);
+    let mut variants: Vec<(String, u64)> = Vec::new();
+    while !reader.at_end() {
+        let name = reader.word()?;
+        let number = match reader.take("=") {
+            true => number(reader.kind(Kind::Number)?)?,
+            false => match variants.last() {
+                Some((_, before)) => before + 1,
+                None => return reader.error("the first variant has no number"),
+            },
+        };
+        variants.push((name, number));
+        if !reader.at_end() {
+            reader.expect(",")?;
+        }
+    }
+    Ok(variants)
+}
+
 /// The names of a function's parameters, whatever their types are.
 pub fn parameter_names(path: &str, tokens: &[Token]) -> Result<Vec<String>, String> {
     let mut reader = Reader::over(path, "", tokens);
     let mut names = Vec::new();
     while !reader.at_end() {
+        // `&self`, `&'a mut self`, `mut x`.
+        if reader.take("&") && reader.peek().is_some_and(|token| token.kind == Kind::Text) {
+            reader.next += 1;
+        }
+        reader.take("mut");
         let name = reader.word()?;
         if name != "self" {
             reader.expect(":")?;
@@ -538,6 +673,32 @@ mod tests {
     }
 
     #[test]
+    fn ghosts_and_variants_are_read() {
+        let text = "pub struct S<'a> {\n    pub x: &'a [u8],\n    y: a::B,\n    ghost small: { length x.now ≤ {y} },\n}\n\
+                    impl<'a, A: B<C>, const N: usize> From<S> for T { ghost from_gives = { λ s t. t ≡ {s} }; fn f<F: Fn(u8) -> u8>(&'a mut self, mut x: u64) { } }\n\
+                    enum E { A = 1, B, C = 7, D }";
+        let found = items("a.rt", text).expect("it can be read");
+        let Form::Struct(of) = &found[0].form else { panic!("a struct") };
+        assert_eq!(
+            (of.ghosts[0].text, field_names(&of.body)),
+            (" length x.now ≤ {y} ", vec!["x".to_string(), "y".to_string()])
+        );
+        let Form::Impl(inside) = &found[1].form else { panic!("an impl") };
+        assert_eq!(inside.generics, ["A", "N"]);
+        assert!(matches!(&inside.items[0].form, Form::Member(member) if member.text == " λ s t. t ≡ {s} "));
+        let Form::Function(function) = &inside.items[1].form else { panic!("a function") };
+        assert_eq!(parameter_names("a.rt", &function.parameters), Ok(vec!["self".to_string(), "x".to_string()]));
+        assert_eq!(function.generics, ["F"]);
+        let Form::Enum(of) = &found[2].form else { panic!("an enum") };
+        let numbers =
+            numbered_variants("a.rt", &of.body).expect("they can be read").into_iter().map(|(_, number)| number);
+        assert_eq!(numbers.collect::<Vec<_>>(), [1, 2, 7, 8]);
+        for text in ["A, B", "A = 1, B(u8)", "A = x", "A = 1 B", "A = 1, = 2"] {
+            assert!(numbered_variants("a.rt", &tokens("a.rt", text).expect("tokens")).is_err(), "{text}");
+        }
+    }
+
+    #[test]
     fn a_use_has_a_path_for_each_name() {
         let paths = |text| match &items("a.rt", text).expect("it can be read")[0].form {
             Form::Use(paths) => paths.join(" "),
@@ -561,6 +722,8 @@ mod tests {
             "x",
             "#![a",
             "fn f() { }\n#![a]",
+            "impl S { ghost x: { y }; }",
+            "struct S { ghost x = { y } }",
         ] {
             assert!(items("a.rs", text).is_err(), "{text}");
         }

@@ -180,7 +180,7 @@ pub fn constant(files: &Files, file: &str, path: &str) -> Result<u64, String> {
         None => values(&found, path),
         Some((owner, name)) => {
             let owned = found.iter().filter_map(|item| match &item.form {
-                Form::Impl(of, items) if of == owner => Some(values(items, name)),
+                Form::Impl(found) if found.of == owner => Some(values(&found.items, name)),
                 _ => None,
             });
             owned.flatten().collect()

@@ -6,12 +6,18 @@ use std::rc::Rc;
 
 use crate::files::Files;
 use crate::interface::{slice, Call, Interface, Shape};
-use crate::items::{items, joined, number, whole_named_types, whole_type, Form, Function, Item, Type};
+use crate::items::{
+    items, joined, number, numbered_variants, whole_named_types, whole_type, Form, Function, Item, Type,
+};
 use crate::tokens::Token;
 
 /// The crate that holds every export, and the one of the refusal numbers.
 pub const EXPORTS: &str = "chukkanalli";
 pub const REFUSALS: &str = "refusals";
+
+/// The enum of the refusals, and the name of the accepted call, which has the number 0.
+const REFUSAL: &str = "Refusal";
+pub const ACCEPTED: &str = "ACCEPTED";
 
 /// The header's constants that are no refusal numbers: the crate, and the constant there.
 const CONSTANTS: [(&str, &str, &str); 10] = [
@@ -75,22 +81,37 @@ pub fn interface(sources: &Sources) -> Result<Interface, String> {
     Ok(side.interface)
 }
 
-/// The constants of the crate of refusal numbers, which has functions on them too.
+/// The refusals of the crate that numbers them, and the accepted call. They are the variants of one public enum; what else stands there has no numbers.
 pub fn refusal_numbers(sources: &Sources) -> Result<BTreeMap<String, u64>, String> {
     let path = format!("crates/{REFUSALS}/src/lib.rt");
-    let mut numbers = BTreeMap::new();
+    let mut numbers = BTreeMap::from([(ACCEPTED.to_string(), 0)]);
     for item in sources.items(&path)?.iter() {
         match &item.form {
-            Form::Const(constant) if item.public => {
-                let value =
-                    number(&joined(&constant.value)).map_err(|error| format!("{path}:{}: {error}", item.line))?;
-                numbers.insert(constant.name.clone(), value);
+            Form::Enum(found) if item.public && found.name == REFUSAL && numbers.len() == 1 => {
+                for (variant, number) in numbered_variants(&path, &found.body)? {
+                    if numbers.insert(constant_name(&variant), number).is_some() {
+                        return Err(format!("{path}:{}: {variant} stands twice", item.line));
+                    }
+                }
             }
-            Form::GhostUse(_) | Form::Function(_) => {}
-            _ => return Err(format!("{path}:{}: a public constant is expected", item.line)),
+            Form::Impl(of) if of.items.iter().all(|item| !matches!(item.form, Form::Const(_))) => {}
+            Form::GhostUse(_) | Form::Function(_) | Form::Struct(_) => {}
+            _ => return Err(format!("{path}:{}: the one public enum {REFUSAL} is expected", item.line)),
         }
     }
-    Ok(numbers)
+    match numbers.len() {
+        1 => Err(format!("{path}: there is no enum {REFUSAL} with variants")),
+        _ => Ok(numbers),
+    }
+}
+
+/// `CardCount` as a constant has it.
+fn constant_name(variant: &str) -> String {
+    let begins = |at: usize, c: char| at > 0 && c.is_uppercase();
+    variant
+        .char_indices()
+        .map(|(at, c)| if begins(at, c) { format!("_{c}") } else { c.to_uppercase().to_string() })
+        .collect()
 }
 
 /// The file of a module of a crate; none is the crate's root.
@@ -125,7 +146,7 @@ pub fn constant(sources: &Sources, of: &str, path: &str) -> Result<u64, String> 
         [] => found.iter().collect(),
         [owner] => {
             let owned = found.iter().filter_map(|item| match &item.form {
-                Form::Impl(of, items) if of == owner => Some(items.iter()),
+                Form::Impl(found) if found.of == *owner => Some(found.items.iter()),
                 _ => None,
             });
             owned.flatten().collect()

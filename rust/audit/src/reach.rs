@@ -7,7 +7,7 @@ use std::collections::{BTreeMap, BTreeSet, HashMap};
 
 use crate::antt::{module, text_nodes, use_line, Clause, Declaration, Leaf, Module, Node, Sort, Use};
 use crate::files::Files;
-use crate::items::{items, parameter_names, Form, Item};
+use crate::items::{field_names, items, parameter_names, Form, Impl, Item};
 
 /// The crate of the exports, and the one of the conversions that they make; the other crates that it names are the interface, as it is itself.
 const EXPORTS: &str = "chukkanalli";
@@ -141,6 +141,22 @@ impl Names {
             self.meanings.insert(part.to_string(), meaning.clone());
         }
         self.meanings.insert(name.to_string(), meaning.clone());
+    }
+
+    /// What Rust sees by the names of an item, where no `ghost use` gives them another meaning.
+    fn see(&mut self, item: &Item) {
+        let seen: Vec<&str> = match &item.form {
+            Form::Enum(found) => vec![&found.name],
+            Form::Struct(found) => vec![&found.name],
+            Form::Const(found) => vec![&found.name],
+            Form::Use(paths) => paths.iter().filter_map(|path| path.rsplit([':', ' ']).next()).collect(),
+            _ => Vec::new(),
+        };
+        for name in seen {
+            if !self.modules.contains_key(name) {
+                self.meanings.entry(name.to_string()).or_insert(Meaning::Given);
+            }
+        }
     }
 }
 
@@ -519,23 +535,65 @@ fn shown(files: &Files, interface: &BTreeSet<String>) -> Result<BTreeSet<(String
 /// The functions of a file. Public are those of the interface that Rust lets another crate call, what it shows of other crates, and the exports.
 fn calls(modules: &Modules, of: &str, path: &str, text: &str, graph: &mut Graph) -> Result<(), String> {
     let found = items(path, text)?;
+    let inside: Vec<(Option<&Impl>, &Item)> = found
+        .iter()
+        .flat_map(|item| match &item.form {
+            Form::Impl(of) => of.items.iter().map(|item| (Some(of), item)).collect(),
+            _ => vec![(None, item)],
+        })
+        .collect();
     let mut uses = Vec::new();
-    for item in &found {
+    for (_, item) in &inside {
         if let Form::GhostUse(text) = &item.form {
             uses.push(use_line(path, &text_nodes(path, text, item.line)?, false)?);
         }
     }
-    let names = modules.names(path, &uses)?;
-    let inside = found.iter().flat_map(|item| match &item.form {
-        Form::Impl(head, items) => items.iter().map(|item| (Some(head), item)).collect::<Vec<_>>(),
-        _ => vec![(None, item)],
-    });
+    let mut names = modules.names(path, &uses)?;
+    // A clause names what Rust sees by that name: types with their variants and constants.
+    for item in &found {
+        names.see(item);
+    }
     let open = graph.interface.contains(of) && is_open(modules.files, of, path)?;
-    for (head, item) in inside {
-        let Form::Function(function) = &item.form else { continue };
-        let shown = graph.shown.contains(&(of.to_string(), head.unwrap_or(&function.name).clone()));
-        let public = item.public && (open || shown || function.abi.is_some());
-        graph.calls.push(call(modules, &names, &format!("{of}: {}", function.name), path, item, public)?);
+    for (of_impl, item) in inside {
+        let head = of_impl.map(|found| &found.of);
+        let generics = of_impl.map_or(Vec::new(), |found| found.generics.clone());
+        let is_shown = |name: &str| graph.shown.contains(&(of.to_string(), name.to_string()));
+        match &item.form {
+            Form::Function(function) => {
+                let shown = is_shown(head.unwrap_or(&function.name));
+                let public = item.public && (open || shown || function.abi.is_some());
+                graph.calls.push(call(
+                    modules,
+                    &names,
+                    &format!("{of}: {}", function.name),
+                    path,
+                    item,
+                    generics,
+                    public,
+                )?);
+            }
+            Form::Struct(found) => {
+                let public = item.public && (open || is_shown(&found.name));
+                for ghost in &found.ghosts {
+                    let fields = field_names(&found.body);
+                    graph.calls.push(promise(
+                        modules,
+                        &names,
+                        &format!("{of}: {}", found.name),
+                        path,
+                        ghost,
+                        fields,
+                        public,
+                    )?);
+                }
+            }
+            // The type says what is public of an impl of a trait, and other crates can always call it.
+            Form::Member(ghost) => {
+                let name = format!("{of}: {}", head.map_or("", String::as_str));
+                graph.calls.push(promise(modules, &names, &name, path, ghost, generics, open)?);
+            }
+            _ => {}
+        }
     }
     Ok(())
 }
@@ -555,9 +613,19 @@ fn is_open(files: &Files, of: &str, path: &str) -> Result<bool, String> {
     line.map(|item| item.public).ok_or_else(|| format!("{path}: no mod line of {root} names it"))
 }
 
-fn call(modules: &Modules, names: &Names, name: &str, path: &str, item: &Item, public: bool) -> Result<Call, String> {
+fn call(
+    modules: &Modules,
+    names: &Names,
+    name: &str,
+    path: &str,
+    item: &Item,
+    generics: Vec<String>,
+    public: bool,
+) -> Result<Call, String> {
     let Form::Function(function) = &item.form else { return Err(format!("{path}: {name} is no function")) };
-    let scope = parameter_names(path, &function.parameters)?;
+    let mut scope = parameter_names(path, &function.parameters)?;
+    scope.extend(generics);
+    scope.extend(function.generics.iter().cloned());
     let mut walk = Walk { path, modules, names, scope, mentions: Mentions::default() };
     let parameters = walk.scope.len();
     for clause in &function.clauses {
@@ -574,6 +642,22 @@ fn call(modules: &Modules, names: &Names, name: &str, path: &str, item: &Item, p
         ensures: function.clauses.iter().any(|clause| !clause.asks),
         names: walk.mentions,
     })
+}
+
+/// What a ghost field or a ghost member says, over these names.
+fn promise(
+    modules: &Modules,
+    names: &Names,
+    name: &str,
+    path: &str,
+    ghost: &crate::items::Clause,
+    scope: Vec<String>,
+    public: bool,
+) -> Result<Call, String> {
+    let mut walk = Walk { path, modules, names, scope, mentions: Mentions::default() };
+    walk.nodes(&text_nodes(path, ghost.text, ghost.line)?)?;
+    let (name, path, line) = (name.to_string(), path.to_string(), ghost.line);
+    Ok(Call { name, path, line, public, asks: false, ensures: true, names: walk.mentions })
 }
 
 pub struct Reached {

@@ -207,7 +207,26 @@ fn wrong_constants_are_found() {
         "MORE is no constant",
     );
     found(LEDUC, "pub const NO_CARD: u8 = 255;", "pub const NO_CARD: u8 = 0;", "LeducPoker::NO_CARD is 0, and 255");
-    found(NUMBERS, "pub const CARD: u64 = 11;", "pub const CARD: u64 = 21;", "the numbers are");
+    found(NUMBERS, "    Card,\n", "    Card = 21,\n", "the numbers are");
+    found(NUMBERS, "    Card,\n    CardTwice,\n", "    CardTwice,\n    Card,\n", "the numbers are");
+    found(NUMBERS, "    Game = 1,\n", "    Game = 2,\n", "the numbers are");
+    found(NUMBERS, "    Game = 1,\n", "    Game,\n", "the first variant has no number");
+    found(NUMBERS, "    Card,\n", "    Card(u8),\n", "\",\" is expected");
+    found(NUMBERS, "    Card,\n", "    Card,\n    Card,\n", "Card stands twice");
+    found(NUMBERS, "pub enum Refusal {", "pub enum Reason {", "the one public enum Refusal is expected");
+    found(NUMBERS, "pub enum Refusal {", "enum Refusal {", "the one public enum Refusal is expected");
+    found(
+        NUMBERS,
+        "impl Refusal {\n",
+        "impl Refusal {\n    pub const CARD: u64 = 11;\n",
+        "the one public enum Refusal is expected",
+    );
+    found(
+        NUMBERS,
+        "impl Refusal {\n",
+        "pub const CARD: u64 = 11;\n\nimpl Refusal {\n",
+        "the one public enum Refusal is expected",
+    );
     found(SENTENCES, "\ncard = 11\n", "\ncard = 21\n", "the numbers are");
     found(REFUSAL, "    Card = 11, ", "    Card = 12, ", "(\"Card\", 12");
 }
@@ -226,11 +245,7 @@ fn wrong_sentences_are_found() {
 
 #[test]
 fn a_number_more_must_stand_in_every_place() {
-    let files = FILES.replaced(
-        NUMBERS,
-        "pub const UNFIT: u64 = 20;\n",
-        "pub const UNFIT: u64 = 20;\npub const LATE: u64 = 21;\n",
-    );
+    let files = FILES.replaced(NUMBERS, "    Unfit,\n", "    Unfit,\n    Late,\n");
     let files = files.replaced(
         SENTENCES,
         "unfit = 20\n",
