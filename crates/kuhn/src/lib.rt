@@ -40,7 +40,7 @@ impl KuhnPoker {
 
     pub const STAKE: u64 = kuhn_money::STAKE;
 
-    // What the constants are: the game, actions, seats, places of a position, stakes.
+    // What the constants are: the game, actions, seats, places of a position, stakes. By `as`, since std has no From between usize and u64.
     fn constants() -> [u64; 9]
         ensures { result ≡ 0 ∷ PASS ∷ BET ∷ 2 ∷ 10 ∷ 10 ∷ 19 ∷ ante ∷ stake ∷ [] }
     {
@@ -114,8 +114,7 @@ impl KuhnPoker {
         ensures answer { written_by state result ≡ listed self state seat (length out.old) }
         ensures output { out.new ≡ written (number_of result) (legal_of self state seat) out.old }
     {
-        let hand = Hand::reached(self.players, state)?;
-        let actions = hand.legal(seat);
+        let actions = Hand::reached(self.players, state)?.legal(seat);
         if out.len() < actions.len() {
             return Err(Refusal::Output);
         }
@@ -143,6 +142,7 @@ impl KuhnPoker {
         if out.len() < 2 + history.len() {
             return Err(Refusal::Output);
         }
+        // By `as`, since u8 has no From of a usize.
         out[0] = seat as u8;
         out[1] = cards[seat];
         prelude::copy_at(out, 2, history);
@@ -164,7 +164,7 @@ impl KuhnPoker {
         })
     }
 
-    // Saved position: whether it can be one, and its end mark says whether the hand has ended.
+    // Saved position: whether it can be one, and its end mark says whether the hand has ended. The mark is a number, since a caller of C may hand in any.
     #[tactic(auto, using(prelude::proofs::Sides::tests), unfolding(crate::specs::Calls::saved_refusal))]
     pub fn validate_decoded_state(self, state: KuhnState, done: u64) -> Result<(), Refusal>
         ensures { checked self state done ≡ record { refusal = number_of result; state = state } }

@@ -5,7 +5,7 @@ ghost use Rattle.std.specs.Prelude.{◌≡◌, ◌≢◌, ℕ, ◌≤◌, ◌<�
 ghost use Rattle.kuhn_rules.specs.Rules.{BET, ended, overrun, bets};
 ghost use Rattle.kuhn_rules.specs.Reached.{unknown};
 
-// The actions.
+// The actions. They stay bytes, and no enum: positions, keys and legal lists cross to C as bytes, and a history that is handed in may hold any.
 pub const PASS: u8 = 0;
 
 pub const BET: u8 = 1;
@@ -19,6 +19,9 @@ pub fn first_bet(history: &[u8]) -> Option<usize>
 {
     history.iter().position(|action| *action == BET)
 }
+
+// n is how many seats play, here and in kuhn_money and kuhn_positions. Kept as a number of which each function asks that it is 1 at least: a type for it would
+// be made and taken apart at each call, and say no more.
 
 // Whether the hand has ended: after n passes, or n - 1 actions after the first bet.
 pub fn is_terminal(history: &[u8], n: usize) -> bool
@@ -55,13 +58,10 @@ pub fn bet_by(history: &[u8], n: usize, player: usize) -> bool
     requires { 1 ≤ n }
     ensures { result ≡ bets n history.now player }
 {
-    if n <= player {
-        return false;
-    }
-    for i in (player..history.len()).step_by(n) {
-        if history[i] == BET {
-            return true;
-        }
-    }
-    false
+    player < n
+        && history
+            .iter()
+            .skip(player)
+            .step_by(n)
+            .any(|action| *action == BET)
 }

@@ -67,6 +67,7 @@ fn share(total: u64, mine: u64, winner: bool) -> i64
     requires { (mine ≤ total) × (total ≤ 20) }
     ensures { result ≡ cond winner (pos (total - mine)) (neg_ℤ (pos mine)) }
 {
+    // By `as`, since std has no From between i64 and u64.
     if winner {
         (total - mine) as i64
     } else {

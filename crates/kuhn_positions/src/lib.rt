@@ -47,6 +47,7 @@ pub fn with_card(mut state: KuhnState, card: usize) -> KuhnState
     requires { (state.dealt < 10) × (card ≤ 10) }
     ensures { result ≡ with_card state card }
 {
+    // By `as`, since u8 has no From of a usize.
     state.cards[state.dealt] = card as u8;
     state.dealt += 1;
     state

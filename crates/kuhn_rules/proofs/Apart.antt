@@ -1,63 +1,83 @@
 -- A seat's turns are n places apart. Assumes nothing.
-use mathlib.Core.Path.{◌≡◌, sym, ap, ◌∙◌}
+use mathlib.Core.Path.{◌≡◌, refl, sym, ap, subst, ◌∙◌}
 use mathlib.Core.Bool.{Bool, true, false}
-use mathlib.Core.List.{List}
-use Prim.Native.Nat.{ℕ, ◌+◌, ◌-◌, ◌%◌, ◌≤◌, ◌<◌}
+use mathlib.Core.List.{List, [], ◌∷◌}
+use Prim.Native.Nat.{ℕ, zero, suc, ◌+◌, ◌*◌, ◌/◌, ◌%◌, ◌≤◌, ◌<◌}
 use native.Mathlib.Nat as NatL
 use native.Mathlib.Omega.{arith}
 use lib.Dec.{eqb, ltb}
-use lib.ListN.{get_or}
-use borrow.Author.Tests.{eq-eqb, ne_eqb, eqb-true, eqb-false, ltb-true, ltb-false}
+use lib.ListN.{length, get_or}
+use Rattle.std.specs.Prelude.{Option, Some, None, IfSome, IsSomeAnd}
+use Rattle.std.specs.Bool.{MatchBool}
+use Rattle.std.specs.Option.{option_map}
+use Rattle.std.specs.List.{HoldsAt}
+use borrow.Author.Rules.{rules}
+use borrow.Author.Tests.{eq-eqb, ne_eqb, eqb-true, ltb-true, ltb-false}
 use Rattle.prelude.specs.Finite.{some, ◌and◌}
 use Rattle.prelude.proofs.Tests.{Tested, holds, fails, tested, none, some_here, both, and_left_fails, and_right_fails}
+
+get_or_past : (l : List ℕ) (k : ℕ) → length l ≤ k → get_or l k 0 ≡ 0
+get_or_past [] k o = refl
+get_or_past (x ∷ l) zero o = absurd (omega arith)
+get_or_past (x ∷ l) (suc k) o = get_or_past l k (omega arith)
+
+abbrev out : Option ℕ → ℕ
+out None = 0
+out (Some x) = x
 
 module _ (h : List ℕ) (n p : ℕ) where
   -- the seat bets at place k
   abbrev pub bet_at : ℕ → Bool
   bet_at k = eqb (k % n) p and eqb (get_or h k 0) 1
 
-  -- i is a turn of the seat, and it has not bet before
-  abbrev pub Unbet : ℕ → Type 0
-  Unbet i = (i % n ≡ p) × ((k : ℕ) → k < i → bet_at k ≡ false)
-
   -- no seat past the last has a turn
   pub no_turn : (a : ℕ) → 1 ≤ n → n ≤ p → some a bet_at ≡ false
   no_turn a l m = none a bet_at (λ k o. and_left_fails (eqb (get_or h k 0) 1) (ne_eqb (k % n) p (λ q. omega (arith, q, NatL.mod-lt k {m = n} l))))
 
-  pub first_turn : p < n → Unbet p
-  first_turn l = (NatL.mod-eq_of_lt l, λ k o. and_left_fails (eqb (get_or h k 0) 1) (ne_eqb (k % n) p (λ q. omega (arith, q, NatL.mod-eq_of_lt {n = k} {m = n} (omega arith)))))
-
-  -- between two turns there is none
-  between : (i r : ℕ) → p < n → i % n ≡ p → 0 < r → r < n → (i + r) % n ≡ p → ⊥
-  between i r l e a b q = at (tested (ltb (p + r) n))
+  -- each n-th item from place p on is a turn of the seat
+  pub some_stride : {A : Type 0} (v : A → ℕ) (at src : ℕ → Option A) → p < n → ((k : ℕ) → at k ≡ src (p + k * n)) →
+      ((k : ℕ) → IfSome (src k) (λ x. HoldsAt (λ y. v x ≡ y) h k)) → (k : ℕ) → IsSomeAnd (at k) (λ x. v x ≡ 1) → some (length h) bet_at ≡ true
+  some_stride {A} v at src l e held k w = here (tested (ltb (p + k * n) (length h)))
     where
-      shifted : (p + r) % n ≡ p
-      shifted = ap (λ x. (x + r) % n) (sym e) ∙ NatL.mod-add-mod i n r ∙ q
+      read : (o : Option A) → IsSomeAnd o (λ x. v x ≡ 1) → IfSome o (λ x. HoldsAt (λ y. v x ≡ y) h (p + k * n)) → get_or h (p + k * n) 0 ≡ 1
+      read None a b = absurd a
+      read (Some x) a b = sym (b 0) ∙ a
 
-      at : Tested (ltb (p + r) n) → ⊥
-      at (holds t) = let o : (p + r) % n ≡ p + r = NatL.mod-eq_of_lt (ltb-true (p + r) n t) in omega (arith, o, shifted)
-      at (fails t) = let m : n ≤ p + r = ltb-false (p + r) n t in let o : (p + r - n) % n ≡ p + r - n = NatL.mod-eq_of_lt (omega arith) in
-          omega (arith, m, o, shifted, NatL.mod-eq-sub-mod {n = p + r} {m = n} m)
+      got : get_or h (p + k * n) 0 ≡ 1
+      got = read (src (p + k * n)) (subst (λ o. IsSomeAnd o (λ x. v x ≡ 1)) (e k) w) (held (p + k * n))
 
-  pub next_turn : (i : ℕ) → p < n → Unbet i → eqb (get_or h i 0) 1 ≡ false → Unbet (i + n)
-  next_turn i l u f = (NatL.add-mod_right i n ∙ u.0, λ k o. at k o (tested (ltb k i)) (tested (eqb k i)))
+      here : Tested (ltb (p + k * n) (length h)) → some (length h) bet_at ≡ true
+      here (holds t) = some_here (length h) bet_at (p + k * n) (ltb-true (p + k * n) (length h) t)
+          (both (eq-eqb ((p + k * n) % n) p (NatL.add-mul-mod_self_right p k n ∙ NatL.mod-eq_of_lt l)) (eq-eqb (get_or h (p + k * n) 0) 1 got))
+      here (fails t) = let z : get_or h (p + k * n) 0 ≡ 0 = get_or_past h (p + k * n) (ltb-false (p + k * n) (length h) t) in absurd (omega (arith, z, got))
+
+  pub none_stride : {A : Type 0} (v : A → ℕ) (at src : ℕ → Option A) → p < n → ((k : ℕ) → at k ≡ src (p + k * n)) →
+      ((k d : ℕ) → k < length h → option_map v (src k) ≡ Some (get_or h k d)) → ((k : ℕ) → IfSome (at k) (λ x. v x ≡ 1 → ⊥)) → some (length h) bet_at ≡ false
+  none_stride {A} v at src l e all w = none (length h) bet_at (λ i o. here i o (tested (eqb (i % n) p)))
     where
-      at : (k : ℕ) → k < i + n → Tested (ltb k i) → Tested (eqb k i) → bet_at k ≡ false
-      at k o (holds t) y = u.1 k (ltb-true k i t)
-      at k o (fails t) (holds y) = and_right_fails (eqb (k % n) p) (ap (λ z. eqb (get_or h z 0) 1) (eqb-true k i y) ∙ f)
-      at k o (fails t) (fails y) =
-          let m : i ≤ k = ltb-false k i t in
-          let w : i ≡ k → ⊥ = λ q. eqb-false k i y (sym q) in
-          let e : k ≡ i + (k - i) = omega arith in
-          and_left_fails (eqb (get_or h k 0) 1) (ne_eqb (k % n) p (λ q. between i (k - i) l u.0 (omega (arith, m, w)) (omega arith) (ap (λ z. z % n) (sym e) ∙ q)))
+      read : (o : Option A) (y : ℕ) → option_map v o ≡ Some y → IfSome o (λ x. v x ≡ 1 → ⊥) → y ≡ 1 → ⊥
+      read None y a b q = absurd (search rules)
+      read (Some x) y a b q = b (ap out a ∙ q)
 
-  -- no bet up to a
-  pub unbet : (i a : ℕ) → Unbet i → a ≤ i → some a bet_at ≡ false
-  unbet i a u l = none a bet_at (λ k o. u.1 k (omega arith))
+      here : (i : ℕ) → i < length h → Tested (eqb (i % n) p) → bet_at i ≡ false
+      here i o (fails t) = and_left_fails (eqb (get_or h i 0) 1) t
+      here i o (holds t) =
+          let m : p + (i / n) * n ≡ i = omega (arith, eqb-true (i % n) p t, NatL.mod-add-div' i n) in
+          and_right_fails (eqb (i % n) p) (ne_eqb (get_or h i 0) 1 (read (src i) (get_or h i 0) (all i 0 o)
+          (subst (λ s. IfSome s (λ x. v x ≡ 1 → ⊥)) (e (i / n) ∙ ap src m) (w (i / n)))))
 
-  -- a bet at a turn
-  pub bet_here : (i a : ℕ) → i < a → Unbet i → eqb (get_or h i 0) 1 ≡ true → some a bet_at ≡ true
-  bet_here i a l u e = some_here a bet_at i l (both (eq_at u.0) e)
+  -- what a chain answers over those turns, by what it answers at each
+  pub strided : {A : Type 0} (P N : A → Type 0) (v : A → ℕ) (at src : ℕ → Option A) (b : Bool) (X Y : Type 0) → MatchBool b X Y →
+      p < n → ((k : ℕ) → at k ≡ src (p + k * n)) → ((k : ℕ) → IfSome (src k) (λ x. HoldsAt (λ y. v x ≡ y) h k)) →
+      (Y → (k d : ℕ) → k < length h → option_map v (src k) ≡ Some (get_or h k d)) → ((x : A) → P x → v x ≡ 1) → ((x : A) → N x → v x ≡ 1 → ⊥) →
+      (X → (k : ℕ) × IsSomeAnd (at k) P) → (Y → (k : ℕ) → IfSome (at k) N) → b ≡ some (length h) bet_at
+  strided {A} P N v at src true X Y m l e held all hit miss w u = let k = w m in sym (some_stride v at src l e held k.0 (more (at k.0) k.1))
     where
-      eq_at : i % n ≡ p → eqb (i % n) p ≡ true
-      eq_at q = eq-eqb (i % n) p q
+      more : (o : Option A) → IsSomeAnd o P → IsSomeAnd o (λ x. v x ≡ 1)
+      more None a = a
+      more (Some x) a = hit x a
+  strided {A} P N v at src false X Y m l e held all hit miss w u = sym (none_stride v at src l e (all m) (λ k. more (at k) (u m k)))
+    where
+      more : (o : Option A) → IfSome o N → IfSome o (λ x. v x ≡ 1 → ⊥)
+      more None a = a
+      more (Some x) a = miss x a

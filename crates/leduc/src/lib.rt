@@ -50,12 +50,13 @@ impl LeducPoker {
     fn constants() -> [u64; 11]
         ensures { result ≡ 1 ∷ FOLD ∷ CALL ∷ RAISE ∷ 6 ∷ 2 ∷ 2 ∷ 4 ∷ ante ∷ raise₁ ∷ raise₂ ∷ [] }
     {
+        // `as` for the usize ones: u64 has no From for usize.
         [
             Self::NUMBER as u64,
-            Self::FOLD as u64,
-            Self::CALL as u64,
-            Self::RAISE as u64,
-            Self::DECK as u64,
+            u64::from(Self::FOLD),
+            u64::from(Self::CALL),
+            u64::from(Self::RAISE),
+            u64::from(Self::DECK),
             Self::RAISES as u64,
             Self::SEATS as u64,
             Self::ROUND as u64,
@@ -94,6 +95,7 @@ impl LeducPoker {
             return Err(Refusal::Unfit);
         }
         match hand.card_left(outcome) {
+            // A cast of a card, which is below 6: u8::try_from would have an error that never comes.
             Some(card) => Ok(with_card(state, card as u8)),
             None => Err(Refusal::Unfit),
         }
@@ -147,7 +149,7 @@ impl LeducPoker {
         })
     }
 
-    // Saved position with its end mark: 0 for a live hand, 1 for one that has ended.
+    // Saved position with its end mark: 0 for a live hand, 1 for one that has ended. The mark is a number, since a caller of C may hand in any.
     pub fn validate_decoded_state(state: LeducState, done: u64) -> Result<(), Refusal>
         ensures { record { refusal = number_of result; state = state } ≡ checked state done }
     {

@@ -78,6 +78,7 @@ pub fn action_made(h: &[u8], a: usize) -> u8
     ensures { result ≡ counted h.now a }
 {
     if is_legal(h, a) {
+        // A cast, since a legal action is at most 2: the error of u8::try_from would never come.
         a as u8
     } else if is_legal(h, usize::from(crate::FOLD)) {
         crate::FOLD
@@ -94,7 +95,7 @@ pub fn unknown_action(h: &[u8]) -> bool
 }
 
 // Refuses a round's first action that stands after the round closed, or was not legal when made. Barred: no action may stand in the round; blind: none is
-// legal there, for lack of the public card.
+// legal there, for lack of the public card. These stay two tests: a caller has each from another place, and most pass false twice.
 pub fn check_round(h: &[u8], barred: bool, blind: bool) -> Result<(), Refusal>
     ensures { number_of result ≡ first (action_checks barred blind [] h.now) }
 {

@@ -4,7 +4,7 @@
 pub mod betting;
 pub mod cards;
 
-// The actions.
+// The actions. They stay bytes, and no enum: positions, keys and legal lists cross to C as bytes, and a history that is handed in may hold any.
 pub const FOLD: u8 = 0;
 
 pub const CALL: u8 = 1;

@@ -1,7 +1,8 @@
 // The money of Leduc hold'em: contributions and payoffs.
 #![tactic(auto)]
 
-ghost use Rattle.std.specs.Prelude.{◌≡◌, cond, pos, neg_ℤ, ◌+◌, ◌-◌, ◌≤◌, ◌<◌, [], ◌∷◌, length};
+ghost use Rattle.std.specs.Prelude.{◌≡◌, cond, pos, neg_ℤ, ◌+◌, ◌-◌, ◌≤◌, [], ◌∷◌, length, get_or};
+ghost use Rattle.leduc_betting.specs.Cards.{rank};
 ghost use Rattle.leduc_rules.specs.Stakes.{ante, raise₁, raise₂};
 ghost use Rattle.leduc_rules.specs.Rules.{folds, pairs, beats, wins, payoff};
 ghost use Rattle.leduc_rules.specs.internal.Pots.{matched, seated, after-round, pot, BeginsLevel};
@@ -83,32 +84,35 @@ pub fn folded_by(h: &[u8], seat: usize) -> bool
     false
 }
 
+// The rank of a seat's card; of card 0 where it has none.
+fn rank_of(hand: &Hand, seat: usize) -> u8
+    ensures { result ≡ rank (get_or hand.now.cards.now seat 0) }
+{
+    rank(hand.cards.get(seat).copied().unwrap_or(0))
+}
+
 // Whether a seat's card makes a pair with the public card.
 #[tactic(auto, unfolding(leduc_rules::specs::Rules::pairs))]
 pub fn is_pair(hand: &Hand, seat: usize) -> bool
-    requires { seat < length hand.now.cards.now }
     ensures { result ≡ pairs hand.now.cards.now hand.now.public seat }
 {
     match hand.public {
         None => false,
-        Some(c) => rank(hand.cards[seat]) == rank(c),
+        Some(c) => rank_of(hand, seat) == rank(c),
     }
 }
 
 // Whether a seat beats another at the showdown.
 #[tactic(auto, using(leduc_betting::proofs::Branches::branches), unfolding(leduc_rules::specs::Rules::beats))]
 pub fn is_stronger(hand: &Hand, seat: usize, other: usize) -> bool
-    requires { (seat < length hand.now.cards.now) × (other < length hand.now.cards.now) }
     ensures { result ≡ beats hand.now.cards.now hand.now.public seat other }
 {
-    !is_pair(hand, other)
-        && (is_pair(hand, seat) || rank(hand.cards[other]) < rank(hand.cards[seat]))
+    !is_pair(hand, other) && (is_pair(hand, seat) || rank_of(hand, other) < rank_of(hand, seat))
 }
 
 // Whether a seat wins against the other.
 #[tactic(auto, using(leduc_betting::proofs::Branches::branches), unfolding(leduc_rules::specs::Rules::wins))]
 pub fn is_winner(hand: &Hand, seat: usize, other: usize) -> bool
-    requires { (seat < length hand.now.cards.now) × (other < length hand.now.cards.now) }
     ensures { result ≡ wins hand.now.cards.now hand.now.public hand.now.first.now hand.now.second.now seat other }
 {
     if has_fold(hand.first) || has_fold(hand.second) {
@@ -118,11 +122,12 @@ pub fn is_winner(hand: &Hand, seat: usize, other: usize) -> bool
     }
 }
 
-// What a seat gains: the other's contribution if it wins; it loses its own if the other wins.
+// What a seat gains: the other's contribution if it wins; it loses its own if the other wins. Two tests, as `payoff` has them: neither need hold.
 pub fn gain(wins: bool, loses: bool, mine: usize, theirs: usize) -> i64
     requires { (mine ≤ 64) × (theirs ≤ 64) }
     ensures { result ≡ cond wins (pos theirs) (cond loses (neg_ℤ (pos mine)) (pos 0)) }
 {
+    // Casts: no i64 comes From a usize, and what a seat has paid is at most 64.
     if wins {
         theirs as i64
     } else if loses {
@@ -134,8 +139,7 @@ pub fn gain(wins: bool, loses: bool, mine: usize, theirs: usize) -> i64
 
 // What each seat gains. At a position that legal moves reach round 2 begins with equal contributions, if it has begun.
 pub fn settled(hand: &Hand) -> [i64; 2]
-    requires { (length hand.now.cards.now ≡ 2) × (length hand.now.first.now ≤ 4) × (length hand.now.second.now ≤ 4)
-        × BeginsLevel hand.now.first.now hand.now.second.now }
+    requires { (length hand.now.first.now ≤ 4) × (length hand.now.second.now ≤ 4) × BeginsLevel hand.now.first.now hand.now.second.now }
     ensures { result ≡ payoff ante raise₁ raise₂ hand.now.cards.now hand.now.public hand.now.first.now hand.now.second.now 0
         ∷ payoff ante raise₁ raise₂ hand.now.cards.now hand.now.public hand.now.first.now hand.now.second.now 1 ∷ [] }
 {

@@ -1,5 +1,5 @@
 -- Laws of positions: what the test of number 19 comes to, and what it gives. Assumes nothing.
-use mathlib.Core.Path.{◌≡◌, refl, sym, ◌∙◌}
+use mathlib.Core.Path.{◌≡◌, refl}
 use mathlib.Core.Bool.{true, false}
 use mathlib.Core.List.{List}
 use Prim.Native.Nat.{ℕ, ◌-◌, ◌≤◌, ◌<◌}
@@ -12,9 +12,8 @@ use Rattle.std.specs.Prelude.{Option, slice_range}
 use Rattle.std.proofs.lemmas.List.{length-take, take-take}
 use Rattle.prelude.specs.Finite.{◌and◌}
 use Rattle.prelude.proofs.Tests.{Tested, holds, fails, tested, and_left, and_right}
-use Rattle.leduc_betting.specs.Betting.{ended}
 use Rattle.leduc_rules.specs.Rules.{live}
-use Rattle.leduc_rules.proofs.Reaching.{Possible, possible_parts, live_open, ended-dealt}
+use Rattle.leduc_rules.proofs.Reaching.{Possible, possible_parts, live_open}
 use Rattle.leduc_rules.proofs.Moves.{closed_or_none}
 use Rattle.leduc_rules.specs.internal.Pots.{BeginsLevel}
 use Rattle.leduc_rules.specs.Reached.{possible}
@@ -83,6 +82,3 @@ module _ (s : LeducState) (two : length s.cards ≡ 2) (eight : length s.history
 
   pub begins-level : BeginsLevel (round_one s) (round_two s)
   begins-level = closed_or_none parts
-
-  pub dealt_in_full : ended (round_one s) (round_two s) ≡ true → s.dealt ≡ 2
-  dealt_in_full l = sym cards-counted ∙ ended-dealt parts l

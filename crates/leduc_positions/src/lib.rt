@@ -15,7 +15,8 @@ use leduc_rules::{ROUND, SEATS};
 use refusals::Refusal;
 
 // A position: the seats' cards, the public card, and the actions of round 1 from place 0 and of round 2 from place 4.
-// Places past a length are not part of it.
+// Places past a length are not part of it. Kept as arrays with their lengths, since positions go in and out by value, with no heap, and places past a length
+// come back as they were.
 #[derive(Clone, Copy)]
 pub struct LeducState {
     pub cards: [u8; 2],
@@ -87,8 +88,8 @@ impl LeducState {
     }
 }
 
-// The position with one card more: a seat's, or the public one once both have theirs. Kept as functions beside LeducState, and no methods, since callers of
-// the library see LeducState, and are asked nothing.
+// The position with one card more: a seat's, or the public one once both have theirs. A function, as the next is, and no method of LeducState: a method would
+// be a call of the library, and the next one asks how many actions were made, where callers of the library are asked nothing.
 pub fn with_card(mut state: LeducState, card: u8) -> LeducState
     ensures { result ≡ with_card state card }
 {

@@ -10,19 +10,20 @@ use arrayvec::ArrayVec;
 use leduc_betting::betting::{action_made, check_round, is_terminal, options_of, round_over};
 use leduc_betting::cards::{all_seen, card_outside, card_twice, nth_remaining};
 
-// The seats' cards, at most two, the public card, and the actions of each round.
+// The seats' cards, the public card, and the actions of each round. It carries no fact, of how many cards or actions there are: `is_possible` is asked of hands
+// that no rules give, and the listing's spots have places for 11 actions in either round. So who puts cards together or adds up money asks for it in a clause.
 #[derive(Clone, Copy)]
 pub struct Hand<'a> {
     pub cards: &'a [u8],
     pub public: Option<u8>,
     pub first: &'a [u8],
     pub second: &'a [u8],
-    ghost few: { length cards.now ≤ 2 },
 }
 
 impl<'a> Hand<'a> {
-    // The cards dealt: the seats' and the public one.
+    // The cards dealt: the seats', of which there are at most two, and the public one.
     pub fn seen(&self) -> ArrayVec<u8, 3>
+        requires { length self.now.cards.now ≤ 2 }
         ensures { result.items ≡ seen self.now.cards.now self.now.public }
     {
         all_seen(self.cards, self.public)
@@ -30,6 +31,7 @@ impl<'a> Hand<'a> {
 
     // The card of an outcome among those left, ascending; none where there are not so many.
     pub fn card_left(&self, outcome: usize) -> Option<usize>
+        requires { length self.now.cards.now ≤ 2 }
         ensures { result ≡ at_place (remaining (seen self.now.cards.now self.now.public)) outcome }
     {
         nth_remaining(&self.seen(), outcome)
@@ -111,6 +113,9 @@ impl<'a> Hand<'a> {
     pub fn is_possible(&self) -> bool
         ensures { result ≡ possible self.now.cards.now self.now.public self.now.first.now self.now.second.now }
     {
+        if crate::SEATS < self.cards.len() {
+            return false;
+        }
         let seen = self.seen();
         let blind = self.public.is_none();
         !card_outside(&seen)

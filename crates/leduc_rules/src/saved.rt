@@ -1,5 +1,5 @@
 // The checks of a saved position's cards and histories, in the order of their numbers.
-ghost use Rattle.std.specs.Prelude.{◌≡◌, not, ◌≤◌, length, take, IfOk};
+ghost use Rattle.std.specs.Prelude.{◌≡◌, not, ◌≤◌, take, IfOk};
 ghost use Rattle.refusals.specs.Refusals.{first};
 ghost use Rattle.refusals.specs.Outcomes.{number_of};
 ghost use Rattle.prelude.specs.Finite.{◌and◌};
@@ -23,16 +23,15 @@ pub fn check_cards(seen: &[u8]) -> Result<(), Refusal>
     Ok(())
 }
 
-// The actions of a round, from its part of the history and how many there are, by numbers 13 to 15.
+// The actions of a round, from its part of the history and how many there are, by numbers 13 to 15; a part that has not so many is taken whole.
 pub fn check_history(part: &[u8], acted: usize, barred: bool, blind: bool) -> Result<&[u8], Refusal>
-    requires { length part.now ≡ 4 }
     ensures number { number_of result ≡ first (round_checks barred blind acted (take acted part.now)) }
     ensures actions { IfOk result (λ h. (acted ≤ 4) × (h.now ≡ take acted part.now)) }
 {
     if crate::ROUND < acted {
         return Err(Refusal::History);
     }
-    let h = &part[..acted];
+    let h = part.get(..acted).unwrap_or(part);
     if unknown_action(h) {
         return Err(Refusal::History);
     }

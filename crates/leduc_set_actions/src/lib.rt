@@ -30,5 +30,6 @@ pub fn actions(set: usize) -> usize
     ensures { (result ≡ get_or actions_in_order set 0) × (result ≤ 3) }
 {
     let bits = THREES[set / 64] >> (set % 64);
+    // A cast: usize has no From for u64.
     2 + (bits % 2) as usize
 }

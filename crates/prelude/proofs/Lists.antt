@@ -2,13 +2,12 @@
 use mathlib.Core.Path.{◌≡◌, refl, sym, ap, ap₂, ◌∙◌}
 use mathlib.Core.Bool.{Bool, true, false, cond}
 use mathlib.Core.List.{List, [], ◌∷◌, ◌++◌, append-nil}
-use Prim.Native.Nat.{ℕ, zero, suc, ◌+◌, ◌≤◌, ◌<◌}
-use native.Mathlib.Nat as NatL
+use Prim.Native.Nat.{ℕ, zero, suc, ◌+◌, ◌-◌, ◌≤◌, ◌<◌}
 use native.Mathlib.Numerals.{add-one}
 use native.Mathlib.Omega.{arith}
 use lib.Dec.{eqb, ltb}
 use lib.ListN.{length, get_or, take, set, replicate, length-append, length-set, length-replicate, get_or-replicate, get_or-append}
-use lib.Seq.{length-take-le, get_or-take, take-suc, get_or_at, get_or-set_same, get_or-set_other, ext_get_or}
+use lib.Seq.{length-take-le, take-append_seam, get_or-take, take-suc, get_or_at, get_or-set_same, get_or-set_other, ext_get_or}
 use borrow.Author.Tests.{eq-eqb, ne_eqb, eqb-true, eqb-false, lt-ltb, le-ltb, ltb-true}
 use Rattle.prelude.specs.Finite.{◌and◌, ◌or◌, some, sum, those, has, places}
 use Rattle.prelude.proofs.Tests.{Tested, holds, fails, tested, iff, both, and_left_fails, and_right_fails, or_left, or_right, or_none, or_assoc, below_cases, some_same}
@@ -48,45 +47,6 @@ module _ (p : ℕ → Bool) where
   pub those_passed : (n : ℕ) → p n ≡ false → those (suc n) p ≡ those n p
   unfolding those
   those_passed n e = rw e (append-nil (those n p))
-
-  pub length-those_kept : (n : ℕ) → p n ≡ true → length (those (n + 1) p) ≡ length (those n p) + 1
-  length-those_kept n e = rw (add-one, those_kept n e) (length-append (those n p) (n ∷ []))
-
-  pub length-those_passed : (n : ℕ) → p n ≡ false → length (those (n + 1) p) ≡ length (those n p)
-  length-those_passed n e = rw (add-one, those_passed n e) refl
-
-  -- a greater bound keeps what stands there, in its place
-  those-front : (m : ℕ) → (xs : List ℕ) × (those (suc m) p ≡ those m p ++ xs)
-  those-front m = go (tested (p m))
-    where
-      go : Tested (p m) → (xs : List ℕ) × (those (suc m) p ≡ those m p ++ xs)
-      go (holds e) = (m ∷ [], those_kept m e)
-      go (fails e) = ([], those_passed m e ∙ sym (append-nil (those m p)))
-
-  pub those-grow : (n m : ℕ) → n ≤ m → length (those n p) ≤ length (those m p)
-  those-grow n zero h = let q : n ≡ 0 = omega arith in rw q (NatL.le_refl (length (those 0 p)))
-  those-grow n (suc m) h =
-      below_cases n (suc m) (omega arith)
-      (λ l. let (xs, e) = those-front m in
-      let g : length (those n p) ≤ length (those m p) = those-grow n m (omega arith) in
-      omega (arith, ap length e, length-append (those m p) xs))
-      (λ q. rw q (NatL.le_refl (length (those (suc m) p))))
-
-  pub those_more : (n m i d : ℕ) → n ≤ m → i < length (those n p) → get_or (those m p) i d ≡ get_or (those n p) i d
-  those_more n zero i d h l = let q : 0 ≡ n = omega arith in ap (λ k. get_or (those k p) i d) q
-  those_more n (suc m) i d h l =
-      below_cases n (suc m) (omega arith)
-      (λ w. let (xs, e) = those-front m in
-      let g : length (those n p) ≤ length (those m p) = those-grow n m (omega arith) in
-      ap (λ k. get_or k i d) e ∙ get_or-append (those m p) xs d i (omega arith) ∙ those_more n m i d (omega arith) l)
-      (λ q. ap (λ k. get_or (those k p) i d) (sym q))
-
-  -- a number of which the test holds stands behind all such lower ones
-  pub those_at : (n m d : ℕ) → n < m → p n ≡ true → get_or (those m p) (length (those n p)) d ≡ n
-  those_at n m d h e =
-      those_more (suc n) m (length (those n p)) d h (rw (those_kept n e) (let q = length-append (those n p) (n ∷ []) in omega arith))
-      ∙ ap (λ l. get_or l (length (those n p)) d) (those_kept n e)
-      ∙ get_or_at (those n p) n [] d (length (those n p)) refl
 
   -- every number that stands there is below the bound, and the test holds of it
   abbrev Among : ℕ → ℕ → Type 0
@@ -214,3 +174,7 @@ module _ {A : Type 0} where
   filled_more n f z k h =
       places-set n (λ p. cond (ltb p k) (f p) z) (λ p. cond (ltb p (k + 1)) (f p) z) k (f k) h (ap (λ b. cond b (f k) z) (lt-ltb k (k + 1) (omega arith)))
       (λ j q. ap (λ b. cond b (f j) z) (iff (λ t. lt-ltb j k (let w : j < k + 1 = ltb-true j (k + 1) t in omega arith)) (λ t. lt-ltb j (k + 1) (let w : j < k = ltb-true j k t in omega arith))))
+
+-- the last of a list is taken off again
+pub popped : (xs full rest : List ℕ) (x : ℕ) → full ≡ xs ++ (x ∷ []) → rest ≡ take (length full - 1) full → rest ≡ xs
+popped xs full rest x e f = f ∙ rw e (ap (λ k. take k (xs ++ (x ∷ []))) (let n : length (xs ++ (x ∷ [])) - 1 ≡ length xs = omega (arith, length-append xs (x ∷ [])) in n) ∙ take-append_seam xs (x ∷ []))

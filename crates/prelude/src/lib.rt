@@ -34,7 +34,7 @@ pub fn repeats(bytes: &[u8]) -> bool
     ensures { result ≡ some (length bytes.now) (λ i. has (get_or bytes.now i 0) (take i bytes.now)) }
 {
     for (i, b) in bytes.iter().enumerate() {
-        if contains(&bytes[..i], *b as usize) {
+        if contains(&bytes[..i], usize::from(*b)) {
             return true;
         }
     }
@@ -45,15 +45,5 @@ pub fn repeats(bytes: &[u8]) -> bool
 pub fn nth_left(bytes: &[u8], bound: usize, place: usize) -> Option<usize>
     ensures { result ≡ at_place (those bound (λ c. not (has c bytes.now))) place }
 {
-    let mut passed = 0;
-    for x in 0..bound {
-        if contains(bytes, x) {
-            continue;
-        }
-        if passed == place {
-            return Some(x);
-        }
-        passed += 1;
-    }
-    None
+    (0..bound).filter(|x| !contains(bytes, *x)).nth(place)
 }

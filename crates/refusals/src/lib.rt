@@ -30,11 +30,12 @@ pub enum Refusal {
     Unfit,
 }
 
-impl Refusal {
-    pub fn number(self) -> u64
-        ensures { result ≡ number self }
-    {
-        self as u64
+impl From<Refusal> for u64 {
+    ghost from_gives = { λ refusal n. n ≡ number refusal };
+
+    // By `as`, since std has no From of an enum to a number: the cases begin at 1 and count on.
+    fn from(refusal: Refusal) -> Self {
+        refusal as u64
     }
 }
 
@@ -44,11 +45,13 @@ pub fn number_of<T>(outcome: &Result<T, Refusal>) -> u64
 {
     match outcome {
         Ok(_) => 0,
-        Err(refusal) => refusal.number(),
+        Err(refusal) => u64::from(*refusal),
     }
 }
 
-// The payoff of each of count seats, 0 past them.
+// The payoff of each of count seats, 0 past them. Beside it stand SeatWorths of worths and Values of best_response, and no one struct with a type and a size
+// for parameters: that would have no derived Default, which both answer C with at a refusal, and no name for its numbers. The count stands beside an array
+// since C's answers have it so.
 #[derive(Clone, Copy)]
 pub struct Payoffs {
     pub count: usize,

@@ -13,6 +13,6 @@ returns c =
     let first = c.is_winner-first in let second = c.is_winner-second in
     ap₂ (λ x y. x ∷ y ∷ [])
     (gained_back first.result second.result pot.result.acting pot.result.other a o c.gain-zero.ensures
-    ∙ payoff_zero _ _ _ _ c.requires.3 _ _ _ first.ensures second.ensures pot.ensures.pot)
+    ∙ payoff_zero _ _ _ _ c.requires.2 _ _ _ first.ensures second.ensures pot.ensures.pot)
     (gained_back second.result first.result pot.result.other pot.result.acting o a c.gain-one.ensures
-    ∙ payoff_one _ _ _ _ c.requires.3 _ _ _ first.ensures second.ensures pot.ensures.pot)
+    ∙ payoff_one _ _ _ _ c.requires.2 _ _ _ first.ensures second.ensures pot.ensures.pot)

@@ -11,7 +11,7 @@ use borrow.Author.Rules.{rules}
 use Rattle.std.proofs.lemmas.Result.{err_from_is_err_and}
 use Rattle.refusals.specs.declared.Refusal.TheVariants.{Unfit}
 use Rattle.leduc_betting.specs.Betting.{ended}
-use Rattle.leduc_positions.proofs.Positions.{of_hand, begins-level, dealt_in_full, cards-counted, first_counted, second-counted}
+use Rattle.leduc_positions.proofs.Positions.{of_hand, begins-level, first_counted, second-counted}
 use Rattle.leduc.specs.Calls.{payoff-refusal}
 use Rattle.leduc.proofs.Answers.{stopped, reached, paid_err, payoff-early, payoff-accepted}
 use Rattle.leduc.proofs.LeducPoker.payouts.Goals as goal
@@ -29,9 +29,7 @@ returns-then-not-is_over c =
 
 pub settled-gains-requires : goal.settled-gains-requires
 settled-gains-requires c =
-    let s = c.args.state in let w = c.in_ok-hand.ensures.hand in let r = reached _ c.in_ok-hand.ensures.number in
-    let full = dealt_in_full s (search rules) (search rules) r (sym (of_hand (λ cs p h₁ h₂. ended h₁ h₂) w) ∙ sym c.is_over.ensures ∙ c.if-not-is_over.false) in (
-      ap length w.cards ∙ cards-counted s (search rules) (search rules) r ∙ full,
+    let s = c.args.state in let w = c.in_ok-hand.ensures.hand in let r = reached _ c.in_ok-hand.ensures.number in (
       omega (arith, ap length w.first, first_counted s (search rules) (search rules) r, w.short.1),
       omega (arith, ap length w.second, second-counted s (search rules) (search rules) r, w.short.2),
       rw (w.first, w.second) (begins-level s (search rules) (search rules) r),
