@@ -16,6 +16,7 @@ use Rattle.prelude.proofs.Lists.{those_kept, those_passed}
 use Rattle.kuhn_rules.specs.Rules.{PASS, BET, ended, turn, left, remaining}
 use Rattle.kuhn_tree.specs.Tree.{m}
 use Rattle.kuhn_tree.specs.Order.{turns, histories, decision_at, first}
+use Rattle.listing_records.specs.declared.Writer.{Writer}
 use Rattle.listing_records.specs.Listing.{padded, bytes_of}
 use Rattle.listing_records.specs.internal.Written.{joined, Wrote}
 use Rattle.listing_records.proofs.Bytes.{joined_last, length-bytes, wrote_as, wrote_nothing, wrote_append}
@@ -85,10 +86,6 @@ in_deck_more n cards more c e w d i v = rw e (below_cases i (length cards) (rw (
   where
     long : length more ≡ suc (length cards)
     long = ap length e ∙ length-append cards (c ∷ []) ∙ add-one (length cards)
-
--- the last of a list is taken off again
-pub popped : (xs full rest : List ℕ) (x : ℕ) → full ≡ xs ++ (x ∷ []) → rest ≡ take (length full - 1) full → rest ≡ xs
-popped xs full rest x e f = f ∙ rw e (ap (λ k. take k (xs ++ (x ∷ []))) (let n : length (xs ++ (x ∷ [])) - 1 ≡ length xs = omega (arith, length-append xs (x ∷ [])) in n) ∙ take-append_seam xs (x ∷ []))
 
 -- ---- the deals of the cards below a bound, once cs are dealt
 module _ (n : ℕ) (cs : List ℕ) where
@@ -171,16 +168,16 @@ module _ (n : ℕ) (cs h : List ℕ) where
   abbrev pub node : List ℕ
   node = records_of n cs (h ∷ [])
 
-  pub wrote-later : (old : List ℕ) (at : ℕ) → first n cs (turn n h) ≡ false → Wrote old old node at at
-  wrote-later old at e = wrote_nothing (node-later n cs h e)
+  pub wrote-later : (old : Writer) → first n cs (turn n h) ≡ false → Wrote old old node
+  wrote-later old e = wrote_nothing (node-later n cs h e)
 
   pub node-length : first n cs (turn n h) ≡ true → length node ≡ 24
   node-length e = ap length (node_first n cs h e) ∙ length-bytes (decision_at n cs h) (255, cs)
 
-  pub wrote_here : (old new key : List ℕ) (at r : ℕ) → first n cs (turn n h) ≡ true → key ≡ turn n h ∷ get_or cs (turn n h) 0 ∷ h
-      → Wrote old new (turn n h ∷ length key ∷ padded 13 key ++ (255 ∷ padded 6 cs ++ (2 ∷ 0 ∷ []))) at r → Wrote old new node at r
+  pub wrote_here : (old new : Writer) (key : List ℕ) → first n cs (turn n h) ≡ true → key ≡ turn n h ∷ get_or cs (turn n h) 0 ∷ h
+      → Wrote old new (turn n h ∷ length key ∷ padded 13 key ++ (255 ∷ padded 6 cs ++ (2 ∷ 0 ∷ []))) → Wrote old new node
   unfolding bytes_of
-  wrote_here old new key at r e f w = wrote_as (ap (λ k. turn n h ∷ length k ∷ padded 13 k ++ (255 ∷ padded 6 cs ++ (2 ∷ 0 ∷ []))) f ∙ sym (node_first n cs h e)) w
+  wrote_here old new key e f w = wrote_as (ap (λ k. turn n h ∷ length k ∷ padded 13 k ++ (255 ∷ padded 6 cs ++ (2 ∷ 0 ∷ []))) f ∙ sym (node_first n cs h e)) w
 
 -- ---- the histories from one on
 module _ (n : ℕ) (cs h : List ℕ) (left : ℕ) where
@@ -201,7 +198,7 @@ module _ (n : ℕ) (cs h : List ℕ) (left : ℕ) where
     pub hand-length : length whole ≡ length here + (length (after p) + length (after q))
     hand-length = ap length hand_parts ∙ length-append here (after p ++ after q) ∙ ap (λ k. length here + k) (length-append (after p) (after q))
 
-    pub wrote-hand : {a b d e : List ℕ} {at i j k : ℕ} → Wrote a b here at i → Wrote b d (after p) i j → Wrote d e (after q) j k → Wrote a e whole at k
+    pub wrote-hand : {a b d e : Writer} → Wrote a b here → Wrote b d (after p) → Wrote d e (after q) → Wrote a e whole
     wrote-hand u v w = wrote_as (sym hand_parts) (wrote_append u (wrote_append v w))
 
 -- ---- the listing: the deals from none on

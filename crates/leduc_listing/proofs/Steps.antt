@@ -9,9 +9,9 @@ use native.Mathlib.Omega.{arith}
 use lib.Dec.{ltb}
 use lib.ListN.{length, length-append}
 use borrow.Author.Tests.{le-ltb, lt-ltb, ltb-false, not-true}
-use Rattle.std.specs.Prelude.{Option, None, Some, is_none, unwrap_or}
+use Rattle.std.specs.Prelude.{Option, unwrap_or}
 use Rattle.prelude.specs.Finite.{◌and◌, ◌or◌, those, has}
-use Rattle.prelude.proofs.Tests.{Tested, holds, fails, tested, and_left, or_false_left, true≢false}
+use Rattle.prelude.proofs.Tests.{Tested, holds, fails, tested, or_false_left}
 use Rattle.prelude.proofs.Lists.{those_kept, those_passed}
 use Rattle.leduc_betting.specs.Cards.{seen, left, remaining}
 use Rattle.leduc_betting.specs.Betting.{may, options, in_play}
@@ -24,6 +24,7 @@ use Rattle.leduc_tree.specs.Tree.{Position, dealt, acted, due, ended, actor, key
 use Rattle.leduc_tree.specs.internal.Tree.{acts}
 use Rattle.leduc_tree.specs.Turns as Turns
 use Rattle.leduc_tree.specs.Turns.{turns, is_first, decision_at}
+use Rattle.listing_records.specs.declared.Writer.{Writer}
 use Rattle.listing_records.specs.Listing.{padded, bytes_of}
 use Rattle.listing_records.specs.internal.Written.{joined, Wrote}
 use Rattle.listing_records.proofs.Bytes.{joined_last, length-bytes, wrote_as}
@@ -49,11 +50,11 @@ pub node-length : (q : Position) → acts q ≡ true → is_first q ≡ true →
 node-length q a e = ap length (node_first q a e) ∙ length-bytes (decision_at q) (cards_of q)
 
 -- its record, from what its parts hold
-pub wrote-node : (q : Position) (old new : List ℕ) (at r seat legal : ℕ) (k cs : List ℕ) (p : Option ℕ) → acts q ≡ true → is_first q ≡ true
+pub wrote-node : (q : Position) (old new : Writer) (seat legal : ℕ) (k cs : List ℕ) (p : Option ℕ) → acts q ≡ true → is_first q ≡ true
     → seat ≡ actor q → k ≡ key q → p ≡ q.public → cs ≡ q.cards → legal ≡ length (choices q)
-    → Wrote old new (seat ∷ length k ∷ padded 13 k ++ (unwrap_or p 255 ∷ padded 6 cs ++ (legal ∷ 0 ∷ []))) at r → Wrote old new (node_records q) at r
+    → Wrote old new (seat ∷ length k ∷ padded 13 k ++ (unwrap_or p 255 ∷ padded 6 cs ++ (legal ∷ 0 ∷ []))) → Wrote old new (node_records q)
 unfolding bytes_of
-wrote-node q old new at r seat legal k cs p a e is-seat is_key is-public is-cards is-legal w = wrote_as (
+wrote-node q old new seat legal k cs p a e is-seat is_key is-public is-cards is-legal w = wrote_as (
     ap₂ (λ x y. x ∷ length y ∷ padded 13 y ++ (unwrap_or p 255 ∷ padded 6 cs ++ (legal ∷ 0 ∷ []))) is-seat is_key
     ∙ ap₂ (λ x y. actor q ∷ length (key q) ∷ padded 13 (key q) ++ (x ∷ padded 6 y ++ (legal ∷ 0 ∷ []))) (ap (λ o. unwrap_or o 255) is-public ∙ shown_is q.public) is-cards
     ∙ ap (λ y. actor q ∷ length (key q) ∷ padded 13 (key q) ++ (shown-public q.public ∷ padded 6 q.cards ++ (y ∷ 0 ∷ []))) is-legal ∙ sym (node_first q a e)
@@ -63,15 +64,6 @@ wrote-node q old new at r seat legal k cs p a e is-seat is_key is-public is-card
 pub both_dealt : (q : Position) → acts q ≡ true → 2 ≤ length q.cards
 unfolding live Rules.due
 both_dealt q e = ltb-false (length q.cards) 2 (or_false_left _ _ (or_false_left _ _ (not-true _ e)))
-
--- no public card lies there while it is due
-pub none_public : (q : Position) → due q ≡ true → 2 ≤ length q.cards → q.public ≡ None
-unfolding Rules.due Rules.public-due ◌or◌
-none_public q e l = at q.public (and_left _ _ (sym (ap (λ b. b or Rules.public-due q.public q.first q.second) (le-ltb (length q.cards) 2 l)) ∙ e))
-  where
-    at : (p : Option ℕ) → is_none p ≡ true → p ≡ None
-    at None w = refl
-    at (Some c) w = true≢false false w refl
 
 -- ---- whether a number is a move
 module _ (q : Position) (a : ℕ) where

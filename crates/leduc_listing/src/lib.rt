@@ -3,7 +3,7 @@
 
 ghost use Rattle.std.specs.Prelude.{◌≡◌, ◌+◌, ◌≤◌, ◌<◌, length};
 ghost use Rattle.std.proofs.lemmas.List.Edits.{sets};
-ghost use Rattle.listing_records.specs.internal.Written.{Wrote};
+ghost use Rattle.listing_records.specs.internal.Written.{HasRoom, Wrote};
 ghost use Rattle.leduc_listing_positions.specs.internal.Spots.{placed, made, Room, undone};
 ghost use Rattle.leduc_listing.specs.Facts.{listing_of_leduc};
 ghost use Rattle.leduc_listing.specs.internal.Walk.{node_records, is_move, move_bound, moved, next_records};
@@ -12,22 +12,23 @@ use leduc_betting::betting::{is_legal, options_of};
 use leduc_betting::{DECK, RAISE};
 use leduc_listing_positions::Made;
 use leduc_listing_positions::spot::Spot;
-use listing_records::Record;
+use listing_records::{Record, Writer};
 use prelude::contains;
 
 // The moves of a hand after its first card: a card, the public card, and 8 actions.
 const LATER_MOVES: usize = 10;
 
 // The record of a spot, if a seat acts there and it is the first of its set.
-fn write_first(out: &mut [u8], at: usize, spot: &Spot) -> usize
+fn write_first(to: &mut Writer, spot: &Spot)
     requires room { Room spot.now 1 }
-    requires bytes { at + length (node_records (placed spot.now)) ≤ length out.old }
-    ensures { Wrote out.old out.new (node_records (placed spot.now)) at result }
+    requires bytes { HasRoom to.old (node_records (placed spot.now)) }
+    ensures { Wrote to.old to.new (node_records (placed spot.now)) }
 {
     let hand = spot.hand();
     if !hand.is_live() || !spot.is_first() {
-        return at;
+        return;
     }
+    // Numbers become bytes by `as`, since u8 has no From of a usize.
     let key = spot.key();
     let legal = options_of(hand.in_play());
     Record {
@@ -37,7 +38,7 @@ fn write_first(out: &mut [u8], at: usize, spot: &Spot) -> usize
         cards: hand.cards,
         legal: legal.len() as u8,
     }
-    .put(out, at)
+    .put(to);
 }
 
 // Whether a number is a move: a card that is left while one is due, else a legal action.
@@ -82,25 +83,24 @@ fn make(spot: &mut Spot, a: u8) -> Made
 }
 
 // The records after the moves of a spot, lower ones first: the node, then what follows its moves; left is how many moves may come.
-fn list_moves(out: &mut [u8], at: usize, spot: &mut Spot, left: usize) -> usize
+fn list_moves(to: &mut Writer, spot: &mut Spot, left: usize)
     requires room { Room spot.old (left + 1) }
-    requires bytes { at + length (next_records left (placed spot.old) (move_bound (placed spot.old))) ≤ length out.old }
-    ensures records { Wrote out.old out.new (next_records left (placed spot.old) (move_bound (placed spot.old))) at result }
+    requires bytes { HasRoom to.old (next_records left (placed spot.old) (move_bound (placed spot.old))) }
+    ensures records { Wrote to.old to.new (next_records left (placed spot.old) (move_bound (placed spot.old))) }
     ensures same { placed spot.new ≡ placed spot.old }
 {
     if left == 0 {
-        return at;
+        return;
     }
-    let mut next = at;
     for a in 0..move_bound(spot) {
         if is_move(spot, a) {
+            // By `as`, since u8 has no From of a usize.
             let made = make(spot, a as u8);
-            let here = write_first(out, next, spot);
-            next = list_moves(out, here, spot, left - 1);
+            write_first(to, spot);
+            list_moves(to, spot, left - 1);
             spot.take_back(made);
         }
     }
-    next
 }
 
 // The listing of Leduc's sets, from the start of an output.
@@ -108,5 +108,6 @@ pub fn list_sets(out: &mut [u8])
     requires { length listing_of_leduc ≤ length out.old }
     ensures { out.new ≡ sets out.old 0 listing_of_leduc }
 {
-    list_moves(out, 0, &mut Spot::start(), LATER_MOVES);
+    let mut to = Writer::new(out);
+    list_moves(&mut to, &mut Spot::start(), LATER_MOVES);
 }

@@ -4,11 +4,11 @@
 
 pub mod spot;
 
-// Where a move went, so that it can be taken back.
+// Where a move went, so that it can be taken back; of the public card also what lay there before.
 #[derive(Clone, Copy)]
 pub enum Made {
     Card,
-    Public,
+    Public(Option<u8>),
     First,
     Second,
 }

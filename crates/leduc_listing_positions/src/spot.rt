@@ -1,5 +1,5 @@
 // A spot.
-ghost use Rattle.std.specs.Prelude.{◌≡◌, ◌++◌, ◌+◌, ◌≤◌, length, None};
+ghost use Rattle.std.specs.Prelude.{◌≡◌, ◌++◌, ◌+◌, ◌≤◌, length};
 
 use crate::Made;
 use arrayvec::ArrayVec;
@@ -11,7 +11,7 @@ use listing_records::KEY;
 
 // A position of the walk: the seats' cards, the public card, and the actions of each round, with places for as many as a hand has moves: 11, the first card
 // and the LATER_MOVES of the crate leduc_listing.
-#[derive(Drop)]
+#[derive(Clone, Drop)]
 pub struct Spot {
     pub cards: ArrayVec<u8, 2>,
     pub public: Option<u8>,
@@ -81,6 +81,7 @@ impl Spot {
         let hand = self.hand();
         let seat = hand.turn();
         let mut key = ArrayVec::new();
+        // Casts of a seat, and below of lengths of at most 11: u8::try_from would have an error that never comes.
         key.push(seat as u8);
         key.push(hand.cards[seat]);
         key.push(self.public.unwrap_or(255));
@@ -93,7 +94,6 @@ impl Spot {
 
     // Deals a card: to a seat that has none, else it is the public card.
     pub fn deal(&mut self, card: u8) -> Made
-        requires hidden { 2 ≤ length self.old.cards.items → self.old.public ≡ None }
         ensures moved { placed self.new ≡ dealt (placed self.old) card }
         ensures back { undone result (placed self.new) ≡ placed self.old }
         ensures few { (length self.new.cards.items ≤ 2) × (made self.new ≤ made self.old + 1) }
@@ -102,8 +102,7 @@ impl Spot {
             self.cards.push(card);
             Made::Card
         } else {
-            self.public = Some(card);
-            Made::Public
+            Made::Public(self.public.replace(card))
         }
     }
 
@@ -131,7 +130,7 @@ impl Spot {
             Made::Card => {
                 self.cards.pop();
             }
-            Made::Public => self.public = None,
+            Made::Public(before) => self.public = before,
             Made::First => {
                 self.first.pop();
             }

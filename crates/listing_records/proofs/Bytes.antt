@@ -8,6 +8,7 @@ use lib.Seq.{sets, sets-eq, length-sets, paste, length-take-le, take_all, take-a
 use Rattle.game_tree.specs.Tree.{Tree}
 use Rattle.listing_records.specs.Listing.{padded, Cards, bytes_of, first_node, flat, listing}
 use Rattle.listing_records.specs.internal.Written.{joined, Wrote}
+use Rattle.listing_records.specs.declared.Writer.{Writer}
 use Rattle.game_tree.specs.Sets.{Decision, set_count}
 use Rattle.game_tree.specs.Sets as Sets
 
@@ -24,17 +25,25 @@ sets_append (a ∷ xs) ys l i =
     let e : i + suc (length xs) ≡ suc i + length xs = omega arith in
     rw e (sets_append xs ys (set l i a) (suc i))
 
-pub wrote_as : {old new xs ys : List ℕ} {at r : ℕ} → xs ≡ ys → Wrote old new xs at r → Wrote old new ys at r
-wrote_as {old = old} {new = new} {at = at} {r = r} e w = subst (λ l. Wrote old new l at r) e w
+pub wrote_as : {old new : Writer} {xs ys : List ℕ} → xs ≡ ys → Wrote old new xs → Wrote old new ys
+wrote_as {old = old} {new = new} e w = subst (Wrote old new) e w
 
-pub wrote_nothing : {old xs : List ℕ} {at : ℕ} → xs ≡ [] → Wrote old old xs at at
-wrote_nothing e = wrote_as (sym e) (record { next = omega arith; wrote = refl })
+pub wrote_nothing : {old : Writer} {xs : List ℕ} → xs ≡ [] → Wrote old old xs
+wrote_nothing e = wrote_as (sym e) (record { output = refl; next = omega arith; wrote = refl })
 
-pub wrote_append : {a b d xs ys : List ℕ} {i j k : ℕ} → Wrote a b xs i j → Wrote b d ys j k → Wrote a d (xs ++ ys) i k
-wrote_append {a = a} {xs = xs} {ys = ys} {i = i} v w = record {
+pub wrote_append : {a b d : Writer} {xs ys : List ℕ} → Wrote a b xs → Wrote b d ys → Wrote a d (xs ++ ys)
+wrote_append {a = a} {xs = xs} {ys = ys} v w = record {
+  output = w.output ∙ v.output;
   next = omega (arith, v.next, w.next, length-append xs ys);
-  wrote = w.wrote ∙ ap₂ (λ l p. sets l p ys) v.wrote v.next ∙ sym (sets_append xs ys a i);
+  wrote = w.wrote ∙ ap₂ (λ l p. sets l p ys) v.wrote v.next ∙ sym (sets_append xs ys a.out.now a.at);
 }
+
+pub wrote-length : {old new : Writer} {xs : List ℕ} → Wrote old new xs → length new.out.now ≡ length old.out.now
+wrote-length {old = old} {xs = xs} w = ap length w.wrote ∙ length-sets old.out.now old.at xs
+
+-- from the start of an output on
+pub wrote-start : {old new : Writer} {xs : List ℕ} (l : List ℕ) → (old.out.now ≡ l) × (old.at ≡ 0) → Wrote old new xs → new.out.now ≡ sets l 0 xs
+wrote-start {xs = xs} l s w = w.wrote ∙ ap₂ (λ m i. sets m i xs) s.0 s.1
 
 -- a copy is a run of its bytes
 pub paste-sets : (d : List ℕ) (at : ℕ) (s : List ℕ) (n : ℕ) → at + n ≤ length d → n ≤ length s → paste d at s n ≡ sets d at (take n s)
@@ -101,6 +110,10 @@ pub length-listing : (t : Tree) (cards_of : ℕ → Cards) → length (listing t
 unfolding listing
 length-listing t cards_of = length-flat (Sets.sets t) (λ x. cards_of (first_node t x))
 
+pub record_long : (s p g : ℕ) (k c : List ℕ) → length (s ∷ length k ∷ padded 13 k ++ (p ∷ padded 6 c ++ (g ∷ 0 ∷ []))) ≡ 24
+unfolding bytes_of
+record_long s p g k c = length-bytes (s, k, g) (p, c)
+
 -- a record stored part by part is one run
 module _ (l k c : List ℕ) (at s p g : ℕ) (room : at + 24 ≤ length l) (key cards : List ℕ) (is_key : key ≡ padded 13 k) (is_cards : cards ≡ padded 6 c) where
   whole-key : length key ≡ 13
@@ -124,13 +137,10 @@ module _ (l k c : List ℕ) (at s p g : ℕ) (room : at + 24 ≤ length l) (key 
   length-after-key = length-sets head (at + 2) key ∙ length-head
 
   pub record_stored : (m₁ m₂ : List ℕ) → m₁ ≡ paste (set (set l at s) (at + 1) (length k)) (at + 2) key (length key) → m₂ ≡ paste (set m₁ (at + 15) p) (at + 16) cards (length cards)
-      → Wrote l (set (set m₂ (at + 22) g) (at + 23) 0) (s ∷ length k ∷ padded 13 k ++ (p ∷ padded 6 c ++ (g ∷ 0 ∷ []))) at (at + 24)
+      → (set (set m₂ (at + 22) g) (at + 23) 0 ≡ sets l at (s ∷ length k ∷ padded 13 k ++ (p ∷ padded 6 c ++ (g ∷ 0 ∷ []))))
   unfolding head after-key bytes_of
-  record_stored m₁ m₂ e f = record {
-    next = omega (arith, length-bytes (s, k, g) (p, c));
-    wrote = ap (λ m. set (set m (at + 22) g) (at + 23) 0) (f ∙ cards_run ∙ ap (λ m. sets (set m (at + 15) p) (at + 16) cards) (e ∙ key_run)) ∙ sym whole
-        ∙ ap₂ (λ x y. sets l at (s ∷ length k ∷ x ++ (p ∷ y ++ (g ∷ 0 ∷ [])))) is_key is_cards;
-  }
+  record_stored m₁ m₂ e f = ap (λ m. set (set m (at + 22) g) (at + 23) 0) (f ∙ cards_run ∙ ap (λ m. sets (set m (at + 15) p) (at + 16) cards) (e ∙ key_run)) ∙ sym whole
+      ∙ ap₂ (λ x y. sets l at (s ∷ length k ∷ x ++ (p ∷ y ++ (g ∷ 0 ∷ [])))) is_key is_cards
     where
       key_run : paste (set (set l at s) (at + 1) (length k)) (at + 2) key (length key) ≡ after-key
       key_run = paste-sets head (at + 2) key (length key) (omega (arith, length-head, whole-key)) (omega arith) ∙ ap (sets head (at + 2)) (take_all (length key) key (omega arith))

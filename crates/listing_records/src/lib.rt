@@ -34,22 +34,40 @@ fn padded<const N: usize>(bytes: &[u8]) -> [u8; N]
     whole
 }
 
-impl Record<'_> {
-    // The output and the place are no struct: that would hold a `&mut`, and each clause would speak of what stands behind it before and after.
-    // Writes it from a place of an output on: seat, key length, key, public card or 255, cards, legal count, 0. The place behind it.
-    pub fn put(&self, out: &mut [u8], at: usize) -> usize
-        requires fits { (length self.now.key.now ≤ 13) × (length self.now.cards.now ≤ 6) }
-        requires room { at + 24 ≤ length out.old }
-        ensures { Wrote out.old out.new (self.now.seat ∷ length self.now.key.now ∷ padded 13 self.now.key.now
-            ++ (unwrap_or self.now.public 255 ∷ padded 6 self.now.cards.now ++ (self.now.legal ∷ 0 ∷ []))) at result }
+// An output, and the place behind what was written to it.
+#[derive(Drop)]
+pub struct Writer<'a> {
+    pub out: &'a mut [u8],
+    pub at: usize,
+}
+
+impl<'a> Writer<'a> {
+    // Writes from the start of an output on.
+    pub fn new(out: &'a mut [u8]) -> Writer<'a>
+        ensures output { result.out.ghost_name ≡ out.entry.ghost_name }
+        ensures start { (result.out.now ≡ out.old) × (result.at ≡ 0) }
     {
-        out[at] = self.seat;
-        out[at + 1] = self.key.len() as u8;
-        copy_at(out, at + 2, &padded::<KEY>(self.key));
-        out[at + 15] = self.public.unwrap_or(255);
-        copy_at(out, at + 16, &padded::<CARDS>(self.cards));
-        out[at + 22] = self.legal;
-        out[at + 23] = 0;
-        at + RECORD
+        Writer { out, at: 0 }
+    }
+}
+
+impl Record<'_> {
+    // Writes it: seat, key length, key, public card or 255, cards, legal count, 0.
+    pub fn put(&self, to: &mut Writer)
+        requires fits { (length self.now.key.now ≤ 13) × (length self.now.cards.now ≤ 6) }
+        requires room { to.old.at + 24 ≤ length to.old.out.now }
+        ensures { Wrote to.old to.new (self.now.seat ∷ length self.now.key.now ∷ padded 13 self.now.key.now
+            ++ (unwrap_or self.now.public 255 ∷ padded 6 self.now.cards.now ++ (self.now.legal ∷ 0 ∷ []))) }
+    {
+        let at = to.at;
+        to.out[at] = self.seat;
+        // By `as`, since u8 has no From of a usize.
+        to.out[at + 1] = self.key.len() as u8;
+        copy_at(to.out, at + 2, &padded::<KEY>(self.key));
+        to.out[at + 15] = self.public.unwrap_or(255);
+        copy_at(to.out, at + 16, &padded::<CARDS>(self.cards));
+        to.out[at + 22] = self.legal;
+        to.out[at + 23] = 0;
+        to.at = at + RECORD;
     }
 }

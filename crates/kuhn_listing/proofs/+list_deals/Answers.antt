@@ -3,25 +3,26 @@ use Rattle.std.proofs.Common.{◌≡◌, ◌+◌, ◌-◌, ◌≤◌, ◌<◌, �
 use Rattle.std.specs.List.{list_any}
 use Rattle.prelude.specs.Finite.{has}
 use Rattle.prelude.proofs.Bytes.{has_any}
-use Rattle.listing_records.proofs.Bytes.{wrote_as, wrote_nothing, wrote_append}
+use Rattle.listing_records.proofs.Bytes.{wrote_as, wrote_nothing, wrote_append, wrote-length}
 use Rattle.kuhn_listing.specs.internal.Walk.{next_deals}
-use Rattle.kuhn_listing.proofs.Steps.{deals_none, deals-taken, deals_left, deals_fit, all_lower, full_deal, in_deck_more, popped}
+use Rattle.prelude.proofs.Lists.{popped}
+use Rattle.kuhn_listing.proofs.Steps.{deals_none, deals-taken, deals_left, deals_fit, all_lower, full_deal, in_deck_more}
 use Rattle.kuhn_listing.proofs.+list_deals.Goals.{then-not-contains, else-not-contains}
 use Rattle.kuhn_listing.proofs.+list_deals.Goals as goal
 
-pub list_deal-requires-clause-room : goal.list_deal-requires-clause-room
-list_deal-requires-clause-room t c = let a = c.args in
+pub list-requires : goal.list-requires
+list-requires t c = let a = c.args in
     omega (arith, c.requires.room, ap length (full_deal a.n a.cards.now.items c.as_slice.result.now c.as_slice.ensures.value (sym c.len.ensures.value ∙ c.if-len-n.true)))
 
 pub returns-then-len-n-clause-records : goal.returns-then-len-n-clause-records
 returns-then-len-n-clause-records t c = let a = c.args in
-    wrote_as (sym (full_deal a.n a.cards.now.items c.as_slice.result.now c.as_slice.ensures.value (sym c.len.ensures.value ∙ c.if-len-n.true))) c.list_deal.ensures
+    wrote_as (sym (full_deal a.n a.cards.now.items c.as_slice.result.now c.as_slice.ensures.value (sym c.len.ensures.value ∙ c.if-len-n.true))) c.list.ensures
 
 pub loop-card-init : goal.loop-card-init
 loop-card-init t c = record { wrote = wrote_nothing (deals_none c.args.n c.args.cards.now.items); same = refl }
 
-pub list_deals-next-requires : goal.list_deals-next-requires
-list_deals-next-requires t c = let a = c.args in let cs = a.cards.now.items in let card = c.loop-card.card in
+pub list_deals-requires : goal.list_deals-requires
+list_deals-requires t c = let a = c.args in let cs = a.cards.now.items in let card = c.loop-card.card in
     let few : length cs < a.n = omega (arith, c.requires.deal.2, c.len.ensures.value, c.if-len-n.false) in
     let low : card ≤ a.n = omega (arith, c.loop-card-test.true) in
     let free : has card cs ≡ false = has_any card cs ∙ sym (c.contains.ensures ∙ ap (λ l. list_any (λ b. eqb b card) l) (c.as_slice-in-loop-card.ensures.value ∙ c.loop-card.invariant.same)) ∙ c.if-not-contains.true in
@@ -31,7 +32,7 @@ list_deals-next-requires t c = let a = c.args in let cs = a.cards.now.items in l
       less,
       (
         (c.requires.deal.0, c.requires.deal.1, omega (arith, long, few), in_deck_more a.n cs c.push.new.self.items card is-more low c.requires.deal.3),
-        omega (arith, c.requires.room, c.loop-card.invariant.wrote.next, c.loop-card.auto.out, deals_fit a.n cs card low c.push.new.self.items is-more few free),
+        omega (arith, c.requires.room, c.loop-card.invariant.wrote.next, wrote-length c.loop-card.invariant.wrote, deals_fit a.n cs card low c.push.new.self.items is-more few free),
       ),
     )
 
@@ -43,11 +44,11 @@ loop-card-preserved t c = let a = c.args in let cs = a.cards.now.items in let ca
     elim c.if-not-contains.branch [
       | then-not-contains w ↦
           let is-more : w.push.new.self.items ≡ cs ++ (card ∷ []) = w.push.ensures.items ∙ ap (λ l. l ++ (card ∷ [])) c.loop-card.invariant.same in
-          rw (w.out-is, w.cards-is, w.next-is) (record {
-            wrote = wrote_as (sym (deals_left a.n cs card low w.push.new.self.items is-more (had ∙ w.if-not-contains.true))) (wrote_append c.loop-card.invariant.wrote w.list_deals-next.ensures.records);
-            same = popped cs _ _ card (w.list_deals-next.ensures.same ∙ is-more) w.pop.ensures.rest;
+          rw (w.to-is, w.cards-is) (record {
+            wrote = wrote_as (sym (deals_left a.n cs card low w.push.new.self.items is-more (had ∙ w.if-not-contains.true))) (wrote_append c.loop-card.invariant.wrote w.list_deals.ensures.records);
+            same = popped cs _ _ card (w.list_deals.ensures.same ∙ is-more) w.pop.ensures.rest;
           })
-      | else-not-contains w ↦ rw (w.out-is, w.cards-is, w.next-is) (record {
+      | else-not-contains w ↦ rw (w.to-is, w.cards-is) (record {
         wrote = wrote_as (sym (deals-taken a.n cs card low (had ∙ w.if-not-contains.false))) c.loop-card.invariant.wrote;
         same = c.loop-card.invariant.same;
       })

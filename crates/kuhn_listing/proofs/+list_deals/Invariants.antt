@@ -9,6 +9,6 @@ decreases-list_deals l = l.n - length l.cards.now.items
 
 abbrev pub invariant-loop-card : goal.invariant-loop-card
 invariant-loop-card l = record {
-  wrote : Wrote l.initial.out l.out (next_deals l.n (length l.initial.cards.items) l.initial.cards.items l.card) l.at l.next;
+  wrote : Wrote l.initial.to l.to (next_deals l.n (length l.initial.cards.items) l.initial.cards.items l.card);
   same : l.cards.items ≡ l.initial.cards.items;
 }

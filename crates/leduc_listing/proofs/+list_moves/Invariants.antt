@@ -10,6 +10,6 @@ decreases-list_moves l = l.left
 
 abbrev pub invariant-loop-a : goal.invariant-loop-a
 invariant-loop-a l = record {
-  wrote : Wrote l.initial.out l.out (next_records l.left (placed l.initial.spot) l.a) l.at l.next;
+  wrote : Wrote l.initial.to l.to (next_records l.left (placed l.initial.spot) l.a);
   same : placed l.spot ≡ placed l.initial.spot;
 }

@@ -3,12 +3,7 @@ use Rattle.std.proofs.Common.{ap, sym, ◌∙◌, cond}
 use Rattle.leduc_tree.specs.Tree.{dealt, acted}
 use Rattle.leduc_listing_positions.specs.internal.Spots.{placed}
 use Rattle.leduc_listing.specs.internal.Walk.{moved}
-use Rattle.leduc_listing.proofs.Steps.{none_public}
 use Rattle.leduc_listing.proofs.make.Goals as goal
-
-pub deal-requires : goal.deal-requires
-deal-requires c = let h = c.hand.ensures in let due = rw (h.cards, h.public, h.first, h.second) at c.is_due.ensures in
-    record { hidden = none_public (placed c.args.spot.now) (sym due ∙ c.if-is_due.true) }
 
 pub returns-then-is_due-clause-moved : goal.returns-then-is_due-clause-moved
 unfolding moved

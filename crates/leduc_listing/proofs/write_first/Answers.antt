@@ -35,6 +35,6 @@ put-requires-clause-room c = let h = c.hand-hand.ensures in let live = rw (h.car
 
 pub returns : goal.returns
 returns c = let h = c.hand-hand.ensures in let live = rw (h.cards, h.public, h.first, h.second) at c.is_live.ensures in let q = placed c.args.spot.now in
-    wrote-node q _ _ _ _ _ _ _ _ q.public (sym live ∙ c.if-not-is_live.false) (sym c.is_first.ensures ∙ c.if-not-is_first.false)
+    wrote-node q _ _ _ _ _ _ q.public (sym live ∙ c.if-not-is_live.false) (sym c.is_first.ensures ∙ c.if-not-is_first.false)
     (c.turn.ensures.turn ∙ ap₂ turn h.first h.second) (c.as_slice.ensures.value ∙ c.key-key.ensures) refl h.cards
     (ap length (c.options_of-legal.ensures ∙ ap options (c.in_play.ensures ∙ ap₂ in_play h.first h.second))) c.put.ensures

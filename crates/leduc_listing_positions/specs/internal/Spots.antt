@@ -1,5 +1,5 @@
 -- The position that a spot of the code holds, and its last move taken back: tools of private contracts.
-use Rattle.std.specs.Prelude.{ℕ, List, ◌+◌, ◌-◌, ◌≤◌, length, take, None}
+use Rattle.std.specs.Prelude.{ℕ, List, ◌+◌, ◌-◌, ◌≤◌, length, take}
 use Rattle.leduc_tree.specs.Tree.{Position}
 use Rattle.leduc_listing_positions.specs.declared.Made.{Made}
 use Rattle.leduc_listing_positions.specs.declared.Made.TheVariants.{Card, Public, First, Second}
@@ -22,9 +22,9 @@ pub record Room (s : Spot) (more : ℕ) : Type 0 where
 abbrev pub init : List ℕ → List ℕ
 init xs = take (length xs - 1) xs
 
--- a position without the last card of a seat, the public card, or the last action of a round
+-- a position without the last card of a seat, with the public card that lay there before, or without the last action of a round
 abbrev pub undone : Made → Position → Position
 undone Card q = record { cards = init q.cards; public = q.public; first = q.first; second = q.second }
-undone Public q = record { cards = q.cards; public = None; first = q.first; second = q.second }
+undone (Public p) q = record { cards = q.cards; public = p; first = q.first; second = q.second }
 undone First q = record { cards = q.cards; public = q.public; first = init q.first; second = q.second }
 undone Second q = record { cards = q.cards; public = q.public; first = q.first; second = init q.second }
