@@ -1,4 +1,5 @@
-// The payoffs of an end, a byte each: 64 is 0.
+// The payoffs of an end, a byte each: 64 is 0. The one cast is by `as`, since std has no From between i64 and u64. A seat stays a number, of which each
+// function asks that the word has a byte for it: a type would be made for each call and taken apart in it.
 ghost use Rattle.std.specs.Prelude.{◌≡◌, ◌<◌};
 ghost use Rattle.arena.specs.internal.Words.{byte_of, payoff_of};
 

@@ -19,7 +19,8 @@ pub fn behind(w: &[u64], a: usize) -> usize
     }
 }
 
-// How many trees stand between place a and place end.
+// How many trees stand between place a and place end. Counted by hand, since it follows links from node to node: an
+// iterator of these places would serve this loop and one other that writes no word, and would be longer than both.
 pub fn fan(w: &[u64], a: usize, end: usize) -> usize
     requires { a < 8388608 }
     ensures { Fan w.now a end result }

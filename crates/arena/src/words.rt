@@ -1,4 +1,5 @@
-// The word of a node, and reading, writing and clearing words.
+// The word of a node, and reading, writing and clearing words. Numbers go into a word and out of it by `as`, since std has no From between usize and u64.
+// Places are plain numbers, of which the makers of words ask that 21 bits hold them: they are sums elsewhere, and a type would be taken apart at each.
 ghost use Rattle.std.specs.Prelude.{◌≡◌, ◌+◌, ◌*◌, ◌<◌, ◌≤◌, ◌↔◌, get_or, set};
 ghost use Rattle.arena.specs.internal.Index.{Cleared};
 ghost use Rattle.arena.specs.internal.Words.{END, CHANCE, DECISION, kind_of, actor_of, actions_of, set_of, next_of, later_of, decision_word, chance_word, PLACES};
@@ -57,7 +58,7 @@ pub fn next(x: u64) -> usize
     (x / PLACES % PLACES) as usize
 }
 
-// The next member of its set, 0 at the last.
+// The next member of its set; 0 at the last, as the word has it: no member stands at place 0 behind another.
 pub fn later(x: u64) -> usize
     ensures { result ≡ later_of x }
 {
@@ -91,8 +92,8 @@ pub fn word(w: &[u64], i: usize) -> u64
     if i < w.len() { w[i] } else { 0 }
 }
 
-// Writes x at place i, where there is one.
-pub fn put(w: &mut [u64], i: usize, x: u64)
+// Writes x at place i, where there is one: a word of the memory, or a byte of a table.
+pub fn put<T: Copy>(w: &mut [T], i: usize, x: T)
     ensures { w.new ≡ set w.old i x }
 {
     if i < w.len() {

@@ -20,7 +20,7 @@ use Rattle.game_tree.proofs.Entries.{entry-inside, entry-apart}
 use Rattle.arena.specs.internal.Words.{actor_of, actions_of, set_of, next_of, PLACES}
 use Rattle.arena.specs.internal.Held.{Says, SaysAll}
 use Rattle.arena.specs.internal.Index.{first_of, later_in, unlinked, Coded, Indexed}
-use Rattle.arena_index.specs.internal.Indexing.{Numbered, is_known, entry_of, relinked, pushed, linked}
+use Rattle.arena_index.specs.internal.Indexing.{Numbered, entry_of, relinked, pushed, linked}
 use Rattle.arena.proofs.Packing.{kind_of_lem, actor_of_lem, actions_of_lem, set_of_lem, next_of_lem, later_of_lem}
 use Rattle.arena_index.proofs.Steps.{linked_kind, linked-known}
 use Rattle.arena.proofs.Nodes.{says→held, none, node, held-node}

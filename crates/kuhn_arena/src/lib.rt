@@ -14,7 +14,8 @@ use arrayvec::ArrayVec;
 use kuhn_arena_hands::before_bet;
 use prelude::contains;
 
-// Lays out the tree below a deal to the first of n seats, at place at, the children by ascending card; the place behind it.
+// Lays out the tree below a deal to the first of n seats, at place at, the children by ascending card; the place behind it. The words and the place are no
+// struct: each part of a tree has a place of its own, and the word of a chance node comes once the place behind its children is known.
 fn deal(w: &mut [u64], at: usize, n: usize, cards: &mut ArrayVec<u8, 6>) -> usize
     requires dealing { Dealing n cards.old.items }
     requires room { Room at w.old (size (deal_at n cards.old.items)) }
@@ -27,6 +28,7 @@ fn deal(w: &mut [u64], at: usize, n: usize, cards: &mut ArrayVec<u8, 6>) -> usiz
     let mut next = at + 1;
     for card in 0..n + 1 {
         if !contains(cards.as_slice(), card) {
+            // By `as`, since u8 has no From of a usize.
             cards.push(card as u8);
             next = deal(w, next, n, cards);
             cards.pop();

@@ -13,7 +13,8 @@ use kuhn_arena_words::{Money, decision_word, highest, unit};
 // The word of an end at which each of six seats has lost its ante.
 const ANTES: u64 = 0xFCFCFCFCFCFC;
 
-// Lays out a hand without a bet from a seat's turn on, at place at; the place behind it.
+// Lays out a hand without a bet from a seat's turn on, at place at; the place behind it. The words and the place are no struct: each part of a tree has a place
+// of its own, and the word of a decision comes once the places of its parts are known. n becomes a u64 by `as`, since std has no From between the two.
 pub fn before_bet(w: &mut [u64], at: usize, cards: &[u8], number: usize, seat: usize) -> usize
     requires passing { Passing (length cards.now) cards.now (history_at number) seat number }
     requires room { Room at w.old (size (before_at (length cards.now) cards.now number (length cards.now - seat))) }
@@ -37,7 +38,7 @@ pub fn before_bet(w: &mut [u64], at: usize, cards: &[u8], number: usize, seat: u
         winner: seat,
     };
     let after = (seat + 1) % n;
-    let behind = after_bet(w, bet, cards, 2 * number + 2, after, n - 1, first_bet);
+    let behind = after_bet(w, bet, cards, 2 * number + 2, after, n - 1, &first_bet);
     put(w, at, decision_word(cards, number, seat, behind));
     behind
 }

@@ -83,10 +83,6 @@ module _ (n : ℕ) (cs : List ℕ) where
         reached = deal c p.reached (lt-ltb (length cs) n less) (both (le-leb c n low) (ap not free));
       })
 
--- the last of a list is taken off again
-pub popped : (xs full rest : List ℕ) (x : ℕ) → full ≡ xs ++ (x ∷ []) → rest ≡ take (length full - 1) full → rest ≡ xs
-popped xs full rest x e f = f ∙ rw e (ap (λ k. take k (xs ++ (x ∷ []))) (let n : length (xs ++ (x ∷ [])) - 1 ≡ length xs = omega (arith, length-append xs (x ∷ [])) in n) ∙ take-append_seam xs (x ∷ []))
-
 -- ---- a deal
 chance_of : (n : ℕ) (cs : List ℕ) → length cs < n → deal_at n cs ≡ chance (children_to n cs (n + 1))
 unfolding deal_at deals children_to remaining

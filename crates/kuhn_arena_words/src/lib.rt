@@ -48,7 +48,7 @@ impl Money {
     }
 }
 
-// The word of the decision of a seat, of a history with the given number.
+// The word of the decision of a seat, of a history with the given number. Of next it asks what the makers of words ask of a place.
 pub fn decision_word(cards: &[u8], number: usize, seat: usize, next: usize) -> u64
     requires { (length cards.now ≤ 6) × (number ≤ 2046) × (seat < length cards.now) × (next < PLACES) }
     ensures word { result ≡ decision_word seat 2 (number * (length cards.now + 1) + get_or cards.now seat 0) next 0 }

@@ -40,8 +40,8 @@ impl Round for First {
 
     const RAISE: usize = 2;
 
-    fn code(&self, seat: usize) -> usize {
-        if seat == 0 { self.zero } else { self.one }
+    fn codes(&self) -> [usize; 2] {
+        [self.zero, self.one]
     }
 
     fn close(&self, w: &mut [u64], at: usize, number: usize, paid: usize) -> usize {

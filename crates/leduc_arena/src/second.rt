@@ -18,6 +18,7 @@ pub struct Second {
 }
 
 // How seat 0 fares in the showdown: a pair with the public card wins, else the higher rank.
+#[tactic(auto, using(std::proofs::lemmas::Bool::Decides::nat_tests), unfolding(leduc_arena_layout::specs::internal::Layout::showdown_for))]
 fn showdown(c: usize, d: usize, p: usize) -> Ordering
     ensures { ordering_index result ≡ showdown_for c d p }
 {
@@ -68,8 +69,8 @@ impl Round for Second {
 
     const RAISE: usize = 4;
 
-    fn code(&self, seat: usize) -> usize {
-        if seat == 0 { self.zero } else { self.one }
+    fn codes(&self) -> [usize; 2] {
+        [self.zero, self.one]
     }
 
     fn close(&self, w: &mut [u64], at: usize, _number: usize, paid: usize) -> usize {

@@ -3,13 +3,12 @@
 
 pub mod words;
 
-ghost use Rattle.std.specs.Prelude.{◌≡◌, cond, ℕ, ◌+◌, ◌*◌, ◌<◌, ◌≤◌, eqb, length};
+ghost use Rattle.std.specs.Prelude.{◌≡◌, cond, [], ◌∷◌, ℕ, ◌+◌, ◌*◌, ◌<◌, ◌≤◌, eqb};
 ghost use Rattle.std.specs.Ordering.{ordering_index};
 ghost use Rattle.game_tree.specs.Tree.{Tree};
 ghost use Rattle.game_tree.specs.Sets.{size};
 ghost use Rattle.arena.specs.internal.Built.{Built, Room};
-ghost use Rattle.arena.specs.internal.Words.{PLACES};
-ghost use Rattle.leduc_arena_layout.specs.internal.Layout.{plain, raised_tree, called_tree, round_tree, Chosen, Raise};
+ghost use Rattle.leduc_arena_layout.specs.internal.Layout.{plain, raised_tree, called_tree, round_tree, Raise};
 
 use std::cmp::Ordering;
 use words::{end, write_decision};
@@ -19,8 +18,8 @@ const RERAISES: usize = 1;
 
 // A round, at its start.
 pub trait Round {
-    // A seat's code is that at the start, with BASE and the number of the history added. That number is twice the number of the actions before,
-    // and STEP more for CALL or two steps more for RAISE.
+    // What a seat's code has beside its code at the start and the number of the history. That number is twice the number of the actions before, and STEP more
+    // for CALL or two steps more for RAISE.
     const BASE: usize;
 
     const STEP: usize;
@@ -44,9 +43,9 @@ pub trait Round {
     // The tree behind a history that closes the round, by its number and by what each seat has paid.
     ghost closed: { Self → ℕ → ℕ → Tree };
 
-    // The code of a seat at the start.
-    fn code(&self, seat: usize) -> usize
-        ensures { (result ≡ cond (eqb seat 0) (zero self.now) (one self.now)) × (result ≤ 9743) };
+    // The codes of seat 0 and of seat 1 at the start.
+    fn codes(&self) -> [usize; 2]
+        ensures { (result ≡ zero self.now ∷ one self.now ∷ []) × (zero self.now ≤ 9743) × (one self.now ≤ 9743) };
 
     // Lays out what follows a history that closes the round, at place at; the place behind it. The words and the place are no struct: each part of a tree
     // has a place of its own, and the word of a decision comes once the places of its parts are known.
@@ -58,7 +57,7 @@ pub trait Round {
     ghost small: { (STEP ≤ 462) × (BASE ≤ 36) × (most + 2 * RAISE ≤ 13) };
 }
 
-// How seat 0 fares where a seat folds.
+// How seat 0 fares where a seat folds. A seat stays a number below 2, here and below: the words, the codes' places and the definitions have it as one.
 fn folding(seat: usize) -> Ordering
     requires { seat < 2 }
     ensures { ordering_index result ≡ 2 * seat }
@@ -70,57 +69,53 @@ fn folding(seat: usize) -> Ordering
     }
 }
 
-// Writes the decision of a seat after a history with the given number, where the trees of its actions end at next.
-fn decide<R: Round>(
-    round: &R,
-    w: &mut [u64],
-    at: usize,
-    seat: usize,
-    actions: usize,
-    number: usize,
-    next: usize,
-)
-    requires few { (seat < 2) × (actions < 4) × (number ≤ 10 * R.STEP) }
-    requires next_bound { (next < PLACES) × (at < length w.old) }
-    ensures { Chosen at seat actions (cond (eqb seat 0) (R.zero round.now) (R.one round.now) + (number + R.BASE)) next w.old w.new }
+// The code of a seat after a history with the given number.
+fn code<R: Round>(round: &R, seat: usize, number: usize) -> usize
+    requires { (seat < 2) × (number ≤ 10 * R.STEP) }
+    ensures { (result ≡ cond (eqb seat 0) (R.zero round.now) (R.one round.now) + (number + R.BASE)) × (result < 16384) }
 {
-    let code = round.code(seat) + (number + R::BASE);
-    write_decision(w, at, seat, actions, code, next);
+    round.codes()[seat] + (number + R::BASE)
 }
 
-// Lays out FOLD, CALL and, while left raises may come, RAISE after a raise;
-// below a RAISE left falls. The seat has paid so much.
-fn after_raise<R: Round>(
-    round: &R,
-    w: &mut [u64],
-    at: usize,
+// A history that ends with a raise: the seat to act, the number of the history, what the seat has paid, and how many raises may still come.
+#[derive(Clone, Copy)]
+struct Raised {
     seat: usize,
     number: usize,
     paid: usize,
     left: usize,
-) -> usize
-    requires raise { (seat < 2) × Raise R.STEP R.RAISE R.most number paid left }
-    requires room { Room at w.old (size (raised_tree (R.zero round.now) (R.one round.now) R.BASE R.STEP R.RAISE (R.closed round.now) left seat number paid)) }
-    ensures { Built 2 plain at w.old w.new
-        (raised_tree (R.zero round.now) (R.one round.now) R.BASE R.STEP R.RAISE (R.closed round.now) left seat number paid) result }
+    ghost known: { seat < 2 },
+}
+
+// Lays out FOLD, CALL and, while raises may come, RAISE after a raise; below a RAISE one fewer may come.
+fn after_raise<R: Round>(round: &R, w: &mut [u64], at: usize, raised: Raised) -> usize
+    requires raise { Raise R.STEP R.RAISE R.most raised.number raised.paid raised.left }
+    requires room { Room at w.old (size (raised_tree (R.zero round.now) (R.one round.now) R.BASE R.STEP R.RAISE (R.closed round.now)
+        raised.left raised.seat raised.number raised.paid)) }
+    ensures { Built 2 plain at w.old w.new (raised_tree (R.zero round.now) (R.one round.now) R.BASE R.STEP R.RAISE (R.closed round.now)
+        raised.left raised.seat raised.number raised.paid) result }
 {
+    let Raised {
+        seat,
+        number,
+        paid,
+        left,
+    } = raised;
     let more = paid + R::RAISE;
     let call = end(w, at + 1, folding(seat), paid);
     let raise = round.close(w, call, 2 * number + R::STEP, more);
     if left == 0 {
-        decide(round, w, at, seat, 2, number, raise);
+        write_decision(w, at, seat, 2, code(round, seat, number), raise);
         return raise;
     }
-    let next = after_raise(
-        round,
-        w,
-        raise,
-        1 - seat,
-        2 * number + 2 * R::STEP,
-        more,
-        left - 1,
-    );
-    decide(round, w, at, seat, 3, number, next);
+    let again = Raised {
+        seat: 1 - seat,
+        number: 2 * number + 2 * R::STEP,
+        paid: more,
+        left: left - 1,
+    };
+    let next = after_raise(round, w, raise, again);
+    write_decision(w, at, seat, 3, code(round, seat, number), next);
     next
 }
 
@@ -131,8 +126,14 @@ fn after_call<R: Round>(round: &R, w: &mut [u64], at: usize, paid: usize) -> usi
     ensures { Built 2 plain at w.old w.new (called_tree (R.zero round.now) (R.one round.now) R.BASE R.STEP R.RAISE (R.closed round.now) paid) result }
 {
     let raise = round.close(w, at + 1, 3 * R::STEP, paid);
-    let next = after_raise(round, w, raise, 0, 4 * R::STEP, paid, RERAISES);
-    decide(round, w, at, 1, 2, R::STEP, next);
+    let raised = Raised {
+        seat: 0,
+        number: 4 * R::STEP,
+        paid,
+        left: RERAISES,
+    };
+    let next = after_raise(round, w, raise, raised);
+    write_decision(w, at, 1, 2, code(round, 1, R::STEP), next);
     next
 }
 
@@ -143,7 +144,13 @@ pub fn lay_out<R: Round>(round: &R, w: &mut [u64], at: usize, paid: usize) -> us
     ensures { Built 2 plain at w.old w.new (round_tree (R.zero round.now) (R.one round.now) R.BASE R.STEP R.RAISE (R.closed round.now) paid) result }
 {
     let raise = after_call(round, w, at + 1, paid);
-    let next = after_raise(round, w, raise, 1, 2 * R::STEP, paid, RERAISES);
-    decide(round, w, at, 0, 2, 0, next);
+    let raised = Raised {
+        seat: 1,
+        number: 2 * R::STEP,
+        paid,
+        left: RERAISES,
+    };
+    let next = after_raise(round, w, raise, raised);
+    write_decision(w, at, 0, 2, code(round, 0, 0), next);
     next
 }

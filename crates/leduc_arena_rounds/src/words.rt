@@ -10,10 +10,12 @@ use arena::words::decision;
 use std::cmp::Ordering;
 
 // The byte of a seat that has paid so much, by how it fares against the other seat: 64 stands for a payoff of 0.
+#[tactic(auto, unfolding(leduc_arena_layout::specs::internal::Layout::byte_for))]
 fn byte(outcome: Ordering, paid: usize) -> u64
     requires { paid ≤ 13 }
     ensures { (result ≡ byte_for (ordering_index outcome) paid) × (result < 128) }
 {
+    // Casts: u64 has no From for usize.
     match outcome {
         Ordering::Less => 64 - paid as u64,
         Ordering::Equal => 64,
@@ -30,7 +32,8 @@ pub fn end(w: &mut [u64], at: usize, outcome: Ordering, paid: usize) -> usize
     at + 1
 }
 
-// Writes a seat's decision in the set of a code, where the trees of its actions end at next.
+// Writes a seat's decision in the set of a code, where the trees of its actions end at next. It asks what the packing of a word asks of its parts: types of a
+// seat, a number of actions, a code and a place would be made for this call and be taken apart in it.
 pub fn write_decision(
     w: &mut [u64],
     at: usize,

@@ -3,6 +3,7 @@ use Rattle.std.proofs.Common.{◌≡◌, ◌+◌, ◌-◌, ◌≤◌, ◌<◌, �
 use Rattle.std.specs.List.{list_any}
 use Rattle.prelude.specs.Finite.{has}
 use Rattle.prelude.proofs.Bytes.{has_any}
+use Rattle.prelude.proofs.Lists.{popped}
 use Rattle.kuhn_arena_layout.proofs.Deals as deals
 use Rattle.kuhn_arena.proofs.+deal.Goals.{then-not-contains, else-not-contains}
 use Rattle.kuhn_arena.proofs.+deal.Goals as goal
@@ -49,7 +50,7 @@ loop-card-preserved t c = let a = c.args in let cs = a.cards.now.items in let ca
           let is-more : w.push.new.self.items ≡ cs ++ (card ∷ []) = w.push.ensures.items ∙ ap (λ l. l ++ (card ∷ [])) c.loop-card.invariant.same in
           rw (w.w-is, w.cards-is, w.next-is) (record {
             built = deals.child_on a.n cs a.at a.w.now c.requires.dealing c.requires.room less c.loop-card.invariant.built low (had ∙ w.if-not-contains.true) _ is-more w.deal-next.ensures.built;
-            same = deals.popped cs _ _ card (w.deal-next.ensures.same ∙ is-more) w.pop.ensures.rest;
+            same = popped cs _ _ card (w.deal-next.ensures.same ∙ is-more) w.pop.ensures.rest;
           })
       | else-not-contains w ↦ rw (w.w-is, w.cards-is, w.next-is) (record {
         built = deals.child_passed a.n cs a.at a.w.now c.requires.dealing c.requires.room less c.loop-card.invariant.built low (had ∙ w.if-not-contains.false);

@@ -2,4 +2,4 @@
 use Rattle.leduc_arena_rounds.proofs.+after_raise.Given as goal
 
 abbrev pub decreases-after_raise : goal.decreases-after_raise
-decreases-after_raise g l = l.left
+decreases-after_raise g l = l.raised.left

@@ -11,11 +11,13 @@ pub after_raise-next-requires-clause-room : goal.after_raise-next-requires-claus
 unfolding called_tree
 after_raise-next-requires-clause-room g c = rw c.STEP-2.ensures (room_two _ _ _ _ _ (rw c.STEP.ensures at c.close-raise.ensures) c.requires.room)
 
-pub decide-requires-clause-next_bound : goal.decide-requires-clause-next_bound
+pub write_decision-requires-clause-next_bound : goal.write_decision-requires-clause-next_bound
 unfolding called_tree
-decide-requires-clause-next_bound g c = two_fit _ _ (rw c.STEP.ensures at c.close-raise.ensures) (rw c.STEP-2.ensures at c.after_raise-next.ensures) c.requires.room
+write_decision-requires-clause-next_bound g c = two_fit _ _ (rw c.STEP.ensures at c.close-raise.ensures)
+    (rw c.STEP-2.ensures at c.after_raise-next.ensures) c.requires.room
 
 pub returns : goal.returns
 unfolding called_tree
 returns g c =
-    lays_two _ _ (rw c.STEP.ensures at c.close-raise.ensures) (rw c.STEP-2.ensures at c.after_raise-next.ensures) c.requires.room (rw c.STEP-3.ensures at c.decide.ensures)
+    lays_two _ _ (rw c.STEP.ensures at c.close-raise.ensures) (rw c.STEP-2.ensures at c.after_raise-next.ensures) c.requires.room
+    (rw (c.code.ensures.0, c.STEP-3.ensures) at c.write_decision.ensures)

@@ -11,10 +11,11 @@ pub after_raise-next-requires-clause-room : goal.after_raise-next-requires-claus
 unfolding round_tree
 after_raise-next-requires-clause-room g c = rw c.STEP.ensures (room_two _ _ _ _ _ c.after_call-raise.ensures c.requires.room)
 
-pub decide-requires-clause-next_bound : goal.decide-requires-clause-next_bound
+pub write_decision-requires-clause-next_bound : goal.write_decision-requires-clause-next_bound
 unfolding round_tree
-decide-requires-clause-next_bound g c = two_fit _ _ c.after_call-raise.ensures (rw c.STEP.ensures at c.after_raise-next.ensures) c.requires.room
+write_decision-requires-clause-next_bound g c = two_fit _ _ c.after_call-raise.ensures (rw c.STEP.ensures at c.after_raise-next.ensures) c.requires.room
 
 pub returns : goal.returns
 unfolding round_tree
-returns g c = lays_two _ _ c.after_call-raise.ensures (rw c.STEP.ensures at c.after_raise-next.ensures) c.requires.room c.decide.ensures
+returns g c = lays_two _ _ c.after_call-raise.ensures (rw c.STEP.ensures at c.after_raise-next.ensures) c.requires.room
+    (rw c.code.ensures.0 at c.write_decision.ensures)

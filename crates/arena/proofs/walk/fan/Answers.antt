@@ -1,21 +1,9 @@
 use native.Mathlib.Omega.{arith}
-use Rattle.arena.proofs.Walking.{along-start, along_more, along_end, along_stuck}
+use Rattle.arena.proofs.Walking.{along_more, along_end, along_stuck}
 use Rattle.arena.proofs.walk.fan.Goals as goal
-
-pub loop-at-init : goal.loop-at-init
-loop-at-init c = (along-start _ _ _, omega arith, omega arith)
-
-pub behind-next-requires : goal.behind-next-requires
-behind-next-requires c = omega (arith, c.loop-at-test.true)
 
 pub returns-then-next-at : goal.returns-then-next-at
 returns-then-next-at c = along_stuck _ _ _ _ _ _ c.loop-at.invariant.0 c.loop-at-test.true c.behind-next.ensures c.if-next-at.true
-
-pub overflow_add-count : goal.overflow_add-count
-overflow_add-count c = record { fits = omega (arith, c.loop-at.invariant.1, c.loop-at.invariant.2) }
-
-pub loop-at-smaller : goal.loop-at-smaller
-loop-at-smaller c = omega (arith, c.loop-at-test.true, c.if-next-at.false)
 
 pub loop-at-preserved : goal.loop-at-preserved
 loop-at-preserved c = let b = c.behind-next.ensures in

@@ -1,6 +1,6 @@
 use native.Mathlib.Omega.{arith}
 use Rattle.arena_index.proofs.Numbering.{walked_start, walked_more, walked_end, met-few}
-use Rattle.arena_index.proofs.number.Goals as goal
+use Rattle.arena_index.proofs.Layout.number.Goals as goal
 
 pub loop-a-init : goal.loop-a-init
 loop-a-init c = (walked_start _ _, omega arith)

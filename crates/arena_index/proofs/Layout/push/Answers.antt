@@ -1,6 +1,6 @@
 use mathlib.Core.Path.{refl, ◌∙◌}
 use Rattle.arena_index.proofs.Steps.{pushed_by}
-use Rattle.arena_index.proofs.push.Goals as goal
+use Rattle.arena_index.proofs.Layout.push.Goals as goal
 
 pub returns : goal.returns
 returns c = pushed_by _ _ _ _ _ _ c.args.w.now _ _ c.word-later.ensures
