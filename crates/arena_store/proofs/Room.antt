@@ -18,8 +18,7 @@ use Rattle.games.specs.Known.{Known}
 use Rattle.games.proofs.Known.{kuhn_two, kuhn-six}
 use Rattle.kuhn_arena_layout.proofs.Start.{by_seats}
 use Rattle.arena_store.specs.internal.Stored.{codes_of}
-use Rattle.arena_walks.specs.declared.Places.{Places}
-use Rattle.arena_store.specs.internal.Places.{kept_at, places_of}
+use Rattle.arena_store.specs.internal.Places.{kept_at}
 
 -- a chance node
 unfoldable pub Deals : Tree → Type 0
@@ -77,7 +76,3 @@ module _ (g : Game) (a : Known g) where
       at : Tested (eqb g.number 0) → Deals (tree_of g)
       at (holds t) = let k = eqb-true g.number 0 t in rw t (subst Deals (sym (kuhn-deals 1 1 g.seats)) (kuhn g.seats (kuhn_two g a k)))
       at (fails t) = rw t (subst Deals (sym (Leduc-facts.deals_first 1 2 4)) tt)
-
--- the places are near
-pub places_near : (g : Game) → Known g → (p : Places) → p ≡ places_of g → (p.heads ≤ 8388608) × (p.reach ≤ 8388608) × (p.kept ≤ 8388608)
-places_near g a p q = rw q (omega (arith, (roomy g a).near), omega (arith, (roomy g a).near), omega (arith, (roomy g a).near))

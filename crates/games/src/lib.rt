@@ -2,6 +2,7 @@
 #![tactic(auto)]
 
 pub mod seats;
+pub mod tree;
 
 ghost use Rattle.std.specs.Prelude.{◌≡◌, [], ◌∷◌, ◌≤◌, ◌<◌, IfOk, get_or};
 ghost use Rattle.refusals.specs.Outcomes.{number_of};
@@ -108,7 +109,7 @@ const LEDUC: Measures = Measures {
 };
 
 impl Game {
-    // The games' numbers.
+    // The games' numbers. They stay numbers, since a caller of C names a game by one.
     pub const KUHN: usize = 0;
 
     pub const LEDUC: usize = 1;
@@ -121,10 +122,10 @@ impl Game {
         ensures refused { number_of result ≡ first (game_check (game_of number seats) ∷ seats_check (game_of number seats) ∷ []) }
         ensures made { IfOk result (λ game. numbered game ≡ game_of number seats) }
     {
-        match number {
-            Self::KUHN if 2 <= seats && seats <= 10 => Ok(Game::Kuhn(Seats { count: seats })),
-            Self::LEDUC if seats == 2 => Ok(Game::Leduc),
-            Self::KUHN | Self::LEDUC => Err(Refusal::Seats),
+        match (number, seats) {
+            (Self::KUHN, 2..=10) => Ok(Game::Kuhn(Seats { count: seats })),
+            (Self::LEDUC, 2) => Ok(Game::Leduc),
+            (Self::KUHN | Self::LEDUC, _) => Err(Refusal::Seats),
             _ => Err(Refusal::Game),
         }
     }

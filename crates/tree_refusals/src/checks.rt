@@ -15,14 +15,16 @@ ghost use Rattle.tree_refusals.specs.internal.Accepted.{AcceptedProfile};
 
 use crate::accepted::{GameProfile, GameTable};
 use games::Game;
+use games::tree::GameTree;
 use refusals::Refusal;
 
 // The most nodes of a tree.
 const MOST_NODES: usize = 4000000;
 
 // 1 to 4: the game of a number and a seat count, with so many words of work memory.
-pub fn check_tree(number: usize, seats: usize, memory: usize) -> Result<Game, Refusal>
-    ensures made { IfOk result (λ game. numbered game ≡ game_of number seats) }
+#[tactic(auto, using(games::proofs::Numbered::known_if_small))]
+pub fn check_tree(number: usize, seats: usize, memory: usize) -> Result<GameTree, Refusal>
+    ensures made { IfOk result (λ tree. numbered tree.game ≡ game_of number seats) }
     ensures refused { Settled (tree_checks (game_of number seats) memory)
         (Known (game_of number seats) × (12 * nodes_of (game_of number seats) ≤ memory)) (number_of result) }
 {
@@ -34,7 +36,7 @@ pub fn check_tree(number: usize, seats: usize, memory: usize) -> Result<Game, Re
     if memory < Game::WORDS * nodes {
         return Err(Refusal::Memory);
     }
-    Ok(game)
+    Ok(GameTree { game })
 }
 
 // 5: a seat.
@@ -92,33 +94,32 @@ fn adds_up(game: Game, table: &[u8], d: usize) -> bool
 }
 
 // 6 to 8: a table with d parts in each set.
-pub fn check_table<'a>(game: Game, d: usize, table: &'a [u8]) -> Result<GameTable<'a>, Refusal>
-    requires { Known (numbered game) }
-    ensures made { IfOk result (λ t. (numbered t.game ≡ numbered game) × (t.parts ≡ d) × (t.entries.now ≡ table.now)) }
-    ensures refused { Settled (parts_check (numbered game) d ∷ length_check (numbered game) (length table.now) ∷ sum_check (numbered game) d table.now ∷ [])
-        (AcceptedTable (numbered game) d table.now) (number_of result) }
+pub fn check_table<'a>(tree: GameTree, d: usize, table: &'a [u8]) -> Result<GameTable<'a>, Refusal>
+    ensures made { IfOk result (λ t. (numbered t.tree.game ≡ numbered tree.game) × (t.parts ≡ d) × (t.entries.now ≡ table.now)) }
+    ensures refused { Settled (parts_check (numbered tree.game) d ∷ length_check (numbered tree.game) (length table.now)
+        ∷ sum_check (numbered tree.game) d table.now ∷ []) (AcceptedTable (numbered tree.game) d table.now) (number_of result) }
 {
-    check_parts(game, d)?;
-    check_length(game, table.len())?;
-    if !adds_up(game, table, d) {
+    check_parts(tree.game, d)?;
+    check_length(tree.game, table.len())?;
+    if !adds_up(tree.game, table, d) {
         return Err(Refusal::Sum);
     }
     Ok(GameTable {
-        game,
+        tree,
         parts: d,
         entries: table,
     })
 }
 
 // 7: a profile.
-pub fn check_profile<'a>(game: Game, profile: &'a [f64]) -> Result<GameProfile<'a>, Refusal>
-    requires { Known (numbered game) }
-    ensures made { IfOk result (λ p. (numbered p.game ≡ numbered game) × (p.entries.now ≡ profile.now)) }
-    ensures refused { Settled (length_check (numbered game) (length profile.now) ∷ []) (AcceptedProfile (numbered game) profile.now) (number_of result) }
+pub fn check_profile<'a>(tree: GameTree, profile: &'a [f64]) -> Result<GameProfile<'a>, Refusal>
+    ensures made { IfOk result (λ p. (numbered p.tree.game ≡ numbered tree.game) × (p.entries.now ≡ profile.now)) }
+    ensures refused { Settled (length_check (numbered tree.game) (length profile.now) ∷ [])
+        (AcceptedProfile (numbered tree.game) profile.now) (number_of result) }
 {
-    check_length(game, profile.len())?;
+    check_length(tree.game, profile.len())?;
     Ok(GameProfile {
-        game,
+        tree,
         entries: profile,
     })
 }

@@ -1,5 +1,5 @@
 // What a call that needs a game's tree is given, checked before a word of work memory is written: the tree first, and behind it the rest in the order of the
-// numbers. The first refusal decides.
+// numbers. The first refusal decides. The number of a game, its seats and the length of the memory go in beside one another, as C's calls have them.
 #![tactic(auto)]
 
 pub mod accepted;
@@ -19,7 +19,7 @@ ghost use Rattle.tree_refusals.specs.internal.Accepted.{AcceptedProfile};
 
 use crate::accepted::{GameProfile, GameTable};
 use crate::checks::{check_output, check_profile, check_seat, check_table, check_tree};
-use games::Game;
+use games::tree::GameTree;
 use refusals::Refusal;
 
 // The game of a listing into an output of room bytes, with so many words of work memory (enumerate_infosets): 1 to 4, then 9.
@@ -28,14 +28,14 @@ pub fn check_listing(
     seats: usize,
     memory: usize,
     room: usize,
-) -> Result<Game, Refusal>
-    ensures made { IfOk result (λ game. numbered game ≡ game_of number seats) }
+) -> Result<GameTree, Refusal>
+    ensures made { IfOk result (λ tree. numbered tree.game ≡ game_of number seats) }
     ensures refused { Settled (listing_checks (game_of number seats) memory room)
         (Known (game_of number seats) × (24 * set_count (tree_of (game_of number seats)) ≤ room)) (number_of result) }
 {
-    let game = check_tree(number, seats, memory)?;
-    check_output(listing_records::RECORD * game.sets(), room)?;
-    Ok(game)
+    let tree = check_tree(number, seats, memory)?;
+    check_output(listing_records::RECORD * tree.game.sets(), room)?;
+    Ok(tree)
 }
 
 // The table of a call that evaluates all seats of one with d parts in each set (worths, nash_conv_units): 1 to 4, then 6 to 8.
@@ -46,15 +46,15 @@ pub fn check_evaluation<'a>(
     d: usize,
     table: &'a [u8],
 ) -> Result<GameTable<'a>, Refusal>
-    ensures made { IfOk result (λ t. (numbered t.game ≡ game_of number seats) × (t.parts ≡ d) × (t.entries.now ≡ table.now)) }
+    ensures made { IfOk result (λ t. (numbered t.tree.game ≡ game_of number seats) × (t.parts ≡ d) × (t.entries.now ≡ table.now)) }
     ensures refused { Settled (evaluation_checks (game_of number seats) memory d table.now)
         (AcceptedTable (game_of number seats) d table.now × (12 * nodes_of (game_of number seats) ≤ memory)) (number_of result) }
 {
-    let game = check_tree(number, seats, memory)?;
-    check_table(game, d, table)
+    let tree = check_tree(number, seats, memory)?;
+    check_table(tree, d, table)
 }
 
-// The table of a call that evaluates one seat into an output of room bytes (best_reply): 1 to 9.
+// The table of a call that evaluates one seat into an output of room bytes (best_reply): 1 to 9. C's call has the same parameters.
 pub fn check_reply<'a>(
     number: usize,
     seats: usize,
@@ -64,14 +64,15 @@ pub fn check_reply<'a>(
     table: &'a [u8],
     room: usize,
 ) -> Result<GameTable<'a>, Refusal>
-    ensures made { IfOk result (λ t. (numbered t.game ≡ game_of number seats) × (t.parts ≡ d) × (t.entries.now ≡ table.now)) }
+    ensures made { IfOk result (λ t. (numbered t.tree.game ≡ game_of number seats) × (t.parts ≡ d) × (t.entries.now ≡ table.now)) }
     ensures refused { Settled (reply_checks (game_of number seats) memory seat d table.now room)
         (AcceptedTable (game_of number seats) d table.now × (12 * nodes_of (game_of number seats) ≤ memory) × (seat < seats)
         × (entries (tree_of (game_of number seats)) ≤ room)) (number_of result) }
 {
-    let game = check_tree(number, seats, memory)?;
+    let tree = check_tree(number, seats, memory)?;
+    let game = tree.game;
     check_seat(game, seat)?;
-    let table = check_table(game, d, table)?;
+    let table = check_table(tree, d, table)?;
     check_output(game.entries(), room)?;
     Ok(table)
 }
@@ -84,13 +85,13 @@ pub fn check_value<'a>(
     seat: usize,
     profile: &'a [f64],
 ) -> Result<GameProfile<'a>, Refusal>
-    ensures made { IfOk result (λ p. (numbered p.game ≡ game_of number seats) × (p.entries.now ≡ profile.now)) }
+    ensures made { IfOk result (λ p. (numbered p.tree.game ≡ game_of number seats) × (p.entries.now ≡ profile.now)) }
     ensures refused { Settled (value_checks (game_of number seats) memory seat (length profile.now))
         (AcceptedProfile (game_of number seats) profile.now × (12 * nodes_of (game_of number seats) ≤ memory) × (seat < seats)) (number_of result) }
 {
-    let game = check_tree(number, seats, memory)?;
-    check_seat(game, seat)?;
-    check_profile(game, profile)
+    let tree = check_tree(number, seats, memory)?;
+    check_seat(tree.game, seat)?;
+    check_profile(tree, profile)
 }
 
 // The profile of a call that evaluates all seats (best_response_values, profile_values, nash_conv, exploitability): 1 to 4, then 7.
@@ -100,10 +101,10 @@ pub fn check_values<'a>(
     memory: usize,
     profile: &'a [f64],
 ) -> Result<GameProfile<'a>, Refusal>
-    ensures made { IfOk result (λ p. (numbered p.game ≡ game_of number seats) × (p.entries.now ≡ profile.now)) }
+    ensures made { IfOk result (λ p. (numbered p.tree.game ≡ game_of number seats) × (p.entries.now ≡ profile.now)) }
     ensures refused { Settled (values_checks (game_of number seats) memory (length profile.now))
         (AcceptedProfile (game_of number seats) profile.now × (12 * nodes_of (game_of number seats) ≤ memory)) (number_of result) }
 {
-    let game = check_tree(number, seats, memory)?;
-    check_profile(game, profile)
+    let tree = check_tree(number, seats, memory)?;
+    check_profile(tree, profile)
 }

@@ -1,9 +1,9 @@
 -- The places of work memory behind a game's stored tree. Definitions only; nothing is assumed.
-use Rattle.std.specs.Prelude.{ℕ, ◌+◌}
+use Rattle.std.specs.Prelude.{◌≡◌, ℕ, ◌+◌}
 use Rattle.games.specs.Games.{Game}
 use Rattle.games.specs.Facts.{nodes_of, entries_of}
 use Rattle.arena_store.specs.internal.Stored.{heads_of}
-use Rattle.arena_walks.specs.declared.Places.{Places}
+use Rattle.arena_walks.specs.declared.Search.{Search}
 
 -- the units or the reach of each node stand behind the index
 abbrev pub reach_at : Game → ℕ
@@ -13,5 +13,10 @@ reach_at g = heads_of g + entries_of g
 abbrev pub kept_at : Game → ℕ
 kept_at g = reach_at g + nodes_of g
 
-abbrev pub places_of : Game → Places
-places_of g = record { heads = heads_of g; reach = reach_at g; kept = kept_at g }
+-- a search for seat i against what the others play, o, with these places
+pub record Placed {T : Type 0} (g : Game) (o : T) (i : ℕ) (search : Search T) : Type 0 where
+  pub others : search.walk.others ≡ o
+  pub seat : search.walk.seat ≡ i
+  pub reach : search.walk.reach ≡ reach_at g
+  pub heads : search.heads ≡ heads_of g
+  pub kept : search.kept ≡ kept_at g

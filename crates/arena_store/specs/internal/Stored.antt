@@ -1,5 +1,5 @@
 -- Where a game's tree stands in work memory. Definitions only; nothing is assumed.
-use Rattle.std.specs.Prelude.{cond, List, ℕ, ◌+◌}
+use Rattle.std.specs.Prelude.{cond, List, ℕ, ◌+◌, ◌*◌, ◌≤◌, length}
 use Rattle.game_tree.specs.Tree.{Key}
 use Rattle.arena.specs.internal.Index.{Indexed}
 use Rattle.kuhn_arena_layout.specs.internal.Layout as Kuhn
@@ -21,3 +21,8 @@ heads_of g = nodes_of g + codes_of g
 -- its tree and index stand there
 abbrev pub Stored : Game → List ℕ → Type 0
 Stored g w = Indexed g.seats (heads_of g) w (tree_of g)
+
+-- and the words that an evaluation writes stand behind it: 12 for each node in all. It is no ghost field of a struct of the words: such a field holds a fact of one
+-- proof, which Stored is not known to be, and each function would ask that the struct's game is its table's
+abbrev pub Ready : Game → List ℕ → Type 0
+Ready g w = Stored g w × (12 * nodes_of g ≤ length w)

@@ -17,17 +17,17 @@ returns-in_err-check_length-clause-refused c = settled_exit _ _ _ _ c.from_resid
     (settled-behind _ _ tt c.in_ok-check_parts.ensures refl c.in_err-check_length.ensures)
 
 pub adds_up-requires : goal.adds_up-requires
-adds_up-requires c = c.in_ok-check_length.ensures.passed refl ∙ entries_are (numbered c.args.game) (has-seats c.args.game)
+adds_up-requires c = c.in_ok-check_length.ensures.passed refl ∙ entries_are (numbered c.args.tree.game) (has-seats c.args.tree.game)
 
 pub returns-then-not-adds_up-clause-refused : goal.returns-then-not-adds_up-clause-refused
 returns-then-not-adds_up-clause-refused c =
-    let e = ap (λ x. add_up c.args.d x c.args.table.now) (actions_are (numbered c.args.game) (has-seats c.args.game)) ∙ sym c.adds_up.ensures ∙ c.if-not-adds_up.true in
+    let e = ap (λ x. add_up c.args.d x c.args.table.now) (actions_are (numbered c.args.tree.game) (has-seats c.args.tree.game)) ∙ sym c.adds_up.ensures ∙ c.if-not-adds_up.true in
     let l = c.in_ok-check_length.ensures.passed refl in let m = c.in_ok-check_parts.ensures.passed refl in
-    settled_so (λ p. record { game = c.requires; least = m.0; most = m.1; valid = (l, p.1.1) })
+    settled_so (λ p. record { game = c.args.tree.known; least = m.0; most = m.1; valid = (l, p.1.1) })
     (settled-behind _ _ tt c.in_ok-check_parts.ensures refl (settled-behind _ _ tt c.in_ok-check_length.ensures refl (one_refuses (ap not e))))
 
 pub invariant_of-result : goal.invariant_of-result
 invariant_of-result c =
-    let e = ap (λ x. add_up c.args.d x c.args.table.now) (actions_are (numbered c.args.game) (has-seats c.args.game)) ∙ sym c.adds_up.ensures ∙ c.if-not-adds_up.false in
+    let e = ap (λ x. add_up c.args.d x c.args.table.now) (actions_are (numbered c.args.tree.game) (has-seats c.args.tree.game)) ∙ sym c.adds_up.ensures ∙ c.if-not-adds_up.false in
     let l = c.in_ok-check_parts.ensures.passed refl in
-    record { accepted = record { game = c.requires; least = l.0; most = l.1; valid = (c.in_ok-check_length.ensures.passed refl, e) } }
+    record { accepted = record { game = c.args.tree.known; least = l.0; most = l.1; valid = (c.in_ok-check_length.ensures.passed refl, e) } }
