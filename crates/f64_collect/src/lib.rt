@@ -13,7 +13,7 @@ use f64_numbers::{put_float, weight};
 #[cycle(collect_divide_one_spread)]
 pub fn collect(w: &mut [u64], walk: &Walk<&[f64]>, a: usize, r: f64, depth: usize)
     requires { Walkable a depth }
-    ensures { Reached walk.now.others.now walk.now.seat walk.now.at.reach a r depth w.old w.new }
+    ensures { Reached walk.now.others.now walk.now.seat walk.now.reach a r depth w.old w.new }
 {
     if depth == 0 {
         return;
@@ -29,7 +29,7 @@ pub fn collect(w: &mut [u64], walk: &Walk<&[f64]>, a: usize, r: f64, depth: usiz
             spread(w, walk, child, end, each, below);
         }
         _ if actor(x) == walk.seat => {
-            put_float(w, walk.at.reach + a, r);
+            put_float(w, walk.reach + a, r);
             spread(w, walk, child, next(x), r, below);
         }
         _ => {
@@ -47,7 +47,7 @@ pub fn collect(w: &mut [u64], walk: &Walk<&[f64]>, a: usize, r: f64, depth: usiz
 #[cycle(collect_divide_one_spread)]
 fn one(w: &mut [u64], walk: &Walk<&[f64]>, a: usize, r: f64, depth: usize)
     requires { Walkable a depth }
-    ensures { Reached walk.now.others.now walk.now.seat walk.now.at.reach a r depth w.old w.new }
+    ensures { Reached walk.now.others.now walk.now.seat walk.now.reach a r depth w.old w.new }
 {
     match kind(word(w, a)) {
         Node::End => {}
@@ -55,13 +55,15 @@ fn one(w: &mut [u64], walk: &Walk<&[f64]>, a: usize, r: f64, depth: usize)
     }
 }
 
-// The same of the trees between places a and end, each with reach r.
+// The same of the trees between places a and end, each with reach r. units_collect has this loop too: it is part of a cycle of calls,
+// which gets no proof through a trait's method, and the contract of one that took the step as a closure would be longer than the loop.
 #[cycle(collect_divide_one_spread)]
 fn spread(w: &mut [u64], walk: &Walk<&[f64]>, a: usize, end: usize, r: f64, depth: usize)
     requires { Walkable a depth }
-    ensures { ReachedAll (Each a end r) walk.now.others.now walk.now.seat walk.now.at.reach a depth w.old w.new }
+    ensures { ReachedAll (Each a end r) walk.now.others.now walk.now.seat walk.now.reach a depth w.old w.new }
 {
     let mut at = a;
+    // A `while`: an iterator over the places would hold the words, which the body changes.
     while at < end {
         one(w, walk, at, r, depth);
         let next = behind(w, at);
@@ -76,7 +78,7 @@ fn spread(w: &mut [u64], walk: &Walk<&[f64]>, a: usize, end: usize, r: f64, dept
 #[cycle(collect_divide_one_spread)]
 fn divide(w: &mut [u64], walk: &Walk<&[f64]>, a: usize, part: &[f64], r: f64, depth: usize)
     requires { Walkable a depth }
-    ensures { ReachedAll (Divided walk.now.others.now part.now r) walk.now.others.now walk.now.seat walk.now.at.reach a depth w.old w.new }
+    ensures { ReachedAll (Divided walk.now.others.now part.now r) walk.now.others.now walk.now.seat walk.now.reach a depth w.old w.new }
 {
     let mut at = a;
     for &p in part {

@@ -1,5 +1,5 @@
 -- A seat's scene in work memory, with its reaches. Assumes nothing.
-use mathlib.Core.Path.{◌≡◌, refl, ◌∙◌, subst}
+use mathlib.Core.Path.{◌≡◌, refl, ◌∙◌}
 use mathlib.Core.Logic.{inl}
 use mathlib.Core.List.{List}
 use Prim.Native.Nat.{ℕ, ◌+◌, ◌*◌, ◌≤◌, ◌<◌}
@@ -25,8 +25,7 @@ use Rattle.f64_collect.specs.internal.Reached.{Reached, Marked}
 use Rattle.f64_collect.proofs.Storing.{marked_same}
 use Rattle.f64_values.specs.internal.Valued.{Walkable, Scene, Valued}
 use Rattle.arena_store.specs.internal.Stored.{heads_of, Stored}
-use Rattle.arena_store.specs.internal.Places.{reach_at, kept_at, places_of}
-use Rattle.arena_walks.specs.declared.Places.{Places}
+use Rattle.arena_store.specs.internal.Places.{reach_at, kept_at}
 use Rattle.arena_store.specs.internal.Shaped.{Shaped}
 use Rattle.arena_store.proofs.Shaped.{games_shaped, games_legible, some_actions, same_heights}
 use Rattle.arena_store.proofs.Room.{Roomy, roomy}
@@ -99,23 +98,13 @@ module _ (g : Game) (i : ℕ) (P : List Float) (a : AcceptedProfile g P) (l : i 
       stored = behind.still_stored g a.game i l c v z x long same length_is e found.0
 
   -- the same by the numbers in hand
-  module _ (p : Places) (q : p ≡ places_of g) where
-    pub near : (E : ℕ) → E ≡ entries_of g → p.kept + E ≤ 8388608
-    near E e = rw q (omega (arith, room.near))
+  pub walkable : (s : ℕ) → s ≡ i → Walkable 0 s 32
+  walkable s q = record { place = omega arith; seat = omega (arith, q, l, shaped.most); shallow = omega arith }
 
-    pub walkable : Walkable 0 i 32
-    walkable = record { place = omega arith; seat = omega (arith, l, shaped.most); shallow = omega arith }
+  module _ (E : ℕ) (t : E ≡ entries_of g) (v w z y : List ℕ) (x : Stored g v) (long : 12 * nodes_of g ≤ length v) (o : Reached P i (reach_at g) 0 one 32 v w)
+      (u : Cleared (kept_at g) (kept_at g + E) w z) (r : Float) (k : Valued P i 32 (heads_of g) (reach_at g) (kept_at g) 0 z y r) where
+    u' : Cleared (kept_at g) (kept_at g + entries_of g) w z
+    u' = rw t at u
 
-    module _ (E : ℕ) (t : E ≡ entries_of g) (v w z y : List ℕ) (x : Stored g v) (long : 12 * nodes_of g ≤ length v) (o : Reached P i p.reach 0 one 32 v w)
-        (u : Cleared p.kept (p.kept + E) w z) (r : Float) (k : Valued P i 32 p.heads p.reach p.kept 0 z y r) where
-      o' : Reached P i (reach_at g) 0 one 32 v w
-      o' = rw q at o
-
-      u' : Cleared (kept_at g) (kept_at g + entries_of g) w z
-      u' = rw (q, t) at u
-
-      k' : Valued P i 32 (heads_of g) (reach_at g) (kept_at g) 0 z y r
-      k' = subst (λ (n : Places). Valued P i 32 n.heads n.reach n.kept 0 z y r) q k
-
-      pub answered : (r ≡ best_of g P i) × Stored g y
-      answered = ((found v w z x long o' u' y r k').1, stored v w z x long o' u' y r k')
+    pub answered : (r ≡ best_of g P i) × Stored g y
+    answered = ((found v w z x long o u' y r k).1, stored v w z x long o u' y r k)

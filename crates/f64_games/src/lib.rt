@@ -1,44 +1,41 @@
-// The f64 values of a profile by the game's number, where the game's tree is stored. Behind the tree's index stand the reaches of a seat's nodes, and behind
+// The f64 values of a profile, where its game's tree is stored. Behind the tree's index stand the reaches of a seat's nodes, and behind
 // these its choices.
 #![tactic(auto)]
 
 ghost use Rattle.std.specs.Prelude.{◌≡◌, ◌*◌, ◌≤◌, ◌<◌, length};
 ghost use Rattle.games.specs.internal.Numbered.{numbered};
-ghost use Rattle.games.specs.Facts.{nodes_of};
-ghost use Rattle.arena_store.specs.internal.Stored.{Stored};
+ghost use Rattle.arena_store.specs.internal.Stored.{Stored, Ready};
 ghost use Rattle.f64_games.specs.Values.{best_of, bests_of, worths_of, nash_conv_of, exploitability_of};
 
 use arena::words::clear;
-use arena_store::places_of;
-use arena_walks::{DEPTH, Walk};
+use arena_store::search_of;
+use arena_walks::DEPTH;
 use f64_collect::collect;
 use f64_values::values::value;
 use tree_refusals::accepted::GameProfile;
 
-// The best response value of a seat to a profile.
+// The best response value of a seat to a profile. That the game has the seat is a clause, as check 5 answers no type: a seat is one number of its caller.
 pub fn best_value(profile: &GameProfile, words: &mut [u64], seat: usize) -> f64
-    requires { Stored (numbered profile.now.game) words.old × (seat < (numbered profile.now.game).seats)
-        × (12 * nodes_of (numbered profile.now.game) ≤ length words.old) }
-    ensures { (result ≡ best_of (numbered profile.now.game) profile.now.entries.now seat) × Stored (numbered profile.now.game) words.new }
+    requires { Ready (numbered profile.now.tree.game) words.old × (seat < (numbered profile.now.tree.game).seats) }
+    ensures { (result ≡ best_of (numbered profile.now.tree.game) profile.now.entries.now seat) × Stored (numbered profile.now.tree.game) words.new }
 {
-    let at = places_of(profile.game);
-    let walk = Walk {
-        others: profile.entries,
-        seat,
-        at,
-    };
-    collect(words, &walk, 0, 1.0, DEPTH);
-    clear(words, at.kept, at.kept + profile.game.entries());
-    value(words, &walk, 0, DEPTH)
+    let search = search_of(profile.tree, profile.entries, seat);
+    collect(words, &search.walk, 0, 1.0, DEPTH);
+    clear(
+        words,
+        search.kept,
+        search.kept + profile.tree.game.entries(),
+    );
+    value(words, &search, 0, DEPTH)
 }
 
 // The same of each seat; 0.0 past them.
 pub fn best_values(profile: &GameProfile, words: &mut [u64]) -> [f64; 6]
-    requires { Stored (numbered profile.now.game) words.old × (12 * nodes_of (numbered profile.now.game) ≤ length words.old) }
-    ensures { result ≡ bests_of (numbered profile.now.game) profile.now.entries.now }
+    requires { Ready (numbered profile.now.tree.game) words.old }
+    ensures { result ≡ bests_of (numbered profile.now.tree.game) profile.now.entries.now }
 {
     let mut out = [0.0; 6];
-    for seat in 0..profile.game.seats() {
+    for seat in 0..profile.tree.game.seats() {
         out[seat] = best_value(profile, words, seat);
     }
     out
@@ -46,10 +43,10 @@ pub fn best_values(profile: &GameProfile, words: &mut [u64]) -> [f64; 6]
 
 // What the profile is worth to each seat; 0.0 past them.
 pub fn worths(profile: &GameProfile, words: &[u64]) -> [f64; 6]
-    requires { Stored (numbered profile.now.game) words.now }
-    ensures { result ≡ worths_of (numbered profile.now.game) profile.now.entries.now }
+    requires { Stored (numbered profile.now.tree.game) words.now }
+    ensures { result ≡ worths_of (numbered profile.now.tree.game) profile.now.entries.now }
 {
-    let count = profile.game.seats();
+    let count = profile.tree.game.seats();
     let mut out = [0.0; 6];
     for pair in 0..count.div_ceil(2) {
         let seat = 2 * pair;
@@ -64,11 +61,11 @@ pub fn worths(profile: &GameProfile, words: &[u64]) -> [f64; 6]
 
 // NashConv: the sum of best value − worth by seat, from 0.0.
 pub fn nash_conv(profile: &GameProfile, words: &mut [u64]) -> f64
-    requires { Stored (numbered profile.now.game) words.old × (12 * nodes_of (numbered profile.now.game) ≤ length words.old) }
-    ensures { result ≡ nash_conv_of (numbered profile.now.game) profile.now.entries.now }
+    requires { Ready (numbered profile.now.tree.game) words.old }
+    ensures { result ≡ nash_conv_of (numbered profile.now.tree.game) profile.now.entries.now }
 {
     let worths = worths(profile, words);
-    let seats = profile.game.seats();
+    let seats = profile.tree.game.seats();
     let mut sum = 0.0;
     for seat in 0..seats {
         sum += best_value(profile, words, seat) - worths[seat];
@@ -78,8 +75,9 @@ pub fn nash_conv(profile: &GameProfile, words: &mut [u64]) -> f64
 
 // Exploitability: NashConv divided by the seats.
 pub fn exploitability(profile: &GameProfile, words: &mut [u64]) -> f64
-    requires { Stored (numbered profile.now.game) words.old × (12 * nodes_of (numbered profile.now.game) ≤ length words.old) }
-    ensures { result ≡ exploitability_of (numbered profile.now.game) profile.now.entries.now }
+    requires { Ready (numbered profile.now.tree.game) words.old }
+    ensures { result ≡ exploitability_of (numbered profile.now.tree.game) profile.now.entries.now }
 {
-    nash_conv(profile, words) / profile.game.seats() as f64
+    // `as`: f64 has no From of usize.
+    nash_conv(profile, words) / profile.tree.game.seats() as f64
 }

@@ -51,6 +51,7 @@ pub fn payoff_of(x: u64, seat: usize) -> f64
     requires { seat < 6 }
     ensures { result ≡ of_int binary64 (payoff_of x seat) }
 {
+    // `as`: f64 has no From of i64.
     payoff(x, seat) as f64
 }
 
@@ -58,6 +59,7 @@ pub fn payoff_of(x: u64, seat: usize) -> f64
 pub fn weight(fan: usize) -> f64
     ensures { fan < 4294967296 → result ≡ weight fan }
 {
+    // `as`: a remainder below 2^32, and u32 has no From of usize.
     let count = (fan % 4294967296) as u32;
     1.0 / f64::from(count)
 }

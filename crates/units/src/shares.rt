@@ -26,6 +26,7 @@ impl Table<'_> {
         ensures { (result < UNITS) × (part ≤ self.now.parts → result ≡ u * part / self.now.parts) }
     {
         let part = u64::from(part);
+        // `as`: both have 64 bits, and u64 has no From of usize.
         let whole = self.parts as u64;
         if whole < part {
             return 0;

@@ -32,8 +32,7 @@ use Rattle.units_values.specs.internal.Valued.{Scene, Valued, Walkable}
 use Rattle.units_reply.specs.internal.Laid.{Tabled, replied, Laid}
 use Rattle.units_values.proofs.Scenes.{root_here}
 use Rattle.arena_store.specs.internal.Stored.{heads_of, Stored}
-use Rattle.arena_store.specs.internal.Places.{reach_at, kept_at, places_of}
-use Rattle.arena_walks.specs.declared.Places.{Places}
+use Rattle.arena_store.specs.internal.Places.{reach_at, kept_at}
 use Rattle.arena_store.proofs.Shaped.{games_shaped, some_actions}
 use Rattle.arena_store.proofs.Room.{Roomy, roomy}
 use Rattle.arena_store.proofs.Staging as behind
@@ -150,36 +149,29 @@ module _ (g : Game) (D i : ℕ) (table : Table) (a : AcceptedTable g D table) (l
       stored = behind.still_stored g a.game i l c v z x long same length_is e found.0
 
   -- the same by the numbers in hand
-  module _ (p : Places) (q : p ≡ places_of g) where
-    pub near : (E : ℕ) → E ≡ entries_of g → p.kept + E ≤ 8388608
-    near E e = rw q (omega (arith, room.near))
+  pub walks : (s : ℕ) → s ≡ i → Walkable 0 s 32
+  walks s q = record { place = omega arith; seat = omega (arith, q, l, (games_shaped g a.game).most); shallow = omega arith }
 
-    pub walks : Walkable 0 i 32
-    walks = record { place = omega arith; seat = omega (arith, l, (games_shaped g a.game).most); shallow = omega arith }
+  module _ (u : ℕ) (j : (u ≡ U) × (u < UNITS)) (E : ℕ) (t : E ≡ entries_of g) (v w z y : List ℕ) (x : Stored g v) (long : 12 * nodes_of g ≤ length v)
+      (o : Collected table D i (reach_at g) 0 u 32 v w) (r : Cleared (kept_at g) (kept_at g + E) w z) (sum : ℕ)
+      (k : Valued i 32 (heads_of g) (reach_at g) (kept_at g) 0 z y sum) where
+    o' : Collected table D i (reach_at g) 0 U 32 v w
+    o' = rw j.0 at o
 
-    module _ (u : ℕ) (j : (u ≡ U) × (u < UNITS)) where
-      module _ (E : ℕ) (t : E ≡ entries_of g) (v w z y : List ℕ) (x : Stored g v) (long : 12 * nodes_of g ≤ length v) (o : Collected table D i p.reach 0 u 32 v w)
-          (r : Cleared p.kept (p.kept + E) w z) (sum : ℕ) (k : Valued i 32 p.heads p.reach p.kept 0 z y sum) where
-        o' : Collected table D i (reach_at g) 0 U 32 v w
-        o' = rw (q, j.0) at o
+    r' : Cleared (kept_at g) (kept_at g + entries_of g) w z
+    r' = rw t at r
 
-        r' : Cleared (kept_at g) (kept_at g + entries_of g) w z
-        r' = rw (q, t) at r
+    pub few_sum : sum ≤ 124 * u
+    few_sum = rw j.0 (sum_few v w z x long o' r' y sum k)
 
-        k' : Valued i 32 (heads_of g) (reach_at g) (kept_at g) 0 z y sum
-        k' = subst (λ (x : Places). Valued i 32 x.heads x.reach x.kept 0 z y sum) q k
+    pub is_best : (b : ℤ) → b ≡ pos sum -ℤ pos (64 * u) → b ≡ table_best T D U table i
+    is_best b e = e ∙ ap (λ d. pos sum -ℤ pos (64 * d)) j.0 ∙ sum_best v w z x long o' r' y sum k
 
-        pub few_sum : sum ≤ 124 * u
-        few_sum = rw j.0 (sum_few v w z x long o' r' y sum k')
+    pub is_staged : Staged g D i table y
+    is_staged = staged v w z x long o' r' y sum k
 
-        pub is_best : (b : ℤ) → b ≡ pos sum -ℤ pos (64 * u) → b ≡ table_best T D U table i
-        is_best b e = e ∙ ap (λ d. pos sum -ℤ pos (64 * d)) j.0 ∙ sum_best v w z x long o' r' y sum k'
-
-        pub is_staged : Staged g D i table y
-        is_staged = staged v w z x long o' r' y sum k'
-
-        pub is_stored : Stored g y
-        is_stored = stored v w z x long o' r' y sum k'
+    pub is_stored : Stored g y
+    is_stored = stored v w z x long o' r' y sum k
 
   -- ---- what is demanded of the reply
   pub best-reply : BestReply g D i table (table_best T D U table i) (reply_table T D U table i)
@@ -203,11 +195,11 @@ module _ (g : Game) (D i : ℕ) (table : Table) (a : AcceptedTable g D table) (l
     reply_is = ap (λ t. by t x.scene.parts x.scene.stage.choice x.scene.strategy) x.tree ∙ ap (λ d. by T d x.scene.stage.choice x.scene.strategy) x.parts
         ∙ ap (λ e. by T D e x.scene.strategy) x.choice ∙ ap (by T D c) x.strategy
 
-    module _ (p : Places) (q : p ≡ places_of g) (b : ℕ) (o : b ≡ sets_of g) where
+    module _ (b : ℕ) (o : b ≡ sets_of g) where
       pub few-sets : b ≤ 16384
       few-sets = omega (arith, o, room.sets)
 
-      pub is_reply : (w out written : List ℕ) → Laid table b i D p.heads p.reach p.kept y w out written → written ≡ sets out 0 (reply_table T D U table i)
+      pub is_reply : (w out written : List ℕ) → Laid table b i D (heads_of g) (reach_at g) (kept_at g) y w out written
+          → written ≡ sets out 0 (reply_table T D U table i)
       is_reply w out written r =
-          let r' : Laid table b i D (heads_of g) (reach_at g) (kept_at g) y w out written = rw q at r in
-          (r' x.scene x.noted tabled (o ∙ sym (counted_games g a.game.seats).1 ∙ ap set_count (sym x.tree))).1 ∙ ap (sets out 0) reply_is
+          (r x.scene x.noted tabled (o ∙ sym (counted_games g a.game.seats).1 ∙ ap set_count (sym x.tree))).1 ∙ ap (sets out 0) reply_is

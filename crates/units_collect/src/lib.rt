@@ -21,7 +21,7 @@ pub fn collect(w: &mut [u64], walk: &Walk<Table>, a: usize, u: u64, depth: usize
     if depth == 0 {
         return;
     }
-    put(w, walk.at.reach + a, u);
+    put(w, walk.reach + a, u);
     let x = word(w, a);
     match kind(x) {
         Node::End => {}
@@ -40,6 +40,7 @@ fn deal(w: &mut [u64], walk: &Walk<Table>, a: usize, end: usize, u: u64, depth: 
     if count == 0 {
         return;
     }
+    // `as`: both have 64 bits, and u64 has no From of usize.
     spread(w, walk, a, end, u / count as u64, depth);
 }
 
@@ -68,18 +69,20 @@ fn one(w: &mut [u64], walk: &Walk<Table>, a: usize, u: u64, depth: usize)
     ensures { Collects walk.now a u depth w.old w.new }
 {
     match kind(word(w, a)) {
-        Node::End => put(w, walk.at.reach + a, u),
+        Node::End => put(w, walk.reach + a, u),
         _ => collect(w, walk, a, u, depth),
     }
 }
 
-// The same of the trees between places a and end, with u units each.
+// The same of the trees between places a and end, with u units each. f64_collect has this loop too: it is part of a cycle of calls,
+// which gets no proof through a trait's method, and the contract of one that took the step as a closure would be longer than the loop.
 #[cycle(collect_deal_decide_divide_one_spread)]
 fn spread(w: &mut [u64], walk: &Walk<Table>, a: usize, end: usize, u: u64, depth: usize)
     requires { Walkable a u depth }
     ensures { CollectsAll (Each a end u) walk.now a depth w.old w.new }
 {
     let mut at = a;
+    // A `while`: an iterator over the places would hold the words, which the body changes.
     while at < end {
         one(w, walk, at, u, depth);
         let next = behind(w, at);
@@ -96,6 +99,7 @@ fn divide(w: &mut [u64], walk: &Walk<Table>, a: usize, part: &[u8], u: u64, dept
     requires { Walkable a u depth }
     ensures { CollectsAll (Shared walk.now.others.entries.now part.now walk.now.others.parts u) walk.now a depth w.old w.new }
 {
+    // `as`: both have 64 bits, and u64 has no From of usize.
     let each = u / walk.others.parts as u64;
     let mut at = a;
     for &entry in part {

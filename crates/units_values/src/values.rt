@@ -1,8 +1,9 @@
 // Value and choice call each other: the value of an own node asks its set's choice,
 // and a choice asks the values below all members of its set, which lie deeper.
-// A choice is kept in work memory once it is found. The reach of the walk's places is the units of each node.
+// A choice is kept in work memory once it is found. The reach of the search's walk is the units of each node.
 // Kept apart from the walks in f64 over the same tree, since those weigh what a child gives on the way up, where these have weighed its units on the way down.
-// What is left alike, the choice and the sum over members, stands in the cycle with the values, and a cycle through a trait's method gets no proof.
+// What is left alike are the loops of `choose` and `total`, and `own`. A trait's method that leads back to its caller gets no proof; a closure can get one, but
+// it would say again what `total` or `below` ask and promise, to a function whose contract follows the closure's calls one by one: longer than the loops.
 ghost use Rattle.std.specs.Prelude.{◌≡◌, ◌+◌, ◌*◌, ◌%◌, ◌<◌, slice_index};
 ghost use Rattle.arena.specs.internal.Words.{byte_of};
 ghost use Rattle.units_values.specs.internal.Valued.{Walkable, Valued, ValuedAll, ValuedOwn, Totalled, Chosen};
@@ -10,60 +11,60 @@ ghost use Rattle.units.specs.internal.Readable.{UNITS};
 
 use arena::payoffs::lifted;
 use arena::walk::behind;
-use arena::words::{Node, PLACES, actions, actor, kind, later, next, put, set, word};
-use arena_walks::{Walk, child};
+use arena::words::{Node, actions, actor, kind, later, next, set, word};
+use arena_walks::{Search, child};
 use argmax::Lead;
 use units::UNITS;
-use units::shares::Table;
 
 // The lifted value of the end at place a with word x.
-fn ended(w: &[u64], walk: &Walk<Table>, a: usize, x: u64) -> u64
-    requires { (walk.now.seat < 6) × (a < 16777216) }
-    ensures { result ≡ slice_index w.now (walk.now.at.reach + a) % UNITS * byte_of x walk.now.seat }
+fn ended<T>(w: &[u64], search: &Search<T>, a: usize, x: u64) -> u64
+    requires { (search.now.walk.seat < 6) × (a < 16777216) }
+    ensures { result ≡ slice_index w.now (search.now.walk.reach + a) % UNITS * byte_of x search.now.walk.seat }
 {
-    word(w, walk.at.reach + a) % UNITS * lifted(x, walk.seat)
+    word(w, search.walk.reach + a) % UNITS * lifted(x, search.walk.seat)
 }
 
 // The lifted value of the tree at place a for the walk's seat, modulo 2^64.
 #[cycle(below_choose_own_row_total_value)]
-pub fn value(w: &mut [u64], walk: &Walk<Table>, a: usize, depth: usize) -> u64
-    requires { Walkable a walk.now.seat depth }
-    ensures { Valued walk.now.seat depth walk.now.at.heads walk.now.at.reach walk.now.at.kept a w.old w.new result }
+pub fn value<T>(w: &mut [u64], search: &Search<T>, a: usize, depth: usize) -> u64
+    requires { Walkable a search.now.walk.seat depth }
+    ensures { Valued search.now.walk.seat depth search.now.heads search.now.walk.reach search.now.kept a w.old w.new result }
 {
     if depth == 0 {
         return 0;
     }
     let x = word(w, a);
     match kind(x) {
-        Node::End => ended(w, walk, a, x),
-        Node::Decision if actor(x) == walk.seat => own(w, walk, a, x, depth - 1),
-        _ => row(w, walk, a + 1, next(x), depth - 1),
+        Node::End => ended(w, search, a, x),
+        Node::Decision if actor(x) == search.walk.seat => own(w, search, a, x, depth - 1),
+        _ => row(w, search, a + 1, next(x), depth - 1),
     }
 }
 
 // The same of a child: an end at once, without a call.
 #[cycle(below_choose_own_row_total_value)]
-fn below(w: &mut [u64], walk: &Walk<Table>, a: usize, depth: usize) -> u64
-    requires { Walkable a walk.now.seat depth }
-    ensures { Valued walk.now.seat depth walk.now.at.heads walk.now.at.reach walk.now.at.kept a w.old w.new result }
+fn below<T>(w: &mut [u64], search: &Search<T>, a: usize, depth: usize) -> u64
+    requires { Walkable a search.now.walk.seat depth }
+    ensures { Valued search.now.walk.seat depth search.now.heads search.now.walk.reach search.now.kept a w.old w.new result }
 {
     let x = word(w, a);
     match kind(x) {
-        Node::End => ended(w, walk, a, x),
-        _ => value(w, walk, a, depth),
+        Node::End => ended(w, search, a, x),
+        _ => value(w, search, a, depth),
     }
 }
 
 // The sum of the values of the trees between places a and end.
 #[cycle(below_choose_own_row_total_value)]
-fn row(w: &mut [u64], walk: &Walk<Table>, a: usize, end: usize, depth: usize) -> u64
-    requires { Walkable a walk.now.seat depth }
-    ensures { ValuedAll walk.now.seat depth walk.now.at.heads walk.now.at.reach walk.now.at.kept a end w.old w.new result }
+fn row<T>(w: &mut [u64], search: &Search<T>, a: usize, end: usize, depth: usize) -> u64
+    requires { Walkable a search.now.walk.seat depth }
+    ensures { ValuedAll search.now.walk.seat depth search.now.heads search.now.walk.reach search.now.kept a end w.old w.new result }
 {
     let mut sum = 0u64;
     let mut at = a;
+    // A `while`: an iterator over the places would hold the words, which the body changes.
     while at < end {
-        sum = sum.wrapping_add(below(w, walk, at, depth));
+        sum = sum.wrapping_add(below(w, search, at, depth));
         let next = behind(w, at);
         if next <= at {
             return sum;
@@ -75,45 +76,51 @@ fn row(w: &mut [u64], walk: &Walk<Table>, a: usize, end: usize, depth: usize) ->
 
 // The value of an own node at place a with word x: its child's, at the set's choice.
 #[cycle(below_choose_own_row_total_value)]
-fn own(w: &mut [u64], walk: &Walk<Table>, a: usize, x: u64, depth: usize) -> u64
-    requires { Walkable (a + 1) walk.now.seat depth }
-    ensures { ValuedOwn walk.now.seat depth walk.now.at.heads walk.now.at.reach walk.now.at.kept a x w.old w.new result }
+fn own<T>(w: &mut [u64], search: &Search<T>, a: usize, x: u64, depth: usize) -> u64
+    requires { Walkable (a + 1) search.now.walk.seat depth }
+    ensures { ValuedOwn search.now.walk.seat depth search.now.heads search.now.walk.reach search.now.kept a x w.old w.new result }
 {
-    let choice = choose(w, walk, set(x), actions(x), depth);
+    let choice = choose(w, search, set(x), actions(x), depth);
     let at = child(w, a, choice);
-    below(w, walk, at, depth)
+    below(w, search, at, depth)
 }
 
 // The choice of the set whose first entry is given, with so many actions: the lowest with the greatest sum over its members.
 #[cycle(below_choose_own_row_total_value)]
-pub fn choose(w: &mut [u64], walk: &Walk<Table>, first: usize, count: usize, depth: usize) -> usize
-    requires { Walkable first walk.now.seat depth }
-    ensures { Chosen walk.now.seat depth walk.now.at.heads walk.now.at.reach walk.now.at.kept first count w.old w.new result }
+pub fn choose<T>(
+    w: &mut [u64],
+    search: &Search<T>,
+    first: usize,
+    count: usize,
+    depth: usize,
+) -> usize
+    requires { Walkable first search.now.walk.seat depth }
+    ensures { Chosen search.now.walk.seat depth search.now.heads search.now.walk.reach search.now.kept first count w.old w.new result }
 {
-    let known = word(w, walk.at.kept + first);
-    if known != 0 {
-        return known as usize - 1;
+    if let Some(known) = search.known(w, first) {
+        return known;
     }
     let mut lead = Lead::start();
     for action in 0..count {
-        let sum = total(w, walk, first, action, depth);
+        let sum = total(w, search, first, action, depth);
         lead = lead.past(action, sum);
     }
-    put(w, walk.at.kept + first, lead.action as u64 + 1);
+    search.keep(w, first, lead.action);
     lead.action
 }
 
 // The sum over the set's members of the values behind an action.
 #[cycle(below_choose_own_row_total_value)]
-fn total(w: &mut [u64], walk: &Walk<Table>, first: usize, action: usize, depth: usize) -> u64
-    requires { Walkable first walk.now.seat depth }
-    ensures { Totalled walk.now.seat depth walk.now.at.heads walk.now.at.reach walk.now.at.kept first action w.old w.new result }
+fn total<T>(w: &mut [u64], search: &Search<T>, first: usize, action: usize, depth: usize) -> u64
+    requires { Walkable first search.now.walk.seat depth }
+    ensures { Totalled search.now.walk.seat depth search.now.heads search.now.walk.reach search.now.kept first action w.old w.new result }
 {
     let mut sum = 0u64;
-    let mut at = (word(w, walk.at.heads + first) % PLACES) as usize;
+    let mut at = search.first_member(w, first);
+    // A `while`: an iterator over the places would hold the words, which the body changes.
     while 0 < at {
         let place = child(w, at, action);
-        sum = sum.wrapping_add(below(w, walk, place, depth));
+        sum = sum.wrapping_add(below(w, search, place, depth));
         let next = later(word(w, at));
         if next <= at {
             return sum;

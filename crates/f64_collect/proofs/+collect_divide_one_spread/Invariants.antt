@@ -19,11 +19,11 @@ decreases-spread l = 3 * l.depth + 2
 
 abbrev pub invariant-divide-loop-p : goal.invariant-divide-loop-p
 invariant-divide-loop-p l = let W = l.walk in
-    storing.SoFar W.others.now W.seat W.at.reach l.a l.depth l.initial.w (Divided W.others.now l.part l.r) (λ y. y ≡ l.p-index) l.at l.w × Walkable l.at l.depth
+    storing.SoFar W.others.now W.seat W.reach l.a l.depth l.initial.w (Divided W.others.now l.part l.r) (λ y. y ≡ l.p-index) l.at l.w × Walkable l.at l.depth
 
 abbrev pub invariant-spread-loop-at : goal.invariant-spread-loop-at
 invariant-spread-loop-at l = let W = l.walk in
-    storing.SoFar W.others.now W.seat W.at.reach l.a l.depth l.initial.w (Each l.a l.end l.r) (λ c. Unit {0}) l.at l.w × Walkable l.at l.depth
+    storing.SoFar W.others.now W.seat W.reach l.a l.depth l.initial.w (Each l.a l.end l.r) (λ c. Unit {0}) l.at l.w × Walkable l.at l.depth
 
 abbrev pub decreases-spread-loop-at : goal.decreases-spread-loop-at
 decreases-spread-loop-at l = l.end - l.at

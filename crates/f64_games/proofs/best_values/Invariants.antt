@@ -8,5 +8,5 @@ use Rattle.f64_games.proofs.Seats.{front}
 use Rattle.f64_games.proofs.best_values.Given as goal
 
 abbrev pub invariant-loop-seat : goal.invariant-loop-seat
-invariant-loop-seat l = (l.out ≡ front (best_of (numbered l.profile.game) l.profile.entries.now) l.seat) × Stored (numbered l.profile.game) l.words
+invariant-loop-seat l = (l.out ≡ front (best_of (numbered l.profile.tree.game) l.profile.entries.now) l.seat) × Stored (numbered l.profile.tree.game) l.words
     × (length l.words ≡ length l.initial.words)

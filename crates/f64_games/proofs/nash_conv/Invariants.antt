@@ -7,5 +7,5 @@ use Rattle.f64_games.specs.Values.{gaps}
 use Rattle.f64_games.proofs.nash_conv.Given as goal
 
 abbrev pub invariant-loop-seat : goal.invariant-loop-seat
-invariant-loop-seat l = (l.sum ≡ gaps (numbered l.profile.game) l.profile.entries.now l.seat) × Stored (numbered l.profile.game) l.words
+invariant-loop-seat l = (l.sum ≡ gaps (numbered l.profile.tree.game) l.profile.entries.now l.seat) × Stored (numbered l.profile.tree.game) l.words
     × (length l.words ≡ length l.initial.words)

@@ -12,22 +12,22 @@ use Rattle.f64_games.proofs.worths.Goals as goal
 use Rattle.f64_games.proofs.worths.Goals.{then-seat-count, else-seat-count}
 
 pub loop-pair-init : goal.loop-pair-init
-loop-pair-init c = let p = c.args.profile.now in (0, omega arith, omega arith, λ l. omega arith, front_none (worth_of (numbered p.game) p.entries.now))
+loop-pair-init c = let p = c.args.profile.now in (0, omega arith, omega arith, λ l. omega arith, front_none (worth_of (numbered p.tree.game) p.entries.now))
 
 pub worths-two-requires : goal.worths-two-requires
-worths-two-requires c = let p = c.args.profile.now in let few = few-seats (numbered p.game) p.accepted.game in
+worths-two-requires c = let p = c.args.profile.now in let few = few-seats (numbered p.tree.game) p.accepted.game in
     record { place = omega arith; seat = omega (arith, few, c.seats-count.ensures, c.div_ceil-pair-end.ensures); shallow = omega arith }
 
 pub bounds-out-seat : goal.bounds-out-seat
-bounds-out-seat c = let p = c.args.profile.now in omega (arith, few-seats (numbered p.game) p.accepted.game, c.seats-count.ensures, c.div_ceil-pair-end.ensures)
+bounds-out-seat c = let p = c.args.profile.now in omega (arith, few-seats (numbered p.tree.game) p.accepted.game, c.seats-count.ensures, c.div_ceil-pair-end.ensures)
 
 pub bounds-out-seat-then-seat-count : goal.bounds-out-seat-then-seat-count
-bounds-out-seat-then-seat-count c = let p = c.args.profile.now in omega (arith, few-seats (numbered p.game) p.accepted.game, c.seats-count.ensures, c.if-seat-count.true)
+bounds-out-seat-then-seat-count c = let p = c.args.profile.now in omega (arith, few-seats (numbered p.tree.game) p.accepted.game, c.seats-count.ensures, c.if-seat-count.true)
 
 pub loop-pair-preserved : goal.loop-pair-preserved
 loop-pair-preserved c =
     let p = c.args.profile.now in
-    let g = numbered p.game in
+    let g = numbered p.tree.game in
     let (k, low, most, even, o) = c.loop-pair.invariant in
     let inside : 2 * c.loop-pair.pair < g.seats = omega (arith, c.seats-count.ensures, c.div_ceil-pair-end.ensures, (div_ceil_times c.seats-count.result 2 (omega arith)).1, c.loop-pair-test.true) in
     let here : k ≡ 2 * c.loop-pair.pair = at k (2 * c.loop-pair.pair) c.seats-count.result low most even (omega (arith, c.seats-count.ensures)) in
@@ -53,8 +53,8 @@ returns c =
     let p = c.args.profile.now in
     let (k, low, most, even, o) = c.loop-pair.invariant in
     let d = (div_ceil_times c.seats-count.result 2 (omega arith)).0 in
-    all_worths (numbered p.game) p.entries.now k c.loop-pair.out (omega (arith, c.seats-count.ensures))
-    (full k c.loop-pair.pair (numbered p.game).seats (omega (arith, c.seats-count.ensures)) (λ l. even (omega (arith, c.seats-count.ensures))) (omega (arith, c.seats-count.ensures, c.div_ceil-pair-end.ensures, d, c.loop-pair-test.false))) o
+    all_worths (numbered p.tree.game) p.entries.now k c.loop-pair.out (omega (arith, c.seats-count.ensures))
+    (full k c.loop-pair.pair (numbered p.tree.game).seats (omega (arith, c.seats-count.ensures)) (λ l. even (omega (arith, c.seats-count.ensures))) (omega (arith, c.seats-count.ensures, c.div_ceil-pair-end.ensures, d, c.loop-pair-test.false))) o
   where
     full : (k j m : ℕ) → k ≤ m → (k < m → k ≡ 2 * j) → m ≤ 2 * j → m ≤ k
     full k j m most even l = elim (eq-or-lt_of_le most) [ inl e ↦ omega arith | inr h ↦ omega (arith, even h) ]

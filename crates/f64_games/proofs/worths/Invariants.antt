@@ -8,4 +8,4 @@ use Rattle.f64_games.proofs.worths.Given as goal
 
 abbrev pub invariant-loop-pair : goal.invariant-loop-pair
 invariant-loop-pair l = (k : ℕ) × (k ≤ 2 * l.pair) × (k ≤ l.count) × (k < l.count → k ≡ 2 * l.pair)
-    × (l.out ≡ front (worth_of (numbered l.profile.game) l.profile.entries.now) k)
+    × (l.out ≡ front (worth_of (numbered l.profile.tree.game) l.profile.entries.now) k)

@@ -5,9 +5,6 @@ use native.Mathlib.Omega.{arith}
 use Rattle.f64_worths.proofs.Both as both
 use Rattle.f64_worths.proofs.+deal_decide_gains_worths.Goals as goal
 
-pub deal-loop-at-init : goal.deal-loop-at-init
-deal-loop-at-init t c = (both.deal-start _ _ _ _ _ _ c.none-sums.result c.none-sums.ensures, c.requires)
-
 pub deal-returns-then-next-at : goal.deal-returns-then-next-at
 deal-returns-then-next-at t c = both.deal_stuck _ _ _ _ _ _ _ _ _ _ c.loop-at.sums c.gains-g.result c.more-sums.result c.fan-count.ensures
     c.weight-p.ensures c.loop-at.invariant.0 c.loop-at-test.true c.gains-g.ensures c.behind-next.ensures c.if-next-at.true
@@ -21,13 +18,6 @@ deal-loop-at-preserved t c = (
 
 pub deal-returns : goal.deal-returns
 deal-returns t c = both.deal_end _ _ _ _ _ _ _ c.loop-at.sums c.loop-at.invariant.0 c.loop-at-test.false
-
-pub decide-returns-then-count-lt2 : goal.decide-returns-then-count-lt2
-decide-returns-then-count-lt2 t c = both.decide-few _ _ _ _ _ _ c.none.result (omega (arith, c.if-count-lt2.true, c.actions-count.ensures))
-
-pub decide-returns-then-profile-end : goal.decide-returns-then-profile-end
-decide-returns-then-profile-end t c = both.decide_none _ _ _ _ _ _ c.none-then-profile-end.result
-    (omega (arith, c.if-profile-end.true, c.set-first.ensures, c.actions-count.ensures))
 
 pub decide-returns-then-count-eq2 : goal.decide-returns-then-count-eq2
 decide-returns-then-count-eq2 t c = let P = c.args.profile.now in let s = c.set-first.result in let z = s + c.actions-count.result in

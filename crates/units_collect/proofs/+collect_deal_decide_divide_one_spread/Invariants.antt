@@ -26,12 +26,12 @@ decreases-spread l = 4 * l.depth + 2
 
 abbrev pub invariant-divide-loop-entry : goal.invariant-divide-loop-entry
 invariant-divide-loop-entry l = let W = l.walk in
-    storing.SoFar W.others.entries.now W.others.parts W.seat W.at.reach l.a l.depth l.initial.w (Shared W.others.entries.now l.part W.others.parts l.u) (λ y. y ≡ l.entry-index) l.at l.w
+    storing.SoFar W.others.entries.now W.others.parts W.seat W.reach l.a l.depth l.initial.w (Shared W.others.entries.now l.part W.others.parts l.u) (λ y. y ≡ l.entry-index) l.at l.w
     × Walkable l.at l.u l.depth
 
 abbrev pub invariant-spread-loop-at : goal.invariant-spread-loop-at
 invariant-spread-loop-at l = let W = l.walk in
-    storing.SoFar W.others.entries.now W.others.parts W.seat W.at.reach l.a l.depth l.initial.w (Each l.a l.end l.u) (λ c. Unit {0}) l.at l.w
+    storing.SoFar W.others.entries.now W.others.parts W.seat W.reach l.a l.depth l.initial.w (Each l.a l.end l.u) (λ c. Unit {0}) l.at l.w
     × Walkable l.at l.u l.depth
 
 abbrev pub decreases-spread-loop-at : goal.decreases-spread-loop-at

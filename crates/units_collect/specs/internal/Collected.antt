@@ -30,10 +30,10 @@ pub record CollectedAll (R : Tree → Trees → (ℕ → ℕ) → Type 0) (table
 
 -- the same of a walk
 abbrev pub Collects : (W : Walk Table) (a u d : ℕ) (old new : List ℕ) → Type 0
-Collects W a u d old new = Collected W.others.entries.now W.others.parts W.seat W.at.reach a u d old new
+Collects W a u d old new = Collected W.others.entries.now W.others.parts W.seat W.reach a u d old new
 
 abbrev pub CollectsAll : (R : Tree → Trees → (ℕ → ℕ) → Type 0) (W : Walk Table) (a d : ℕ) (old new : List ℕ) → Type 0
-CollectsAll R W a d old new = CollectedAll R W.others.entries.now W.others.parts W.seat W.at.reach a d old new
+CollectsAll R W a d old new = CollectedAll R W.others.entries.now W.others.parts W.seat W.reach a d old new
 
 -- a row that ends at place z, u units for each of its trees
 pub record Each (a z u : ℕ) (T : Tree) (f : Trees) (g : ℕ → ℕ) : Type 0 where

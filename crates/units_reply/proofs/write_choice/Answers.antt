@@ -12,6 +12,6 @@ loop-action-init c = refl
 
 pub loop-action-preserved : goal.loop-action-preserved
 loop-action-preserved c = listing_more _ _ _ _ _ _ c.put.ensures (λ a. cond (eqb a c.args.choice) c.args.parts 0) (elim c.if-action-choice.branch [
-  | then-action-choice w ↦ w.put-is ∙ ap (λ t. cond t c.args.parts 0) (sym (eq-eqb _ _ w.if-action-choice.true))
-  | else-action-choice w ↦ w.put-is ∙ ap (λ t. cond t c.args.parts 0) (sym (ne_eqb _ _ w.if-action-choice.false))
+  | then-action-choice w ↦ w.part-is ∙ ap (λ t. cond t c.args.parts 0) (sym (eq-eqb _ _ w.if-action-choice.true))
+  | else-action-choice w ↦ w.part-is ∙ ap (λ t. cond t c.args.parts 0) (sym (ne_eqb _ _ w.if-action-choice.false))
 ]) c.loop-action.invariant

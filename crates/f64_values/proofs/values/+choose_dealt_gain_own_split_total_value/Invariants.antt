@@ -27,23 +27,23 @@ abbrev pub decreases-value : goal.decreases-value
 decreases-value l = 5 * l.depth
 
 abbrev pub invariant-choose-loop-action : goal.invariant-choose-loop-action
-invariant-choose-loop-action l = let W = l.walk in
-    choosing.Led W.others.now W.seat l.depth W.at.heads W.at.reach W.at.kept l.first l.count l.initial.w l.w l.lead.action l.lead.sum l.action × (l.lead.action ≤ l.action - 1)
+invariant-choose-loop-action l = let S = l.search in
+    choosing.Led S.walk.others.now S.walk.seat l.depth S.heads S.walk.reach S.kept l.first l.count l.initial.w l.w l.lead.action l.lead.sum l.action × (l.lead.action ≤ l.action - 1)
 
 abbrev pub invariant-dealt-loop-at : goal.invariant-dealt-loop-at
-invariant-dealt-loop-at l = let W = l.walk in
-    valuing.Along W.others.now W.seat l.depth W.at.heads W.at.reach W.at.kept l.a l.end l.initial.w l.each l.w l.at l.sum × (l.at + l.depth < 8388608)
+invariant-dealt-loop-at l = let S = l.search in
+    valuing.Along S.walk.others.now S.walk.seat l.depth S.heads S.walk.reach S.kept l.a l.end l.initial.w l.each l.w l.at l.sum × (l.at + l.depth < 8388608)
 
 abbrev pub decreases-dealt-loop-at : goal.decreases-dealt-loop-at
 decreases-dealt-loop-at l = l.end - l.at
 
 abbrev pub invariant-split-loop-entry : goal.invariant-split-loop-entry
-invariant-split-loop-entry l = let W = l.walk in
-    valuing.Halfway W.others.now W.seat l.depth W.at.heads W.at.reach W.at.kept l.a l.x l.initial.w l.w l.at l.entry-index l.sum × (l.at + l.depth < 8388608)
+invariant-split-loop-entry l = let S = l.search in
+    valuing.Halfway S.walk.others.now S.walk.seat l.depth S.heads S.walk.reach S.kept l.a l.x l.initial.w l.w l.at l.entry-index l.sum × (l.at + l.depth < 8388608)
 
 abbrev pub invariant-total-loop-at : goal.invariant-total-loop-at
-invariant-total-loop-at l = let W = l.walk in
-    choosing.Summed W.others.now W.seat l.depth W.at.heads W.at.reach W.at.kept l.first l.action l.initial.w l.w l.at l.sum × (l.at < PLACES)
+invariant-total-loop-at l = let S = l.search in
+    choosing.Summed S.walk.others.now S.walk.seat l.depth S.heads S.walk.reach S.kept l.first l.action l.initial.w l.w l.at l.sum × (l.at < PLACES)
 
 abbrev pub decreases-total-loop-at : goal.decreases-total-loop-at
 decreases-total-loop-at l = PLACES - l.at

@@ -1,7 +1,0 @@
--- A byte written, where there is a place for it. Assumes nothing.
-use lib.Seq.{set_out}
-use mathlib.Core.Path.{sym}
-use Rattle.units_reply.proofs.put.Goals as goal
-
-pub returns-else-i-out : goal.returns-else-i-out
-returns-else-i-out c = sym (set_out _ _ _ c.if-i-out.false)
