@@ -8,10 +8,10 @@ ghost use Rattle.tree_refusals.specs.Checks.{reply-refusal};
 ghost use Rattle.arena_store.specs.Memory.{MemoryAfter};
 ghost use Rattle.best_reply.specs.Calls.{answer, answer_of, written, Demand};
 
-use games::Game;
 use refusals::{Refusal, number_of};
 
 // For C, a call's refusal number, 0 if it was accepted, and the best value, 0 if it was refused.
+// The refusal is its number, since a struct with an enum in it does not cross to C.
 #[repr(C)]
 #[derive(Clone, Copy)]
 pub struct ReplyAnswer {
@@ -31,7 +31,8 @@ impl From<Result<i64, Refusal>> for ReplyAnswer {
 }
 
 // The best value of a seat against the other seats of a table with d parts in each set, and the reply, written to the front of out: the table with d on the
-// chosen action in each of the seat's sets and 0 on its others.
+// chosen action in each of the seat's sets and 0 on its others. C's call has the same seven parameters.
+#[tactic(auto, using(arena_store::proofs::Memory::front_left))]
 pub fn best_reply(
     number: usize,
     seats: usize,
@@ -49,8 +50,7 @@ pub fn best_reply(
     ensures memory { MemoryAfter (number_of result) (game_of number seats) work.old work.new }
 {
     let table = tree_refusals::check_reply(number, seats, work.len(), seat, d, table, out.len())?;
-    let words = &mut work[..Game::WORDS * table.game.nodes()];
-    arena_store::store(table.game, words);
+    let (words, _) = arena_store::stored_in(work, table.tree);
     let value = units_best::best_value(&table, words, seat);
     units_best::write_best_reply(&table, words, seat, out);
     Ok(value)

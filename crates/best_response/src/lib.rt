@@ -9,11 +9,10 @@ ghost use Rattle.arena_store.specs.Memory.{MemoryAfter};
 ghost use Rattle.f64_games.specs.Values.{best_of, bests_of, worths_of, nash_conv_of, exploitability_of};
 ghost use Rattle.best_response.specs.Calls.{single, answer, answer_of};
 
-use games::Game;
 use refusals::{Refusal, number_of};
 use tree_refusals::{check_value, check_values};
 
-// Count values, 0.0 past them.
+// Count values, 0.0 past them. Why it is a struct of its own: Payoffs of refusals.
 #[derive(Clone, Copy, Default)]
 pub struct Values {
     pub count: usize,
@@ -33,6 +32,7 @@ impl Values {
 }
 
 // For C, a call's refusal number, 0 if it was accepted, and the values; every number but the first is 0 if it was refused.
+// The refusal is its number, since a struct with an enum in it does not cross to C.
 #[repr(C)]
 #[derive(Clone, Copy)]
 pub struct ValuesAnswer {
@@ -41,6 +41,7 @@ pub struct ValuesAnswer {
     pub values: [f64; 6],
 }
 
+// Written for each call's struct, since one with a type parameter does not cross to C.
 impl From<Result<Values, Refusal>> for ValuesAnswer {
     ghost from_gives = { λ outcome answer. answer ≡ answer_of outcome };
 
@@ -56,6 +57,7 @@ impl From<Result<Values, Refusal>> for ValuesAnswer {
 }
 
 // The best response value of a seat to the other seats of a profile. The tree is built at the front of the work memory, which has 12 words for each node.
+#[tactic(auto, using(arena_store::proofs::Memory::front_left))]
 pub fn best_response_value(
     number: usize,
     seats: usize,
@@ -68,12 +70,12 @@ pub fn best_response_value(
     ensures memory { MemoryAfter (number_of result) (game_of number seats) work.old work.new }
 {
     let profile = check_value(number, seats, work.len(), seat, profile)?;
-    let words = &mut work[..Game::WORDS * profile.game.nodes()];
-    arena_store::store(profile.game, words);
+    let (words, _) = arena_store::stored_in(work, profile.tree);
     Ok(Values::one(f64_games::best_value(&profile, words, seat)))
 }
 
 // The best response value of each seat.
+#[tactic(auto, using(arena_store::proofs::Memory::front_left))]
 pub fn best_response_values(
     number: usize,
     seats: usize,
@@ -85,16 +87,16 @@ pub fn best_response_values(
     ensures memory { MemoryAfter (number_of result) (game_of number seats) work.old work.new }
 {
     let profile = check_values(number, seats, work.len(), profile)?;
-    let words = &mut work[..Game::WORDS * profile.game.nodes()];
-    arena_store::store(profile.game, words);
+    let (words, _) = arena_store::stored_in(work, profile.tree);
     let values = f64_games::best_values(&profile, words);
     Ok(Values {
-        count: profile.game.seats(),
+        count: profile.tree.game.seats(),
         values,
     })
 }
 
 // What a profile is worth to each seat.
+#[tactic(auto, using(arena_store::proofs::Memory::front_left))]
 pub fn profile_values(
     number: usize,
     seats: usize,
@@ -106,14 +108,14 @@ pub fn profile_values(
     ensures memory { MemoryAfter (number_of result) (game_of number seats) work.old work.new }
 {
     let profile = check_values(number, seats, work.len(), profile)?;
-    let words = &mut work[..Game::WORDS * profile.game.nodes()];
-    arena_store::store(profile.game, words);
+    let (words, _) = arena_store::stored_in(work, profile.tree);
     let values = f64_games::worths(&profile, words);
-    let count = profile.game.seats();
+    let count = profile.tree.game.seats();
     Ok(Values { count, values })
 }
 
 // NashConv of a profile: the sum of best response value − worth by seat.
+#[tactic(auto, using(arena_store::proofs::Memory::front_left))]
 pub fn nash_conv(
     number: usize,
     seats: usize,
@@ -125,12 +127,12 @@ pub fn nash_conv(
     ensures memory { MemoryAfter (number_of result) (game_of number seats) work.old work.new }
 {
     let profile = check_values(number, seats, work.len(), profile)?;
-    let words = &mut work[..Game::WORDS * profile.game.nodes()];
-    arena_store::store(profile.game, words);
+    let (words, _) = arena_store::stored_in(work, profile.tree);
     Ok(Values::one(f64_games::nash_conv(&profile, words)))
 }
 
 // Exploitability of a profile: NashConv divided by the seats.
+#[tactic(auto, using(arena_store::proofs::Memory::front_left))]
 pub fn exploitability(
     number: usize,
     seats: usize,
@@ -142,7 +144,6 @@ pub fn exploitability(
     ensures memory { MemoryAfter (number_of result) (game_of number seats) work.old work.new }
 {
     let profile = check_values(number, seats, work.len(), profile)?;
-    let words = &mut work[..Game::WORDS * profile.game.nodes()];
-    arena_store::store(profile.game, words);
+    let (words, _) = arena_store::stored_in(work, profile.tree);
     Ok(Values::one(f64_games::exploitability(&profile, words)))
 }

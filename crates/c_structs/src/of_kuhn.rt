@@ -1,6 +1,5 @@
 // Kuhn's position and answers as C has them, field by field those of crate kuhn, and the conversions. The position is kept beside KuhnState, since the
 // header gives it another name and numbers of 64 bits, and the answers are kept beside Leduc's, since a generic struct cannot cross to C.
-// Lengths cross by `as`, since Rust has no From between u64 and usize.
 ghost use Rattle.std.specs.Prelude.{◌≡◌};
 ghost use Rattle.refusals.specs.Outcomes.{moved_by, written_by, paid_by};
 ghost use Rattle.c_structs.specs.Kuhn.{state_of, position_of, moved_of, written_of, payoffs_of};
@@ -8,6 +7,7 @@ ghost use Rattle.c_structs.specs.Kuhn.{state_of, position_of, moved_of, written_
 use kuhn::KuhnState;
 use refusals::{Payoffs, Refusal, number_of};
 
+// C's interface has lengths beside arrays.
 // A position.
 #[repr(C)]
 #[derive(Clone, Copy)]
@@ -29,6 +29,7 @@ impl From<KuhnPosition> for KuhnState {
             history,
             acted,
         } = position;
+        // By `as`: std has no From for u64 to usize, and a TryFrom would answer an error that cannot come.
         KuhnState {
             cards,
             dealt: dealt as usize,
@@ -49,6 +50,7 @@ impl From<KuhnState> for KuhnPosition {
             history,
             acted,
         } = state;
+        // By `as`: std has no From for usize to u64.
         KuhnPosition {
             cards,
             dealt: dealt as u64,
@@ -58,7 +60,7 @@ impl From<KuhnState> for KuhnPosition {
     }
 }
 
-// What a start, a deal, a step or a saved-position check answers.
+// What a start, a deal, a step or a saved-position check answers. C's interface has the refusal's number, since an enum does not cross.
 #[repr(C)]
 #[derive(Clone, Copy)]
 pub struct KuhnMoved {
@@ -78,7 +80,7 @@ impl KuhnMoved {
     }
 }
 
-// What a legal list or a key answers.
+// What a legal list or a key answers. C's interface: a number for the refusal, and how many bytes of the output were written.
 #[repr(C)]
 #[derive(Clone, Copy)]
 pub struct KuhnWritten {
@@ -95,12 +97,13 @@ impl KuhnWritten {
         KuhnWritten {
             refusal: number_of(&outcome),
             position: KuhnPosition::from(state),
+            // By `as`, as the lengths of a position.
             count: outcome.unwrap_or(0) as u64,
         }
     }
 }
 
-// What a payoff answers.
+// What a payoff answers. C's interface: a number for the refusal, and a count beside an array.
 #[repr(C)]
 #[derive(Clone, Copy)]
 pub struct KuhnPayoffs {
@@ -124,6 +127,7 @@ impl KuhnPayoffs {
         KuhnPayoffs {
             refusal,
             position: KuhnPosition::from(state),
+            // By `as`, as the lengths of a position.
             count: count as u64,
             payoffs,
         }

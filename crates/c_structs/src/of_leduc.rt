@@ -2,7 +2,7 @@
 // The position and the answers are kept beside those of Rattle for the reasons that of_kuhn.rt gives.
 ghost use Rattle.std.specs.Prelude.{◌≡◌};
 ghost use Rattle.refusals.specs.Outcomes.{moved_by, written_by, paid_by};
-ghost use Rattle.c_structs.specs.Leduc.{public_of, byte_of, state_of, position_of, moved_of, written_of, payoffs_of};
+ghost use Rattle.c_structs.specs.Leduc.{state_of, position_of, moved_of, written_of, payoffs_of};
 
 use leduc::LeducState;
 use refusals::{Payoffs, Refusal, number_of};
@@ -10,6 +10,7 @@ use refusals::{Payoffs, Refusal, number_of};
 // The byte of no public card. It is in no deck, so every card of a game has a byte of its own.
 pub const NONE: u8 = 255;
 
+// C's interface has lengths beside arrays, and a byte for no card, since an Option does not cross.
 // A position.
 #[repr(C)]
 #[derive(Clone, Copy)]
@@ -22,23 +23,7 @@ pub struct LeducPosition {
     pub acted2: u64,
 }
 
-// Every byte comes back from here through byte_of; the other way round all but the card 255, which comes back as none.
-fn public_of(byte: u8) -> Option<u8>
-    ensures { result ≡ public_of byte }
-{
-    if byte == NONE { None } else { Some(byte) }
-}
-
-fn byte_of(public: Option<u8>) -> u8
-    ensures { result ≡ byte_of public }
-{
-    match public {
-        None => NONE,
-        Some(card) => card,
-    }
-}
-
-// The way in: what the calls of crate leduc take.
+// The way in: what the calls of crate leduc take. Each byte of a public card comes back by the way out.
 impl From<LeducPosition> for LeducState {
     ghost from_gives = { λ position state. state ≡ state_of position };
 
@@ -51,10 +36,11 @@ impl From<LeducPosition> for LeducState {
             acted1,
             acted2,
         } = position;
+        // By `as`: std has no From for u64 to usize, and a TryFrom would answer an error that cannot come.
         LeducState {
             cards,
             dealt: dealt as usize,
-            public: public_of(public),
+            public: (public != NONE).then_some(public),
             history,
             acted1: acted1 as usize,
             acted2: acted2 as usize,
@@ -62,7 +48,7 @@ impl From<LeducPosition> for LeducState {
     }
 }
 
-// The way out: a position handed in comes back to the byte.
+// The way out: a position handed in comes back to the byte. Of public cards 255 alone does not come back by the way in, but as none.
 impl From<LeducState> for LeducPosition {
     ghost from_gives = { λ state position. position ≡ position_of state };
 
@@ -75,10 +61,11 @@ impl From<LeducState> for LeducPosition {
             acted1,
             acted2,
         } = state;
+        // By `as`: std has no From for usize to u64.
         LeducPosition {
             cards,
             dealt: dealt as u64,
-            public: byte_of(public),
+            public: public.unwrap_or(NONE),
             history,
             acted1: acted1 as u64,
             acted2: acted2 as u64,
@@ -86,7 +73,7 @@ impl From<LeducState> for LeducPosition {
     }
 }
 
-// What a start, a deal, a step or a saved-position check answers.
+// What a start, a deal, a step or a saved-position check answers. C's interface has the refusal's number, since an enum does not cross.
 #[repr(C)]
 #[derive(Clone, Copy)]
 pub struct LeducMoved {
@@ -106,7 +93,7 @@ impl LeducMoved {
     }
 }
 
-// What a legal list or a key answers.
+// What a legal list or a key answers. C's interface: a number for the refusal, and how many bytes of the output were written.
 #[repr(C)]
 #[derive(Clone, Copy)]
 pub struct LeducWritten {
@@ -123,12 +110,13 @@ impl LeducWritten {
         LeducWritten {
             refusal: number_of(&outcome),
             position: LeducPosition::from(state),
+            // By `as`, as the lengths of a position.
             count: outcome.unwrap_or(0) as u64,
         }
     }
 }
 
-// What a payoff answers.
+// What a payoff answers. C's interface: a number for the refusal, and a count beside an array.
 #[repr(C)]
 #[derive(Clone, Copy)]
 pub struct LeducPayoffs {
@@ -152,6 +140,7 @@ impl LeducPayoffs {
         LeducPayoffs {
             refusal,
             position: LeducPosition::from(state),
+            // By `as`, as the lengths of a position.
             count: count as u64,
             payoffs,
         }

@@ -1,4 +1,5 @@
 // The f64 values for C: the game's number and the seat count, then what the call of the crate takes.
+// Numbers go in by `as` in each call: std has no From for u64 to usize, and a TryFrom would answer an error that cannot come.
 ghost use Rattle.std.specs.Prelude.{◌≡◌, length};
 ghost use Rattle.games.specs.Games.{game_of};
 ghost use Rattle.tree_refusals.specs.Checks.{value-refusal, values_refusal};

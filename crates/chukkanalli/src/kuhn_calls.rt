@@ -1,4 +1,5 @@
-// Kuhn's calls for C: the seat count first, then what the call of crate kuhn takes. Numbers go in by `as`, since Rust has no From between u64 and usize.
+// Kuhn's calls for C: the seat count first, then what the call of crate kuhn takes.
+// Numbers go in by `as` in each call: std has no From for u64 to usize, and a TryFrom would answer an error that cannot come.
 ghost use Rattle.std.specs.Prelude.{◌≡◌, length};
 ghost use Rattle.refusals.specs.Outcomes.{written};
 ghost use Rattle.kuhn.specs.Calls.{start_refusal, started, dealt, stepped, listed, legal_of, keyed, key_of, paid, checked};
@@ -16,7 +17,7 @@ fn game_of(seats: u64) -> KuhnPoker
     }
 }
 
-// Refuses a seat count outside 2 to 10.
+// Refuses a seat count outside 2 to 10. C's interface has the refusal's number alone, since an enum does not cross.
 #[unsafe(no_mangle)]
 pub extern "C" fn chukkanalli_kuhn_validate(seats: u64) -> u64
     ensures { result ≡ start_refusal (game_of seats) }

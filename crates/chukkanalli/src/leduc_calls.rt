@@ -1,4 +1,5 @@
 // Leduc's calls for C: what the call of crate leduc takes.
+// Numbers go in by `as` in each call: std has no From for u64 to usize, and a TryFrom would answer an error that cannot come.
 ghost use Rattle.std.specs.Prelude.{◌≡◌, length};
 ghost use Rattle.refusals.specs.Outcomes.{written};
 ghost use Rattle.leduc_positions.specs.Positions.{legal_of};

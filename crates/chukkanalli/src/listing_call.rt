@@ -1,4 +1,5 @@
 // The listing for C: the game's number and the seat count, then the memory that the call of crate listing takes.
+// Numbers go in by `as` in each call: std has no From for u64 to usize, and a TryFrom would answer an error that cannot come.
 ghost use Rattle.std.specs.Prelude.{◌≡◌, length};
 ghost use Rattle.tree_refusals.specs.Checks.{listing-refusal};
 ghost use Rattle.listing.specs.Calls.{answer, written, game_of};

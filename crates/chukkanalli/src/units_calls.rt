@@ -1,4 +1,5 @@
 // Whole units for C: the game's number and the seat count, then what the call of the crate takes.
+// Numbers go in by `as` in each call: std has no From for u64 to usize, and a TryFrom would answer an error that cannot come.
 ghost use Rattle.std.specs.Prelude.{◌≡◌, length};
 ghost use Rattle.games.specs.Games.{game_of};
 ghost use Rattle.tree_refusals.specs.Checks.{evaluation_refusal, reply-refusal};
@@ -27,7 +28,7 @@ pub extern "C" fn chukkanalli_worths(
     worths::worths(game as usize, seats as usize, work, d as usize, table).into()
 }
 
-// A seat's best value, and the reply that is worth it.
+// A seat's best value, and the reply that is worth it. Kept at seven parameters: C's header has them.
 #[unsafe(no_mangle)]
 pub extern "C" fn chukkanalli_best_reply(
     game: u64,

@@ -16,8 +16,9 @@ pub struct Wide {
 // 2^32: a number of 64 bits has two digits in this base.
 const BASE: u64 = 4294967296;
 
-// The whole product of two numbers, by digits of 32 bits: column by column, each with the carry of the one before it. Kept in halves of 64 bits and not in a
-// u128, since a demand names the halves, and what a lost carry would do is tried on them.
+// The whole product of two numbers, by digits of 32 bits: column by column, each with the carry of the one before it. Kept in
+// halves of 64 bits, and not in a u128, since the demand for this comparison names the halves.
+#[tactic(auto, using(crate::proofs::Columns::whole))]
 pub fn product(a: u64, b: u64) -> Wide
     ensures { result.high * 2 ^ 64 + result.low ≡ a * b }
 {
@@ -41,13 +42,9 @@ pub fn compare(a: u64, u: u64, b: u64, v: u64) -> Ordering
     product(a, v).cmp(&product(b, u))
 }
 
-// The number of a comparison for C.
+// The number of a comparison for C, to which an enum does not cross: -1, 0 or 1, by `as`, for which Ordering has no From.
 pub fn number(comparison: Ordering) -> i64
     ensures { result ≡ number_of comparison }
 {
-    match comparison {
-        Ordering::Less => -1,
-        Ordering::Equal => 0,
-        Ordering::Greater => 1,
-    }
+    comparison as i64
 }

@@ -1,7 +1,6 @@
 -- The comparison among evaluated tables: their units are above 0 and NashConv is not below 0, so the facts of the comparison hold of them. Assumes nothing.
 use mathlib.Core.Path.{◌≡◌, refl, ap, ap₂, subst, ◌∙◌}
-use mathlib.Core.Bool.{Bool, true, false, cond}
-use Prim.Native.Nat.{ℕ, zero, suc, ◌+◌, ◌*◌, ◌≤◌, ◌<◌}
+use Prim.Native.Nat.{ℕ, zero, suc, ◌*◌, ◌≤◌, ◌<◌}
 use native.Mathlib.Nat as NatL
 use native.Mathlib.Omega.{arith}
 use lib.Dec.{ltb→lt, lt→ltb}
@@ -12,7 +11,7 @@ use Rattle.std.specs.declared.cmp.Ordering.TheVariants.{Less, Equal, Greater}
 use Rattle.comparison.proofs.Facts as Comparison
 use Rattle.game_tree.specs.Table.{Table, table_best, table_worth, nash_conv_over}
 use Rattle.game_tree.proofs.Integers.{+ℤ-mono, +ℤ-cancel}
-use Rattle.games.specs.Games.{Game, tree_of, C, m, root_units}
+use Rattle.games.specs.Games.{Game, tree_of, m, root_units}
 use Rattle.games.proofs.Facts.{fans-positive, reply-best}
 use Rattle.tree_refusals.specs.Accepted.{AcceptedTable}
 use Rattle.nash_conv_units.specs.Calls.{nash_conv_of, answer}

@@ -4,12 +4,12 @@
 ghost use Rattle.std.specs.Prelude.{◌≡◌, ◌≤◌, length};
 ghost use Rattle.std.proofs.lemmas.List.Edits.{sets};
 ghost use Rattle.refusals.specs.Outcomes.{number_of};
-ghost use Rattle.games.specs.Known.{Known};
 ghost use Rattle.games.specs.internal.Numbered.{numbered};
 ghost use Rattle.tree_refusals.specs.Checks.{listing-refusal};
 ghost use Rattle.listing.specs.Calls.{listing_of, answer, answer_of, written, game_of};
 
 use games::Game;
+use games::tree::GameTree;
 use refusals::{Refusal, number_of};
 
 // The nodes and sets of a game's tree.
@@ -19,7 +19,8 @@ pub struct Listed {
     pub sets: usize,
 }
 
-// For C, a call's refusal number, 0 if it was accepted, and the nodes and sets; these are 0 if it was refused.
+// For C, a call's refusal number, 0 if it was accepted, and the nodes and sets; these are 0 if it was refused. The refusal is its number, since a struct with
+// an enum in it does not cross to C.
 #[repr(C)]
 #[derive(Clone, Copy)]
 pub struct ListingAnswer {
@@ -28,6 +29,7 @@ pub struct ListingAnswer {
     pub sets: usize,
 }
 
+// Written for each call's struct, since one with a type parameter does not cross to C.
 impl From<Result<Listed, Refusal>> for ListingAnswer {
     ghost from_gives = { λ outcome answer. answer ≡ answer_of outcome };
 
@@ -43,11 +45,11 @@ impl From<Result<Listed, Refusal>> for ListingAnswer {
 }
 
 // The listing of a game whose tree is not refused, from the start of an output.
-fn write_listing(game: Game, out: &mut [u8])
-    requires { Known (numbered game) × (length (listing_of (numbered game)) ≤ length out.old) }
-    ensures { out.new ≡ sets out.old 0 (listing_of (numbered game)) }
+fn write_listing(tree: GameTree, out: &mut [u8])
+    requires { length (listing_of (numbered tree.game)) ≤ length out.old }
+    ensures { out.new ≡ sets out.old 0 (listing_of (numbered tree.game)) }
 {
-    match game {
+    match tree.game {
         Game::Kuhn(seats) => kuhn_listing::list_sets(out, seats.count),
         Game::Leduc => leduc_listing::list_sets(out),
     }
@@ -65,10 +67,10 @@ pub fn enumerate_infosets(
         (game_of number seats) }
     ensures output { out.new ≡ written (number_of result) (game_of number seats) out.old }
 {
-    let game = tree_refusals::check_listing(number, seats, work.len(), out.len())?;
-    write_listing(game, out);
+    let tree = tree_refusals::check_listing(number, seats, work.len(), out.len())?;
+    write_listing(tree, out);
     Ok(Listed {
-        nodes: game.nodes(),
-        sets: game.sets(),
+        nodes: tree.game.nodes(),
+        sets: tree.game.sets(),
     })
 }

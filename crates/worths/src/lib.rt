@@ -8,11 +8,10 @@ ghost use Rattle.tree_refusals.specs.Checks.{evaluation_refusal};
 ghost use Rattle.arena_store.specs.Memory.{MemoryAfter};
 ghost use Rattle.worths.specs.Calls.{answer, answer_of};
 
-use games::Game;
 use refusals::{Refusal, number_of};
 use units_worths::worths::table_worths;
 
-// The worth of each of count seats, 0 past them.
+// The worth of each of count seats, 0 past them. Why it is a struct of its own: Payoffs of refusals.
 #[derive(Clone, Copy, Default)]
 pub struct SeatWorths {
     pub count: usize,
@@ -20,6 +19,7 @@ pub struct SeatWorths {
 }
 
 // For C, a call's refusal number, 0 if it was accepted, and the worths; every number but the first is 0 if it was refused.
+// The refusal is its number, since a struct with an enum in it does not cross to C.
 #[repr(C)]
 #[derive(Clone, Copy)]
 pub struct WorthsAnswer {
@@ -28,6 +28,7 @@ pub struct WorthsAnswer {
     pub worths: [i64; 6],
 }
 
+// Written for each call's struct, since one with a type parameter does not cross to C.
 impl From<Result<SeatWorths, Refusal>> for WorthsAnswer {
     ghost from_gives = { λ outcome answer. answer ≡ answer_of outcome };
 
@@ -44,6 +45,7 @@ impl From<Result<SeatWorths, Refusal>> for WorthsAnswer {
 
 // What a table with d parts in each set is worth to each seat, in whole units. The tree is built at the front of the work memory, which has 12 words for each
 // node.
+#[tactic(auto, using(arena_store::proofs::Memory::front_left))]
 pub fn worths(
     number: usize,
     seats: usize,
@@ -56,11 +58,10 @@ pub fn worths(
     ensures memory { MemoryAfter (number_of result) (game_of number seats) work.old work.new }
 {
     let table = tree_refusals::check_evaluation(number, seats, work.len(), d, table)?;
-    let words = &mut work[..Game::WORDS * table.game.nodes()];
-    arena_store::store(table.game, words);
+    let (words, _) = arena_store::stored_in(work, table.tree);
     let worths = table_worths(&table, words);
     Ok(SeatWorths {
-        count: table.game.seats(),
+        count: table.tree.game.seats(),
         worths,
     })
 }

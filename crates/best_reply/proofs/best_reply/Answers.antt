@@ -5,7 +5,6 @@ use mir.Syntax.{w64}
 use borrow.Author.Rules.{rules}
 use Rattle.game_tree.specs.Table.{reply_table}
 use Rattle.games.specs.Games.{game_of, tree_of, root_units}
-use Rattle.arena_store.proofs.Memory.{front_left}
 use Rattle.units_best.specs.Best.{BestReply}
 use Rattle.best_reply.proofs.Outcome.{was_written, demanded}
 use Rattle.best_reply.proofs.best_reply.Goals as goal
@@ -28,8 +27,3 @@ returns-clause-best c =
     let whole : to_z w64 (of_z w64 c.best_value-value.result) ≡ c.best_value-value.result = search rules in
     demanded g i d table _ c.args.out.now _ a.3 e.0
     (subst (λ v. BestReply g d i table v (reply_table (tree_of g) d (root_units g d) table i)) (sym (whole ∙ best)) e.1)
-
-pub returns-clause-memory : goal.returns-clause-memory
-returns-clause-memory c = let t = c.in_ok-table in
-    front_left t.table.game (game_of c.args.number c.args.seats) t.ensures.made.0 c.args.work.now _ c.nodes.ensures (t.ensures.refused.passed refl).1 _
-    (c.write_best_reply.auto.words ∙ c.best_value-value.auto.words ∙ c.store.auto.words)

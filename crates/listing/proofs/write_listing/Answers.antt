@@ -11,23 +11,23 @@ use Rattle.listing.proofs.write_listing.Goals as goal
 
 pub list_sets-requires : goal.list_sets-requires
 list_sets-requires c =
-    let g = numbered c.args.game in
+    let g = numbered c.args.tree.game in
     let k = ap (λ x. (numbered x).number) c.in-Kuhn.is in
     let s = ap (λ x. (numbered x).seats) c.in-Kuhn.is in (
-      omega (arith, s, kuhn_two g c.requires.0 k),
-      omega (arith, s, kuhn-six g c.requires.0 k),
-      omega (arith, c.requires.1, ap length (kuhn-listed g k ∙ ap listing_of_kuhn s)),
+      omega (arith, s, kuhn_two g c.args.tree.known k),
+      omega (arith, s, kuhn-six g c.args.tree.known k),
+      omega (arith, c.requires, ap length (kuhn-listed g k ∙ ap listing_of_kuhn s)),
     )
 
 pub list_sets-requires-in-Leduc : goal.list_sets-requires-in-Leduc
-list_sets-requires-in-Leduc c = omega (arith, c.requires.1, ap length (leduc-listed (numbered c.args.game) (rw c.in-Leduc.is (λ e. omega arith))))
+list_sets-requires-in-Leduc c = omega (arith, c.requires, ap length (leduc-listed (numbered c.args.tree.game) (rw c.in-Leduc.is (λ e. omega arith))))
 
 pub returns-in-Kuhn : goal.returns-in-Kuhn
 returns-in-Kuhn c =
     let k = ap (λ x. (numbered x).number) c.in-Kuhn.is in
     let s = ap (λ x. (numbered x).seats) c.in-Kuhn.is in
-    c.list_sets.ensures ∙ ap (sets c.args.out.now 0) (sym (kuhn-listed (numbered c.args.game) k ∙ ap listing_of_kuhn s))
+    c.list_sets.ensures ∙ ap (sets c.args.out.now 0) (sym (kuhn-listed (numbered c.args.tree.game) k ∙ ap listing_of_kuhn s))
 
 pub returns-in-Leduc : goal.returns-in-Leduc
 returns-in-Leduc c = c.list_sets-in-Leduc.ensures
-    ∙ ap (sets c.args.out.now 0) (sym (leduc-listed (numbered c.args.game) (rw c.in-Leduc.is (λ e. omega arith))))
+    ∙ ap (sets c.args.out.now 0) (sym (leduc-listed (numbered c.args.tree.game) (rw c.in-Leduc.is (λ e. omega arith))))

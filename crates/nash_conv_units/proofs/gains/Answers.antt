@@ -10,14 +10,14 @@ use Rattle.nash_conv_units.proofs.Seats.{few-seats, gain_is, no_seats, one_seat_
 use Rattle.nash_conv_units.proofs.gains.Goals as goal
 
 pub loop-seat-init : goal.loop-seat-init
-loop-seat-init c = let t = c.args.table.now in (no_seats (numbered t.game) t.parts t.entries.now t.accepted, c.table_worths-worths.ensures.1, refl)
+loop-seat-init c = let t = c.args.table.now in (no_seats (numbered t.tree.game) t.parts t.entries.now t.accepted, c.table_worths-worths.ensures.1, refl)
 
 pub bounds-worths-seat : goal.bounds-worths-seat
-bounds-worths-seat c = let t = c.args.table.now in omega (arith, c.seats-seat-end.ensures, few-seats (numbered t.game) t.parts t.entries.now t.accepted)
+bounds-worths-seat c = let t = c.args.table.now in omega (arith, c.seats-seat-end.ensures, few-seats (numbered t.tree.game) t.parts t.entries.now t.accepted)
 
 pub overflow_add-sum : goal.overflow_add-sum
 overflow_add-sum c =
-    let t = c.args.table.now in let g = numbered t.game in
+    let t = c.args.table.now in let g = numbered t.tree.game in
     let inside : c.loop-seat.seat < g.seats = omega (arith, c.seats-seat-end.ensures, c.loop-seat-test.true) in
     let whole : to_z w64 (of_z w64 c.best_value-best.result) ≡ c.best_value-best.result = search rules in
     let b = c.best_value-best.ensures in
@@ -26,7 +26,7 @@ overflow_add-sum c =
 
 pub loop-seat-preserved : goal.loop-seat-preserved
 loop-seat-preserved c =
-    let t = c.args.table.now in let g = numbered t.game in
+    let t = c.args.table.now in let g = numbered t.tree.game in
     let inside : c.loop-seat.seat < g.seats = omega (arith, c.seats-seat-end.ensures, c.loop-seat-test.true) in
     let whole : to_z w64 (of_z w64 c.best_value-best.result) ≡ c.best_value-best.result = search rules in
     let b = c.best_value-best.ensures in

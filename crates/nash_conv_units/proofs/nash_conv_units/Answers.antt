@@ -1,7 +1,6 @@
 -- When NashConv is 0; what stands in the words for the tree. Assumes nothing.
-use mathlib.Core.Path.{refl, ◌∙◌}
+use mathlib.Core.Path.{refl}
 use Rattle.games.specs.Games.{game_of}
-use Rattle.arena_store.proofs.Memory.{front_left}
 use Rattle.nash_conv_units.proofs.Outcome.{zero_answered}
 use Rattle.nash_conv_units.proofs.nash_conv_units.Goals as goal
 
@@ -9,8 +8,3 @@ pub returns-clause-equilibrium : goal.returns-clause-equilibrium
 returns-clause-equilibrium c = let t = c.in_ok-table in
     λ z. zero_answered (game_of c.args.number c.args.seats) c.args.d c.args.table.now (t.ensures.refused.passed refl).0 _
     (rw (t.ensures.made.0, t.ensures.made.1, t.ensures.made.2) at c.gains.ensures)
-
-pub returns-clause-memory : goal.returns-clause-memory
-returns-clause-memory c = let t = c.in_ok-table in
-    front_left t.table.game (game_of c.args.number c.args.seats) t.ensures.made.0 c.args.work.now _ c.nodes.ensures (t.ensures.refused.passed refl).1 _
-    (c.gains.auto.words ∙ c.store.auto.words)
