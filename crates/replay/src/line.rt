@@ -5,19 +5,17 @@ use std::alloc::{AllocError, Global};
 use std::fmt;
 use std::fmt::Display;
 
-// The words that a line begins with, if they are shown, and the checksum, which ends it.
+// The words that a line begins with, none if they are not shown, and the checksum, which ends it.
 #[derive(Drop)]
 pub struct Line {
-    shown: bool,
-    words: String,
+    words: Option<String>,
     sum: u32,
 }
 
 impl Line {
     pub fn new(alloc: Global, shown: bool) -> Self {
         Line {
-            shown,
-            words: String::new(alloc),
+            words: shown.then_some(String::new(alloc)),
             sum: 1,
         }
     }
@@ -39,7 +37,8 @@ impl Line {
     }
 
     pub fn mix_length(&mut self, length: usize) {
-        self.mix_all(&length.to_le_bytes());
+        // By `as`: both have 64 bits, and u64 has no From of usize.
+        self.mix_number(length as u64);
     }
 
     // The words of work memory that a call had to leave: those from place `kept` on, or all if it was refused.
@@ -52,8 +51,8 @@ impl Line {
 
     // A word more.
     pub fn say<W: Display + Drop>(&mut self, word: W) -> Result<(), AllocError> {
-        if self.shown {
-            write!(self.words, "{word} ")?;
+        if let Some(words) = &mut self.words {
+            write!(words, "{word} ")?;
         }
         Ok(())
     }
@@ -85,7 +84,7 @@ impl Line {
 
 impl Display for Line {
     fn fmt<W: fmt::Write>(&self, f: &mut fmt::Formatter<W>) -> fmt::Result {
-        let words = self.words.as_str();
+        let words = self.words.as_ref().map_or("", |words| words.as_str());
         let sum = self.sum;
         write!(f, "{words}{sum}")
     }

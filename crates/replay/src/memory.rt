@@ -4,7 +4,7 @@ ghost use Rattle.std.specs.Prelude.{◌≡◌, IfOk, vec_len};
 
 use std::alloc::{AllocError, Global};
 
-// The first bytes, as many as are asked for and there.
+// The first bytes, as many as are asked for and there: a position and a call have lengths beside their bytes, and those of a list may be too long.
 pub fn first(bytes: &[u8], count: usize) -> &[u8] {
     bytes.get(..count).unwrap_or(bytes)
 }
@@ -26,7 +26,7 @@ pub fn output(alloc: Global, room: usize) -> Result<Vec<u8>, AllocError>
     ensures { IfOk result (λ bytes. vec_len bytes ≡ room) }
 {
     (0..room)
-        .map(|place| (place.wrapping_add(200) % 256) as u8)
+        .map(|place| place.wrapping_add(200).to_le_bytes()[0])
         .collect(alloc)
 }
 

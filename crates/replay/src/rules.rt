@@ -177,27 +177,46 @@ impl<P: Position> Answers<P> {
     }
 }
 
-// The line of a record, by its code: 0 for the start, 1 for the family of rules calls and 3 for the saved position, in text; 2 and 4 for the
-// same as a checksum alone.
-pub fn answer<P: Position>(alloc: Global, record: &mut Record) -> io::Result<Line> {
-    let code = record.number::<u8>()?;
-    let line = Line::new(alloc, !matches!(code, 2 | 4));
+// What a record asks for.
+#[derive(Clone, Copy)]
+enum Asked {
+    Start,
+    Family,
+    Saved,
+}
+
+// What the code of a record asks for, and whether it is answered in words or by a checksum alone. The list has codes, since all of it is numbers.
+fn asked_by(code: u8) -> io::Result<(Asked, bool)> {
     match code {
-        0 => {
+        0 => Ok((Asked::Start, true)),
+        1 => Ok((Asked::Family, true)),
+        2 => Ok((Asked::Family, false)),
+        3 => Ok((Asked::Saved, true)),
+        4 => Ok((Asked::Saved, false)),
+        _ => Err(ErrorKind::InvalidData.into()),
+    }
+}
+
+// The line of a record.
+pub fn answer<P: Position>(alloc: Global, record: &mut Record) -> io::Result<Line> {
+    let (asked, shown) = asked_by(record.number()?)?;
+    let line = Line::new(alloc, shown);
+    match asked {
+        Asked::Start => {
             let position = P::of_game(record)?;
             let start = position.initial_state();
             let mut answers = Answers { position, line };
             answers.say_moved('I', start)?;
             Ok(answers.line)
         }
-        1 | 2 => {
+        Asked::Family => {
             let room = record.number::<usize>()?;
             let position = P::of_record(alloc, record)?;
             let mut answers = Answers { position, line };
             answers.say_family(alloc, room)?;
             Ok(answers.line)
         }
-        3 | 4 => {
+        Asked::Saved => {
             let position = P::of_record(alloc, record)?;
             let hidden = position.without_public();
             let mut answers = Answers { position, line };
@@ -208,6 +227,5 @@ pub fn answer<P: Position>(alloc: Global, record: &mut Record) -> io::Result<Lin
             }
             Ok(answers.line)
         }
-        _ => Err(ErrorKind::InvalidData.into()),
     }
 }

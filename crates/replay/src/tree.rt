@@ -7,7 +7,7 @@ use refusals::Refusal;
 use std::alloc::{AllocError, Global};
 use std::io;
 
-// The game by its number, its seats, how many words each call is lent, and from which word on an accepted one has to leave them.
+// The game by its number, as the calls take it, its seats, how many words each call is lent, and from which word on an accepted one has to leave them.
 #[derive(Clone, Copy)]
 pub struct Tree {
     pub game: usize,

@@ -74,6 +74,7 @@ fn bits_of(value: f64) -> u64 {
 
 impl Profile {
     pub fn of_record(alloc: Global, record: &mut Record) -> io::Result<Self> {
+        // The list has the calls by number, since all of it is numbers.
         let call = record.number()?;
         let calls = if call == ALL {
             CALLS.as_slice()
@@ -94,6 +95,7 @@ impl Profile {
         })
     }
 
+    // The calls take different things of a profile, so a match has each beside its own.
     fn ask(&self, call: Call, work: &mut [u64]) -> Result<Values, Refusal> {
         let Tree { game, seats, .. } = self.tree;
         let entries = self.entries.as_slice();

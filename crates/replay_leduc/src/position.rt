@@ -14,14 +14,14 @@ pub struct LeducPosition {
     state: LeducState,
 }
 
-// 0 for none, else 1 more than the card.
+// 0 for none, else 1 more than the card. Functions, since Option is not ours to give a From that only the lists know.
 fn number_of(public: Option<u8>) -> u64 {
     public.map_or(0, |card| u64::from(card) + 1)
 }
 
 fn public_of(number: u64) -> Option<u8> {
     let card = number.checked_sub(1)?;
-    Some((card % 256) as u8)
+    u8::try_from(card % 256).ok()
 }
 
 impl Position for LeducPosition {

@@ -19,6 +19,7 @@ pub struct Table {
 
 impl Table {
     pub fn of_record(alloc: Global, record: &mut Record) -> io::Result<Self> {
+        // The list has codes, since all of it is numbers: 1 has the replies in words, 2 in the checksum alone.
         let code = record.number::<u8>()?;
         let tree = Tree::of_record(record)?;
         let parts = record.number()?;

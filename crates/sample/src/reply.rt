@@ -27,12 +27,13 @@ fn say_set(rt: &impl Print, record: &[u8], parts: &[u8]) -> io::Result<()> {
         [0, ..] => KuhnPoker::BET,
         _ => KuhnPoker::PASS,
     });
-    match usize::from(*length).saturating_sub(2) {
-        0 => println!(rt; "  card {card}, first action of the hand: {action}"),
-        acted => {
-            let history = Actions(rest.get(..acted).unwrap_or(&[]));
-            println!(rt; "  card {card}, after{history}: {action}")
-        }
+    let acted = usize::from(*length).saturating_sub(2);
+    let history = rest.get(..acted).unwrap_or(&[]);
+    if history.is_empty() {
+        println!(rt; "  card {card}, first action of the hand: {action}")
+    } else {
+        let history = Actions(history);
+        println!(rt; "  card {card}, after{history}: {action}")
     }
 }
 

@@ -4,7 +4,7 @@ use kuhn::KuhnPoker;
 use std::fmt;
 use std::fmt::Display;
 
-// An action by its name.
+// An action by its name. The calls take and answer actions as bytes, since C does.
 #[derive(Clone, Copy)]
 pub struct Action(pub u8);
 
