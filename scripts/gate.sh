@@ -18,7 +18,7 @@ if test "$(cat "$folder/ci.status")" != 0; then
     exit 1
 fi
 
-# Its line `rt: ok; ..; must-fail edits: 291 refused, 2 bad; ..` counts the bad ones, if there are any.
+# Its line `rt: ok; ..; must-fail edits: 354 refused, 2 bad; ..` counts the bad ones, if there are any.
 if ! grep -q '^rt: ok' "$log" || grep -Eq '^rt: ok.*, [0-9]+ bad' "$log"; then
     grep 'BAD EDIT' "$log" || true
     echo 'gate.sh: rt ci passed, but an edit is bad' >&2

@@ -482,6 +482,8 @@ impl<'a> Reader<'a> {
     fn clause(&mut self) -> Result<Clause<'a>, String> {
         let line = self.peek().map_or(0, |token| token.line);
         let asks = self.word()? == "requires";
+        // `requires*` and `ensures*` are in separation logic, as of a call that answers a part of what it was lent.
+        self.take("*");
         let name = if self.is("{") { None } else { Some(self.word()?) };
         Ok(Clause { asks, name, text: self.braced()?, line })
     }

@@ -16,8 +16,8 @@ const CONVERSIONS: &str = "c_structs";
 /// The crate whose definitions are all statements: document 01's cases.
 const CASES: &str = "cases";
 
-/// What every file of antt knows.
-const PRELUDE: [&str; 11] = ["→", "×", ":", "=", "_", "Type", "Unit", "⊥", "¬", "tt", "absurd"];
+/// What every file of antt knows, and the lifetimes of a clause with a star.
+const PRELUDE: [&str; 12] = ["→", "×", ":", "=", "_", "Type", "Unit", "⊥", "¬", "tt", "absurd", "𝓛"];
 
 /// What an `ensures` knows beside its function's parameters.
 const RESULT: &str = "result";

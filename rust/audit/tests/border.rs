@@ -217,14 +217,14 @@ fn wrong_constants_are_found() {
     found(NUMBERS, "pub enum Refusal {", "enum Refusal {", "the one public enum Refusal is expected");
     found(
         NUMBERS,
-        "impl Refusal {\n",
-        "impl Refusal {\n    pub const CARD: u64 = 11;\n",
+        "impl From<Refusal> for u64 {\n",
+        "impl Refusal {\n    pub const CARD: u64 = 11;\n}\n\nimpl From<Refusal> for u64 {\n",
         "the one public enum Refusal is expected",
     );
     found(
         NUMBERS,
-        "impl Refusal {\n",
-        "pub const CARD: u64 = 11;\n\nimpl Refusal {\n",
+        "impl From<Refusal> for u64 {\n",
+        "pub const CARD: u64 = 11;\n\nimpl From<Refusal> for u64 {\n",
         "the one public enum Refusal is expected",
     );
     found(SENTENCES, "\ncard = 11\n", "\ncard = 21\n", "the numbers are");
