@@ -20,10 +20,12 @@ extern "C" {
     fn unlockpt(terminal: c_int) -> c_int;
     fn ptsname(terminal: c_int) -> *const c_char;
     fn kill(process: c_int, signal: c_int) -> c_int;
+    fn signal(number: c_int, handler: usize) -> usize;
 }
 
 const READ_AND_WRITE: c_int = 2; // O_RDWR
 const INTERRUPT: c_int = 2; // SIGINT
+const DEFAULT: usize = 0; // SIG_DFL
 
 /// A new pipe with a name.
 fn pipe(name: &str) -> String {
@@ -121,6 +123,8 @@ fn long_run(err: impl Into<Stdio>) -> Child {
 
 #[test]
 fn an_interrupt_ends_the_line_of_progress_and_the_status_says_so() {
+    // SAFETY: nothing in this process handles the signal. In the background of a shell the tests are handed one that is ignored, and hand that on.
+    unsafe { signal(INTERRUPT, DEFAULT) };
     let (mut seen, written) = terminal();
     let mut child = long_run(written);
     let mut drawn = String::new();
