@@ -5,13 +5,19 @@ ghost use Rattle.leduc_betting.specs.Cards.{rank, remaining, seen, strange, twic
 
 use arrayvec::ArrayVec;
 
-// The cards dealt: the seats' and the public one.
+// The cards dealt: the seats' and the public one. The seats' are pushed one by one: as a slice, of a length that isn't known when this is compiled, two bytes
+// at most would be copied by a call of memmove.
 pub fn all_seen(cards: &[u8], public: Option<u8>) -> ArrayVec<u8, 3>
     requires { length cards.now ≤ 2 }
     ensures { result.items ≡ seen cards.now public }
 {
     let mut seen = ArrayVec::new();
-    seen.try_extend_from_slice(cards).unwrap();
+    if let Some(c) = cards.first() {
+        seen.push(*c);
+    }
+    if let Some(c) = cards.get(1) {
+        seen.push(*c);
+    }
     if let Some(c) = public {
         seen.push(c);
     }

@@ -55,7 +55,8 @@ impl LeducState {
         })
     }
 
-    // The hand of a position that legal moves reach from the start.
+    // The hand of a position that legal moves reach from the start. Inlined, as is_possible is.
+    #[inline(always)]
     pub fn reached(&self) -> Result<Hand<'_>, Refusal>
         ensures number { number_of result ≡ first (position_checks self.now) }
         ensures hand { IfOk result (Holds self.now) }

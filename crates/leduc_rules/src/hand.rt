@@ -108,8 +108,9 @@ impl<'a> Hand<'a> {
         action_made(self.in_play(), action)
     }
 
-    // Whether legal moves can have led here from the start.
+    // Whether legal moves can have led here from the start. Inlined into each call on a position, so that its hand isn't first put into memory.
     #[tactic(auto, using(leduc_betting::proofs::Branches::branches, leduc_betting::proofs::Checks::played_if), unfolding(crate::specs::Reached::possible))]
+    #[inline(always)]
     pub fn is_possible(&self) -> bool
         ensures { result ≡ possible self.now.cards.now self.now.public self.now.first.now self.now.second.now }
     {
