@@ -22,7 +22,12 @@ returns-then-out-legal-clause-answer c =
     let size = ap length (c.legal-legal.ensures ∙ of_hand (λ cs p h₁ h₂. legal cs p h₁ h₂ c.args.agent) c.in_ok-reached.ensures.hand) in
     written_err c.args.state Output _ _ (sym (legal-no-room c.args.state (reached _ c.in_ok-reached.ensures.number) c.args.agent (length c.args.out.now) (omega arith)))
 
-pub returns-clause-answer : goal.returns-clause-answer
-returns-clause-answer c =
+pub returns-then-not-is_empty-clause-answer : goal.returns-then-not-is_empty-clause-answer
+returns-then-not-is_empty-clause-answer c =
+    let size = ap length (c.legal-legal.ensures ∙ of_hand (λ cs p h₁ h₂. legal cs p h₁ h₂ c.args.agent) c.in_ok-reached.ensures.hand) in
+    written_ok c.args.state _ _ _ (legal-accepted c.args.state (reached _ c.in_ok-reached.ensures.number) c.args.agent (length c.args.out.now) (omega arith)) size
+
+pub returns-else-not-is_empty-clause-answer : goal.returns-else-not-is_empty-clause-answer
+returns-else-not-is_empty-clause-answer c =
     let size = ap length (c.legal-legal.ensures ∙ of_hand (λ cs p h₁ h₂. legal cs p h₁ h₂ c.args.agent) c.in_ok-reached.ensures.hand) in
     written_ok c.args.state _ _ _ (legal-accepted c.args.state (reached _ c.in_ok-reached.ensures.number) c.args.agent (length c.args.out.now) (omega arith)) size
