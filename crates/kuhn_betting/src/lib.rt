@@ -53,15 +53,13 @@ pub fn unknown_action(history: &[u8]) -> bool
     prelude::any_above(history, usize::from(BET))
 }
 
-// Whether a seat has bet: its turns are n places apart.
+// Whether a seat has bet: its turns are n places apart, one in each chunk of n actions. By chunks, since `step_by` goes over every place between.
 pub fn bet_by(history: &[u8], n: usize, player: usize) -> bool
     requires { 1 ≤ n }
     ensures { result ≡ bets n history.now player }
 {
     player < n
         && history
-            .iter()
-            .skip(player)
-            .step_by(n)
-            .any(|action| *action == BET)
+            .chunks(n)
+            .any(|turns| turns.get(player) == Some(&BET))
 }

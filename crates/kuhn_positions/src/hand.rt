@@ -64,6 +64,7 @@ pub struct Hand {
 
 impl Hand {
     // The hand at a position that legal moves reach: what every rules call on a position checks first.
+    #[inline(always)]
     pub fn reached(players: usize, state: KuhnState) -> Result<Hand, Refusal>
         ensures refusal { number_of result ≡ first (position_checks players state) }
         ensures position { IfOk result (λ hand. (hand.players ≡ players) × (hand.state ≡ state)) }
