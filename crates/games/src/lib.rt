@@ -1,6 +1,7 @@
 // The games, and what is counted of their trees.
 #![tactic(auto)]
 
+pub mod numbers;
 pub mod seats;
 pub mod tree;
 
@@ -13,6 +14,7 @@ ghost use Rattle.games.specs.Checks.{game_check, seats_check};
 ghost use Rattle.games.specs.Facts.{nodes_of, sets_of, entries_of};
 ghost use Rattle.games.specs.internal.Actions.{actions_of};
 
+use crate::numbers::Numbers;
 use crate::seats::Seats;
 use refusals::Refusal;
 
@@ -127,6 +129,19 @@ impl Game {
             (Self::LEDUC, 2) => Ok(Game::Leduc),
             (Self::KUHN | Self::LEDUC, _) => Err(Refusal::Seats),
             _ => Err(Refusal::Game),
+        }
+    }
+
+    // Its number and its seats.
+    pub fn numbers(self) -> Numbers
+        ensures { game_of result.number result.seats ≡ numbered self }
+    {
+        Numbers {
+            number: match self {
+                Game::Kuhn(_) => Self::KUHN,
+                Game::Leduc => Self::LEDUC,
+            },
+            seats: self.seats(),
         }
     }
 
