@@ -3,7 +3,7 @@ ghost use Rattle.std.specs.Prelude.{◌≡◌, [], ◌∷◌, ◌*◌, ◌≤◌
 ghost use Rattle.refusals.specs.Outcomes.{number_of};
 ghost use Rattle.refusals.specs.internal.Settled.{Settled};
 ghost use Rattle.game_tree.specs.Sets.{entries};
-ghost use Rattle.game_tree.specs.Table.{add_up};
+ghost use Rattle.game_tree.specs.Table.{add_up, ValidTable};
 ghost use Rattle.games.specs.Games.{game_of, tree_of, most_parts};
 ghost use Rattle.games.specs.internal.Numbered.{numbered};
 ghost use Rattle.games.specs.Facts.{nodes_of, entries_of};
@@ -60,7 +60,7 @@ fn check_parts(game: Game, d: usize) -> Result<(), Refusal>
 }
 
 // 7: a table or a profile of n entries.
-fn check_length(game: Game, n: usize) -> Result<(), Refusal>
+pub fn check_length(game: Game, n: usize) -> Result<(), Refusal>
     ensures { Settled (length_check (numbered game) n ∷ []) (n ≡ entries (tree_of (numbered game))) (number_of result) }
 {
     if n != game.entries() {
@@ -93,6 +93,18 @@ fn adds_up(game: Game, table: &[u8], d: usize) -> bool
     true
 }
 
+// 7 and 8: the entries of a table, for d parts in each set.
+pub fn check_entries(game: Game, d: usize, table: &[u8]) -> Result<(), Refusal>
+    ensures { Settled (length_check (numbered game) (length table.now) ∷ sum_check (numbered game) d table.now ∷ [])
+        (ValidTable (tree_of (numbered game)) d table.now) (number_of result) }
+{
+    check_length(game, table.len())?;
+    if !adds_up(game, table, d) {
+        return Err(Refusal::Sum);
+    }
+    Ok(())
+}
+
 // 6 to 8: a table with d parts in each set.
 pub fn check_table<'a>(tree: GameTree, d: usize, table: &'a [u8]) -> Result<GameTable<'a>, Refusal>
     ensures made { IfOk result (λ t. (numbered t.tree.game ≡ numbered tree.game) × (t.parts ≡ d) × (t.entries.now ≡ table.now)) }
@@ -100,10 +112,7 @@ pub fn check_table<'a>(tree: GameTree, d: usize, table: &'a [u8]) -> Result<Game
         ∷ sum_check (numbered tree.game) d table.now ∷ []) (AcceptedTable (numbered tree.game) d table.now) (number_of result) }
 {
     check_parts(tree.game, d)?;
-    check_length(tree.game, table.len())?;
-    if !adds_up(tree.game, table, d) {
-        return Err(Refusal::Sum);
-    }
+    check_entries(tree.game, d, table)?;
     Ok(GameTable {
         tree,
         parts: d,

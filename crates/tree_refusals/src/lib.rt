@@ -4,6 +4,7 @@
 
 pub mod accepted;
 pub mod checks;
+pub mod numbers;
 
 ghost use Rattle.std.specs.Prelude.{◌≡◌, ◌*◌, ◌≤◌, ◌<◌, IfOk, length};
 ghost use Rattle.refusals.specs.Outcomes.{number_of};
