@@ -4,6 +4,7 @@
 ghost use Rattle.std.specs.Prelude.{◌≡◌, ◌+◌, ◌≤◌, ◌<◌, length};
 ghost use Rattle.std.proofs.lemmas.List.Edits.{sets};
 ghost use Rattle.listing_records.specs.internal.Written.{HasRoom, Wrote};
+ghost use Rattle.leduc_listing_positions.specs.internal.Moves.{items};
 ghost use Rattle.leduc_listing_positions.specs.internal.Spots.{placed, made, Room, undone};
 ghost use Rattle.leduc_listing.specs.Facts.{listing_of_leduc};
 ghost use Rattle.leduc_listing.specs.internal.Walk.{node_records, is_move, move_bound, moved, next_records};
@@ -43,7 +44,7 @@ fn write_first(to: &mut Writer, spot: &Spot)
 
 // Whether a number is a move: a card that is left while one is due, else a legal action.
 fn is_move(spot: &Spot, a: usize) -> bool
-    requires { length spot.now.cards.items ≤ 2 }
+    requires { length (items spot.now.cards) ≤ 2 }
     ensures { result ≡ is_move (placed spot.now) a }
 {
     let hand = spot.hand();
@@ -73,7 +74,7 @@ fn make(spot: &mut Spot, a: u8) -> Made
     requires { Room spot.old 1 }
     ensures moved { placed spot.new ≡ moved (placed spot.old) a }
     ensures back { undone result (placed spot.new) ≡ placed spot.old }
-    ensures few { (length spot.new.cards.items ≤ 2) × (made spot.new ≤ made spot.old + 1) }
+    ensures few { (length (items spot.new.cards) ≤ 2) × (made spot.new ≤ made spot.old + 1) }
 {
     if spot.hand().is_due() {
         spot.deal(a)

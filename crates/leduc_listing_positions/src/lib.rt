@@ -2,6 +2,7 @@
 // which the rules alone say is enough; a spot has places for all moves of a hand in either round, so that counting moves is enough.
 #![tactic(auto)]
 
+pub mod moves;
 pub mod spot;
 
 // Where a move went, so that it can be taken back; of the public card also what lay there before.

@@ -2,6 +2,7 @@
 ghost use Rattle.std.specs.Prelude.{◌≡◌, ◌++◌, ◌+◌, ◌≤◌, length};
 
 use crate::Made;
+use crate::moves::Moves;
 use arrayvec::ArrayVec;
 use leduc_betting::betting::round_over;
 use leduc_betting::cards::{all_seen, nth_remaining};
@@ -11,12 +12,12 @@ use listing_records::KEY;
 
 // A position of the walk: the seats' cards, the public card, and the actions of each round, with places for as many as a hand has moves: 11, the first card
 // and the LATER_MOVES of the crate leduc_listing.
-#[derive(Clone, Drop)]
+#[derive(Clone, Copy)]
 pub struct Spot {
-    pub cards: ArrayVec<u8, 2>,
+    pub cards: Moves<2>,
     pub public: Option<u8>,
-    pub first: ArrayVec<u8, 11>,
-    pub second: ArrayVec<u8, 11>,
+    pub first: Moves<11>,
+    pub second: Moves<11>,
 }
 
 // Puts bytes behind those of a key.
@@ -30,6 +31,7 @@ fn append(key: &mut ArrayVec<u8, KEY>, bytes: &[u8])
 impl Spot {
     ghost use Rattle.leduc_tree.specs.Tree.{start, actor, key, dealt, acted};
     ghost use Rattle.leduc_tree.specs.Turns.{is_first};
+    ghost use Rattle.leduc_listing_positions.specs.internal.Moves.{items};
     ghost use Rattle.leduc_listing_positions.specs.internal.Spots.{placed, made, Room, undone};
 
     // No card dealt and no action made.
@@ -37,19 +39,19 @@ impl Spot {
         ensures { placed result ≡ start }
     {
         Spot {
-            cards: ArrayVec::new(),
+            cards: Moves::new(),
             public: None,
-            first: ArrayVec::new(),
-            second: ArrayVec::new(),
+            first: Moves::new(),
+            second: Moves::new(),
         }
     }
 
     // It as the rules see it.
     pub fn hand(&self) -> Hand<'_>
-        ensures cards { result.cards.now ≡ self.now.cards.items }
+        ensures cards { result.cards.now ≡ items self.now.cards }
         ensures public { result.public ≡ self.now.public }
-        ensures first { result.first.now ≡ self.now.first.items }
-        ensures second { result.second.now ≡ self.now.second.items }
+        ensures first { result.first.now ≡ items self.now.first }
+        ensures second { result.second.now ≡ items self.now.second }
     {
         Hand {
             cards: self.cards.as_slice(),
@@ -61,7 +63,7 @@ impl Spot {
 
     // Whether its node is the first of its set: the other seat's card is the lowest that is neither the acting seat's nor the public one.
     pub fn is_first(&self) -> bool
-        requires { length self.now.cards.items ≡ 2 }
+        requires { length (items self.now.cards) ≡ 2 }
         ensures { result ≡ is_first (placed self.now) }
     {
         let hand = self.hand();
@@ -74,8 +76,8 @@ impl Spot {
 
     // Its key: seat, card, public card or 255, and each round's length and actions.
     pub fn key(&self) -> ArrayVec<u8, KEY>
-        requires dealt { length self.now.cards.items ≡ 2 }
-        requires few { length self.now.first.items + length self.now.second.items ≤ 8 }
+        requires dealt { length (items self.now.cards) ≡ 2 }
+        requires few { length (items self.now.first) + length (items self.now.second) ≤ 8 }
         ensures { result.items ≡ key (placed self.now) }
     {
         let hand = self.hand();
@@ -96,7 +98,7 @@ impl Spot {
     pub fn deal(&mut self, card: u8) -> Made
         ensures moved { placed self.new ≡ dealt (placed self.old) card }
         ensures back { undone result (placed self.new) ≡ placed self.old }
-        ensures few { (length self.new.cards.items ≤ 2) × (made self.new ≤ made self.old + 1) }
+        ensures few { (length (items self.new.cards) ≤ 2) × (made self.new ≤ made self.old + 1) }
     {
         if self.cards.len() < SEATS {
             self.cards.push(card);
@@ -111,7 +113,7 @@ impl Spot {
         requires { Room self.old 1 }
         ensures moved { placed self.new ≡ acted (placed self.old) action }
         ensures back { undone result (placed self.new) ≡ placed self.old }
-        ensures few { (length self.new.cards.items ≤ 2) × (made self.new ≤ made self.old + 1) }
+        ensures few { (length (items self.new.cards) ≤ 2) × (made self.new ≤ made self.old + 1) }
     {
         if round_over(self.first.as_slice()) {
             self.second.push(action);
