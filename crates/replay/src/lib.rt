@@ -8,3 +8,7 @@ pub mod list;
 pub mod memory;
 pub mod rules;
 pub mod tree;
+
+pub use line::Line;
+pub use list::{Record, Source};
+pub use memory::{least, untouched_bytes, untouched_words};

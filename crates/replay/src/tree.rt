@@ -2,10 +2,7 @@
 
 use crate::line::Line;
 use crate::list::Record;
-use crate::memory;
-use refusals::Refusal;
-use std::alloc::{AllocError, Global};
-use std::io;
+use crate::memory::{least, untouched_words};
 
 // The game by its number, as the calls take it, its seats, how many words each call is lent, and from which word on an accepted one has to leave them.
 #[derive(Clone, Copy)]
@@ -17,26 +14,29 @@ pub struct Tree {
 }
 
 impl Tree {
-    pub fn of_record(record: &mut Record) -> io::Result<Self> {
-        let game = record.number()?;
-        let seats = record.number()?;
-        let words = record.number()?;
-        let kept = record.number()?;
-        Ok(Tree {
+    pub fn of_record(record: &mut Record) -> Self {
+        let game = record.size();
+        let seats = record.size();
+        let words = record.size();
+        let kept = record.size();
+        Tree {
             game,
             seats,
             words,
             kept,
-        })
+        }
     }
 
-    // The work memory of a call.
-    pub fn work(&self, alloc: Global) -> Result<Vec<u64>, AllocError> {
-        memory::work(alloc, self.words)
+    // The work memory of a call, as it is before: as many words as the record asks for and there are.
+    pub fn lend<'a>(&self, memory: &'a mut [u64]) -> &'a mut [u64] {
+        let words = least(self.words, memory.len());
+        let work = &mut memory[..words];
+        untouched_words(work);
+        work
     }
 
-    // What a call with this answer had to leave of it.
-    pub fn mix_left<T>(&self, line: &mut Line, work: &[u64], answer: &Result<T, Refusal>) {
-        line.mix_left(work, answer, self.kept);
+    // What a call with this refusal number had to leave of it.
+    pub fn mix_left(&self, line: &mut Line, work: &[u64], refusal: u64) {
+        line.mix_left(work, refusal, self.kept);
     }
 }

@@ -5,16 +5,14 @@
 mod profile;
 
 use crate::profile::Profile;
-use replay::line::Line;
 use replay::list;
+use replay::memory::WORDS;
 use std::io;
 
 fn main(rt: HostRuntime) -> io::Result<()> {
-    let alloc = rt.alloc();
-    list::replay(&rt, |record| {
-        let profile = Profile::of_record(alloc, record)?;
-        let mut line = Line::new(alloc, true);
-        profile.say_calls(alloc, &mut line)?;
-        Ok(line)
-    })
+    let mut memory = vec![in rt.alloc(); 0; WORDS]?;
+    list::replay(
+        &rt,
+        |record, out| Profile::of_record(record).answer(&mut memory, out),
+    )
 }

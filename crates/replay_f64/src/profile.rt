@@ -1,12 +1,14 @@
 // A profile of the list, and the calls on it, each with work memory as it is before a call.
 
-use best_response::Values;
-use refusals::Refusal;
+use best_response::ValuesAnswer;
+use replay::least;
 use replay::line::Line;
 use replay::list::Record;
 use replay::tree::Tree;
-use std::alloc::{AllocError, Global};
-use std::io::{self, ErrorKind};
+use std::io::{self, Write};
+
+// How many entries a profile has at most.
+const ENTRIES: usize = 2209;
 
 // The calls, by their numbers in a record.
 #[derive(Clone, Copy)]
@@ -44,23 +46,24 @@ impl Call {
     }
 }
 
-// What a record has: the calls that it asks for, the tree, a seat, and the entries.
-#[derive(Drop)]
+// What a record has: the calls that it asks for, the tree, a seat, how many entries the profile has, and the entries.
+#[derive(Clone, Copy)]
 pub struct Profile {
     calls: &'static [Call],
     tree: Tree,
     seat: usize,
-    entries: Vec<f64>,
+    count: usize,
+    entries: [f64; ENTRIES],
 }
 
-// So many entries: those of the patterns, and behind them the same again.
-fn entries_of(alloc: Global, patterns: &[u64], count: usize) -> Result<Vec<f64>, AllocError> {
-    (0..count)
-        .map(|place| {
-            let pattern = place.checked_rem(patterns.len()).unwrap_or(0);
-            f64_numbers::float_at(patterns, pattern)
-        })
-        .collect(alloc)
+// The entries: those of the first patterns, as many as are given, and behind them the same again. Where none is given, all of a line's patterns.
+fn entries_of(patterns: &[u64], given: usize) -> [f64; ENTRIES] {
+    let mut entries = [0.0; ENTRIES];
+    for (place, entry) in entries.iter_mut().enumerate() {
+        let pattern = place.checked_rem(given).unwrap_or(place);
+        *entry = f64_numbers::float_at(patterns, pattern);
+    }
+    entries
 }
 
 // The bits of a value; a NaN has those of one NaN.
@@ -73,33 +76,32 @@ fn bits_of(value: f64) -> u64 {
 }
 
 impl Profile {
-    pub fn of_record(alloc: Global, record: &mut Record) -> io::Result<Self> {
+    pub fn of_record(mut record: Record) -> Self {
         // The list has the calls by number, since all of it is numbers.
-        let call = record.number()?;
+        let call = record.size();
         let calls = if call == ALL {
             CALLS.as_slice()
         } else {
-            CALLS.get(call..=call).ok_or(ErrorKind::InvalidData)?
+            CALLS.get(call..=call).unwrap_or(&[])
         };
-        let tree = Tree::of_record(record)?;
-        let seat = record.number()?;
-        let count = record.number()?;
-        let given = record.number()?;
-        let patterns = record.numbers(alloc, given)?;
-        let entries = entries_of(alloc, &patterns, count)?;
-        Ok(Profile {
+        let tree = Tree::of_record(&mut record);
+        let seat = record.size();
+        let count = record.size();
+        let given = record.size();
+        Profile {
             calls,
             tree,
             seat,
-            entries,
-        })
+            count,
+            entries: entries_of(record.rest(), given),
+        }
     }
 
     // The calls take different things of a profile, so a match has each beside its own.
-    fn ask(&self, call: Call, work: &mut [u64]) -> Result<Values, Refusal> {
+    fn ask(&self, call: Call, work: &mut [u64]) -> ValuesAnswer {
         let Tree { game, seats, .. } = self.tree;
-        let entries = self.entries.as_slice();
-        match call {
+        let entries = &self.entries[..least(self.count, ENTRIES)];
+        let outcome = match call {
             Call::BestResponseValue => {
                 best_response::best_response_value(game, seats, work, self.seat, entries)
             }
@@ -109,27 +111,38 @@ impl Profile {
             Call::ProfileValues => best_response::profile_values(game, seats, work, entries),
             Call::NashConv => best_response::nash_conv(game, seats, work, entries),
             Call::Exploitability => best_response::exploitability(game, seats, work, entries),
-        }
+        };
+        ValuesAnswer::from(outcome)
     }
 
-    fn say_call(&self, alloc: Global, line: &mut Line, call: Call) -> Result<(), AllocError> {
-        let mut work = self.tree.work(alloc)?;
-        let answer = self.ask(call, &mut work);
-        let each = answer.unwrap_or_default();
-        line.say_call(call.letter(), &answer)?;
-        line.say(each.count)?;
-        for value in each.values {
-            line.say(bits_of(value))?;
+    fn say_call<O: Write>(
+        &self,
+        memory: &mut [u64],
+        line: &mut Line,
+        out: &mut O,
+        call: Call,
+    ) -> io::Result<()> {
+        let work = self.tree.lend(memory);
+        let ValuesAnswer {
+            refusal,
+            count,
+            values,
+        } = self.ask(call, work);
+        line.say_call(out, call.letter(), refusal)?;
+        line.say(out, count)?;
+        for value in values {
+            line.say(out, bits_of(value))?;
         }
-        self.tree.mix_left(line, &work, &answer);
+        self.tree.mix_left(line, work, refusal);
         Ok(())
     }
 
     // The calls that the record asks for.
-    pub fn say_calls(&self, alloc: Global, line: &mut Line) -> Result<(), AllocError> {
+    pub fn answer<O: Write>(&self, memory: &mut [u64], out: &mut O) -> io::Result<()> {
+        let mut line = Line::new(true);
         for call in self.calls {
-            self.say_call(alloc, line, *call)?;
+            self.say_call(memory, &mut line, out, *call)?;
         }
-        Ok(())
+        line.end(out)
     }
 }

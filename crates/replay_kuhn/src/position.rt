@@ -1,13 +1,13 @@
 // Kuhn's positions as a list has them, with the calls on them.
 
+use c_structs::of_kuhn;
+use c_structs::of_kuhn::{KuhnMoved, KuhnPayoffs, KuhnWritten};
 use kuhn::{KuhnPoker, KuhnState};
-use refusals::{Payoffs, Refusal};
+use refusals::Refusal;
 use replay::line::Line;
 use replay::list::Record;
-use replay::memory::{filled, first};
-use replay::rules::Position;
-use std::alloc::{AllocError, Global};
-use std::io;
+use replay::rules::{Moved, Paid, Position, Written};
+use std::io::{self, Write};
 
 #[derive(Clone, Copy)]
 pub struct KuhnPosition {
@@ -16,44 +16,65 @@ pub struct KuhnPosition {
 }
 
 impl KuhnPosition {
-    // Another position of the same game.
-    fn with(&self, state: KuhnState) -> Self {
+    // A position of the same game, from C's.
+    fn with(&self, position: of_kuhn::KuhnPosition) -> Self {
         KuhnPosition {
             game: self.game,
-            state,
+            state: KuhnState::from(position),
+        }
+    }
+
+    // What C is answered by a call on this position.
+    fn moved(&self, outcome: Result<KuhnState, Refusal>) -> Moved<Self> {
+        let KuhnMoved { refusal, position } = KuhnMoved::of(self.state, outcome);
+        let position = self.with(position);
+        Moved { refusal, position }
+    }
+
+    fn written(&self, outcome: Result<usize, Refusal>) -> Written<Self> {
+        let KuhnWritten {
+            refusal,
+            position,
+            count,
+        } = KuhnWritten::of(self.state, outcome);
+        let position = self.with(position);
+        Written {
+            refusal,
+            position,
+            count,
         }
     }
 }
 
 impl Position for KuhnPosition {
     // SEATS.
-    fn of_game(record: &mut Record) -> io::Result<Self> {
+    fn of_game(record: &mut Record) -> Self {
         let game = KuhnPoker {
-            players: record.number()?,
+            players: record.size(),
         };
-        Ok(KuhnPosition {
+        KuhnPosition {
             game,
             state: KuhnState::new(),
-        })
+        }
     }
 
     // SEATS, both lengths, the number that fills the arrays, the cards and the history.
-    fn of_record(alloc: Global, record: &mut Record) -> io::Result<Self> {
+    fn of_record(record: &mut Record) -> Self {
         let game = KuhnPoker {
-            players: record.number()?,
+            players: record.size(),
         };
-        let dealt = record.number()?;
-        let acted = record.number()?;
-        let fill = record.number()?;
-        let cards = filled(&record.bytes(alloc)?, fill, 0);
-        let history = filled(&record.bytes(alloc)?, fill, 10);
+        let dealt = record.size();
+        let acted = record.size();
+        let fill = record.byte();
+        let cards = record.filled(fill, 0);
+        let history = record.filled(fill, 10);
         let state = KuhnState {
             cards,
             dealt,
             history,
             acted,
         };
-        Ok(KuhnPosition { game, state })
+        KuhnPosition { game, state }
     }
 
     fn last_seat(&self) -> usize {
@@ -68,35 +89,46 @@ impl Position for KuhnPosition {
         &[0, 1, 2, 256, usize::MAX]
     }
 
-    fn initial_state(&self) -> Result<Self, Refusal> {
-        let state = self.game.initial_state()?;
-        Ok(self.with(state))
+    fn initial_state(&self) -> Moved<Self> {
+        self.moved(self.game.initial_state())
     }
 
-    fn legal_actions(&self, seat: usize, out: &mut [u8]) -> Result<usize, Refusal> {
-        self.game.legal_actions(self.state, seat, out)
+    fn legal_actions(&self, seat: usize, out: &mut [u8]) -> Written<Self> {
+        self.written(self.game.legal_actions(self.state, seat, out))
     }
 
-    fn apply_chance_node(&self, outcome: usize) -> Result<Self, Refusal> {
-        let state = self.game.apply_chance_node(self.state, outcome)?;
-        Ok(self.with(state))
+    fn apply_chance_node(&self, outcome: usize) -> Moved<Self> {
+        self.moved(self.game.apply_chance_node(self.state, outcome))
     }
 
-    fn step(&self, action: usize) -> Result<Self, Refusal> {
-        let state = self.game.step(self.state, action)?;
-        Ok(self.with(state))
+    fn step(&self, action: usize) -> Moved<Self> {
+        self.moved(self.game.step(self.state, action))
     }
 
-    fn information_state_key(&self, seat: usize, out: &mut [u8]) -> Result<usize, Refusal> {
-        self.game.information_state_key(self.state, seat, out)
+    fn information_state_key(&self, seat: usize, out: &mut [u8]) -> Written<Self> {
+        self.written(self.game.information_state_key(self.state, seat, out))
     }
 
-    fn payouts(&self) -> Result<Payoffs, Refusal> {
-        self.game.payouts(self.state)
+    fn payouts(&self) -> Paid<Self> {
+        let outcome = self.game.payouts(self.state);
+        let KuhnPayoffs {
+            refusal,
+            position,
+            count,
+            payoffs,
+        } = KuhnPayoffs::of(self.state, outcome);
+        let position = self.with(position);
+        Paid {
+            refusal,
+            position,
+            count,
+            payoffs,
+        }
     }
 
-    fn validate_decoded_state(&self, done: u64) -> Result<(), Refusal> {
-        self.game.validate_decoded_state(self.state, done)
+    fn validate_decoded_state(&self, done: u64) -> Moved<Self> {
+        let outcome = self.game.validate_decoded_state(self.state, done);
+        self.moved(outcome.and(Ok(self.state)))
     }
 
     fn mix(&self, line: &mut Line) {
@@ -106,8 +138,8 @@ impl Position for KuhnPosition {
         line.mix_length(self.state.acted);
     }
 
-    fn say(&self, line: &mut Line) -> Result<(), AllocError> {
-        line.say_list(first(&self.state.cards, self.state.dealt))?;
-        line.say_list(first(&self.state.history, self.state.acted))
+    fn say<O: Write>(&self, line: &Line, out: &mut O) -> io::Result<()> {
+        line.say_list(out, &self.state.cards, self.state.dealt)?;
+        line.say_list(out, &self.state.history, self.state.acted)
     }
 }

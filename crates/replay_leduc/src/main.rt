@@ -9,6 +9,8 @@ use replay::{list, rules};
 use std::io;
 
 fn main(rt: HostRuntime) -> io::Result<()> {
-    let alloc = rt.alloc();
-    list::replay(&rt, |record| rules::answer::<LeducPosition>(alloc, record))
+    list::replay(
+        &rt,
+        |record, out| rules::answer::<LeducPosition, _>(record, out),
+    )
 }

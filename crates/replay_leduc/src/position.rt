@@ -1,13 +1,13 @@
 // Leduc's positions as a list has them, with the calls on them.
 
+use c_structs::of_leduc;
+use c_structs::of_leduc::{LeducMoved, LeducPayoffs, LeducWritten};
 use leduc::{LeducPoker, LeducState};
-use refusals::{Payoffs, Refusal};
+use refusals::Refusal;
 use replay::line::Line;
 use replay::list::Record;
-use replay::memory::{filled, first};
-use replay::rules::Position;
-use std::alloc::{AllocError, Global};
-use std::io;
+use replay::rules::{Moved, Paid, Position, Written};
+use std::io::{self, Write};
 
 #[derive(Clone, Copy)]
 pub struct LeducPosition {
@@ -24,23 +24,55 @@ fn public_of(number: u64) -> Option<u8> {
     u8::try_from(card % 256).ok()
 }
 
+impl LeducPosition {
+    // A position from C's. C has one byte for no public card and for card 255, which is in no deck: where that one was handed in, it is the one that comes back.
+    fn with(&self, position: of_leduc::LeducPosition) -> Self {
+        let mut state = LeducState::from(position);
+        if self.state.public == Some(of_leduc::NONE) && position.public == of_leduc::NONE {
+            state.public = Some(of_leduc::NONE);
+        }
+        LeducPosition { state }
+    }
+
+    // What C is answered by a call on this position.
+    fn moved(&self, outcome: Result<LeducState, Refusal>) -> Moved<Self> {
+        let LeducMoved { refusal, position } = LeducMoved::of(self.state, outcome);
+        let position = self.with(position);
+        Moved { refusal, position }
+    }
+
+    fn written(&self, outcome: Result<usize, Refusal>) -> Written<Self> {
+        let LeducWritten {
+            refusal,
+            position,
+            count,
+        } = LeducWritten::of(self.state, outcome);
+        let position = self.with(position);
+        Written {
+            refusal,
+            position,
+            count,
+        }
+    }
+}
+
 impl Position for LeducPosition {
     // Nothing.
-    fn of_game(_record: &mut Record) -> io::Result<Self> {
+    fn of_game(_record: &mut Record) -> Self {
         let state = LeducState::new();
-        Ok(LeducPosition { state })
+        LeducPosition { state }
     }
 
     // The cards' length, the public card, the rounds' lengths, the number that fills the arrays, the cards and the rounds.
-    fn of_record(alloc: Global, record: &mut Record) -> io::Result<Self> {
-        let dealt = record.number()?;
-        let public = public_of(record.number()?);
-        let acted1 = record.number()?;
-        let acted2 = record.number()?;
-        let fill = record.number()?;
-        let cards = filled(&record.bytes(alloc)?, fill, 0);
-        let round1: [u8; 4] = filled(&record.bytes(alloc)?, fill, 2);
-        let round2: [u8; 4] = filled(&record.bytes(alloc)?, fill, 6);
+    fn of_record(record: &mut Record) -> Self {
+        let dealt = record.size();
+        let public = public_of(record.number());
+        let acted1 = record.size();
+        let acted2 = record.size();
+        let fill = record.byte();
+        let cards = record.filled(fill, 0);
+        let round1: [u8; 4] = record.filled(fill, 2);
+        let round2: [u8; 4] = record.filled(fill, 6);
         let mut history = [0; 8];
         history[..4].copy_from_slice(&round1);
         history[4..].copy_from_slice(&round2);
@@ -52,7 +84,7 @@ impl Position for LeducPosition {
             acted1,
             acted2,
         };
-        Ok(LeducPosition { state })
+        LeducPosition { state }
     }
 
     fn without_public(&self) -> Option<Self> {
@@ -74,35 +106,46 @@ impl Position for LeducPosition {
         &[0, 1, 2, 3, 257, 258, usize::MAX]
     }
 
-    fn initial_state(&self) -> Result<Self, Refusal> {
-        let state = LeducPoker::initial_state();
-        Ok(LeducPosition { state })
+    fn initial_state(&self) -> Moved<Self> {
+        self.moved(Ok(LeducPoker::initial_state()))
     }
 
-    fn legal_actions(&self, seat: usize, out: &mut [u8]) -> Result<usize, Refusal> {
-        LeducPoker::legal_actions(self.state, seat, out)
+    fn legal_actions(&self, seat: usize, out: &mut [u8]) -> Written<Self> {
+        self.written(LeducPoker::legal_actions(self.state, seat, out))
     }
 
-    fn apply_chance_node(&self, outcome: usize) -> Result<Self, Refusal> {
-        let state = LeducPoker::apply_chance_node(self.state, outcome)?;
-        Ok(LeducPosition { state })
+    fn apply_chance_node(&self, outcome: usize) -> Moved<Self> {
+        self.moved(LeducPoker::apply_chance_node(self.state, outcome))
     }
 
-    fn step(&self, action: usize) -> Result<Self, Refusal> {
-        let state = LeducPoker::step(self.state, action)?;
-        Ok(LeducPosition { state })
+    fn step(&self, action: usize) -> Moved<Self> {
+        self.moved(LeducPoker::step(self.state, action))
     }
 
-    fn information_state_key(&self, seat: usize, out: &mut [u8]) -> Result<usize, Refusal> {
-        LeducPoker::information_state_key(self.state, seat, out)
+    fn information_state_key(&self, seat: usize, out: &mut [u8]) -> Written<Self> {
+        self.written(LeducPoker::information_state_key(self.state, seat, out))
     }
 
-    fn payouts(&self) -> Result<Payoffs, Refusal> {
-        LeducPoker::payouts(self.state)
+    fn payouts(&self) -> Paid<Self> {
+        let outcome = LeducPoker::payouts(self.state);
+        let LeducPayoffs {
+            refusal,
+            position,
+            count,
+            payoffs,
+        } = LeducPayoffs::of(self.state, outcome);
+        let position = self.with(position);
+        Paid {
+            refusal,
+            position,
+            count,
+            payoffs,
+        }
     }
 
-    fn validate_decoded_state(&self, done: u64) -> Result<(), Refusal> {
-        LeducPoker::validate_decoded_state(self.state, done)
+    fn validate_decoded_state(&self, done: u64) -> Moved<Self> {
+        let outcome = LeducPoker::validate_decoded_state(self.state, done);
+        self.moved(outcome.and(Ok(self.state)))
     }
 
     fn mix(&self, line: &mut Line) {
@@ -114,10 +157,10 @@ impl Position for LeducPosition {
         line.mix_length(self.state.acted2);
     }
 
-    fn say(&self, line: &mut Line) -> Result<(), AllocError> {
-        line.say_list(first(&self.state.cards, self.state.dealt))?;
-        line.say(number_of(self.state.public))?;
-        line.say_list(first(&self.state.history[..4], self.state.acted1))?;
-        line.say_list(first(&self.state.history[4..], self.state.acted2))
+    fn say<O: Write>(&self, line: &Line, out: &mut O) -> io::Result<()> {
+        line.say_list(out, &self.state.cards, self.state.dealt)?;
+        line.say(out, number_of(self.state.public))?;
+        line.say_list(out, &self.state.history[..4], self.state.acted1)?;
+        line.say_list(out, &self.state.history[4..], self.state.acted2)
     }
 }

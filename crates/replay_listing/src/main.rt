@@ -2,14 +2,12 @@
 // compare/README.md has the format of both.
 #![tactic(auto)]
 
-use listing::Listed;
-use refusals::number_of;
+use listing::ListingAnswer;
 use replay::line::Line;
 use replay::list::Record;
-use replay::{list, memory};
-use std::alloc::Global;
-use std::fmt::Display;
-use std::{fmt, io};
+use replay::memory::WORDS;
+use replay::{least, list, untouched_bytes, untouched_words};
+use std::io::{self, Write};
 
 // How many bytes the listing has for a set.
 const RECORD: usize = 24;
@@ -17,53 +15,52 @@ const RECORD: usize = 24;
 // How many words a node takes of the work memory.
 const NODE: usize = 12;
 
-// What a call answers, and the output with its sets.
-#[derive(Drop)]
-struct Answer {
-    line: Line,
-    sets: usize,
-    out: Vec<u8>,
+// How many bytes of output a call is lent at most.
+const ROOM: usize = 22489;
+
+// A set, in hexadecimal digits.
+fn say_set<O: Write>(out: &mut O, set: &[u8]) -> io::Result<()> {
+    for byte in set {
+        write!(out, "{byte:02x}")?;
+    }
+    out.write_all(b"\n")
 }
 
-impl Answer {
-    // One record: the game, the seats, and how many words and bytes are lent. The checksum has all that the call may not have touched.
-    fn of_record(alloc: Global, record: &mut Record) -> io::Result<Self> {
-        let game = record.number()?;
-        let seats = record.number()?;
-        let work = memory::work(alloc, record.number()?)?;
-        let mut out = memory::output(alloc, record.number()?)?;
-        let answer = listing::enumerate_infosets(game, seats, &work, &mut out);
-        let refusal = number_of(&answer);
-        let Listed { nodes, sets } = answer.unwrap_or_default();
-        let mut line = Line::new(alloc, true);
-        line.say(refusal)?;
-        line.say(nodes)?;
-        line.say(sets)?;
-        line.mix_number(refusal);
-        line.mix_length(nodes);
-        line.mix_length(sets);
-        line.mix_all(&out);
-        line.mix_left(&work, &answer, nodes.saturating_mul(NODE));
-        Ok(Answer { line, sets, out })
+// One record: the game, the seats, and how many words and bytes are lent. The checksum has all that the call may not have touched, and below the line stands a
+// line for each set.
+fn answer<O: Write>(memory: &mut [u64], mut record: Record, out: &mut O) -> io::Result<()> {
+    let game = record.size();
+    let seats = record.size();
+    let words = least(record.size(), memory.len());
+    let work = &mut memory[..words];
+    untouched_words(work);
+    let mut bytes = [0; ROOM];
+    let room = least(record.size(), ROOM);
+    let lent = &mut bytes[..room];
+    untouched_bytes(lent);
+    let answer = ListingAnswer::from(listing::enumerate_infosets(game, seats, work, lent));
+    let ListingAnswer {
+        refusal,
+        nodes,
+        sets,
+    } = answer;
+    let mut line = Line::new(true);
+    line.say(out, refusal)?;
+    line.say(out, nodes)?;
+    line.say(out, sets)?;
+    line.mix_number(refusal);
+    line.mix_length(nodes);
+    line.mix_length(sets);
+    line.mix_all(lent);
+    line.mix_words(work, nodes.saturating_mul(NODE));
+    line.end(out)?;
+    for set in lent.chunks(RECORD).take(sets) {
+        say_set(out, set)?;
     }
-}
-
-// The line, and below it a line for each set, in hexadecimal digits.
-impl Display for Answer {
-    fn fmt<W: fmt::Write>(&self, f: &mut fmt::Formatter<W>) -> fmt::Result {
-        let line = &self.line;
-        write!(f, "{line}")?;
-        for set in self.out.chunks(RECORD).take(self.sets) {
-            f.write_str("\n")?;
-            for byte in set {
-                write!(f, "{byte:02x}")?;
-            }
-        }
-        Ok(())
-    }
+    Ok(())
 }
 
 fn main(rt: HostRuntime) -> io::Result<()> {
-    let alloc = rt.alloc();
-    list::replay(&rt, |record| Answer::of_record(alloc, record))
+    let mut memory = vec![in rt.alloc(); 0; WORDS]?;
+    list::replay(&rt, |record, out| answer(&mut memory, record, out))
 }

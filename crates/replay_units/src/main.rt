@@ -5,18 +5,14 @@
 mod table;
 
 use crate::table::Table;
-use replay::line::Line;
 use replay::list;
+use replay::memory::WORDS;
 use std::io;
 
 fn main(rt: HostRuntime) -> io::Result<()> {
-    let alloc = rt.alloc();
-    list::replay(&rt, |record| {
-        let table = Table::of_record(alloc, record)?;
-        let mut line = Line::new(alloc, true);
-        table.say_worths(alloc, &mut line)?;
-        table.say_replies(alloc, &mut line)?;
-        table.say_nash_conv(alloc, &mut line)?;
-        Ok(line)
-    })
+    let mut memory = vec![in rt.alloc(); 0; WORDS]?;
+    list::replay(
+        &rt,
+        |record, out| Table::of_record(record).answer(&mut memory, out),
+    )
 }

@@ -1,9 +1,10 @@
 // Why the program ends early: a call was refused, or what it prints cannot be written.
 
 use refusals::Refusal;
-use std::io;
+use std::fmt::Debug;
+use std::{fmt, io};
 
-#[derive(Debug, Drop)]
+#[derive(Drop)]
 pub enum Failure {
     Refused(Refusal),
     Output(io::Error),
@@ -18,5 +19,15 @@ impl From<Refusal> for Failure {
 impl From<io::Error> for Failure {
     fn from(error: io::Error) -> Self {
         Failure::Output(error)
+    }
+}
+
+// What is printed where the program ends early: the refusal or the error as it is.
+impl Debug for Failure {
+    fn fmt<W: fmt::Write>(&self, f: &mut fmt::Formatter<W>) -> fmt::Result {
+        match self {
+            Failure::Refused(refusal) => write!(f, "{refusal:?}"),
+            Failure::Output(error) => write!(f, "{error:?}"),
+        }
     }
 }
