@@ -2,6 +2,7 @@
 
 ghost use Rattle.std.specs.Prelude.{◌<◌};
 
+use std::alloc::{AllocError, Global};
 use std::io::{self, BufWriter, Printer, Read, Write};
 
 // How many bytes a list has at most. Behind those of standard input it has zeros, each of which ends a number.
@@ -19,11 +20,9 @@ pub struct Source {
 }
 
 impl Source {
-    // The list of standard input, of which no more is read.
-    pub fn open<I: Read + Drop>(input: I, list: &mut Vec<u8>) -> io::Result<Self> {
-        // By `as`: both have 64 bits, and u64 has no From of usize.
-        let end = input.take(SIZE as u64).read_to_end(list)?;
-        list.resize(SIZE, 0)?;
+    // The list of standard input, of which no more is read than there is room for.
+    pub fn open<I: Read + Drop>(input: I, list: &mut [u8]) -> io::Result<Self> {
+        let end = read_full(input, list)?;
         Ok(Source {
             at: 0,
             end,
@@ -45,6 +44,19 @@ impl Source {
             left,
         }
     }
+}
+
+// Reads until the list is full or the input ends. Answers how many bytes it put at the start of the list.
+fn read_full<I: Read + Drop>(mut input: I, list: &mut [u8]) -> io::Result<usize> {
+    let mut done = 0;
+    while done < list.len() {
+        let read = input.read(&mut list[done..])?;
+        if read == 0 {
+            break;
+        }
+        done += read;
+    }
+    Ok(done)
 }
 
 // The number with a digit more. It is cut where it gets too long, and any byte from '0' on counts as a digit.
@@ -126,6 +138,11 @@ impl<'a> Record<'a> {
     }
 }
 
+// Room for a list.
+fn room(alloc: Global) -> Result<Vec<u8>, AllocError> {
+    vec![in alloc; 0; SIZE]
+}
+
 // What the answers are written to.
 pub type Output<'a, R> = BufWriter<Printer<'a, R>>;
 
@@ -137,7 +154,7 @@ where
     requires { F.IsAlwaysCallable answer }
 {
     let alloc = rt.alloc();
-    let mut list = Vec::new(alloc);
+    let mut list = room(alloc)?;
     let mut numbers = [0; NUMBERS];
     let mut source = Source::open(rt.reader(), &mut list)?;
     let mut out = BufWriter::new(alloc, io::writer(rt))?;
