@@ -27,7 +27,8 @@ impl Line {
     }
 
     // Four bytes more. 923521, 29791 and 961 are 31 to the fourth, third and second power.
-    fn mix_four(&mut self, [first, second, third, fourth]: [u8; 4]) {
+    fn mix_four(&mut self, bytes: [u8; 4]) {
+        let [first, second, third, fourth] = bytes;
         let high = u32::from(first) * 29791 + u32::from(second) * 961;
         let low = u32::from(third) * 31 + u32::from(fourth);
         self.sum = self.sum.wrapping_mul(923521).wrapping_add(high + low);
