@@ -139,43 +139,45 @@ module _ (k₀ k₁ base step inc : ℕ) (close : ℕ → ℕ → Tree) (j n x :
 
   -- its FOLD stands
   module _ {v : List ℕ} {q : ℕ} (h : Built 2 plain (at + 1) w v (end_tree (2 * j) x) q) where
-    pub call_room : (r : ℕ) → Room at w (size (raised_tree k₀ k₁ base step inc close r j n x)) → Room q v (size (close (2 * n + step) (x + inc)))
+    pub call_room : {y : ℕ} → y ≡ x + inc → (r : ℕ) → Room at w (size (raised_tree k₀ k₁ base step inc close r j n x))
+        → Room q v (size (close (2 * n + step) y))
     unfolding raised_tree
-    call_room zero g = room_two _ _ _ _ _ h g
-    call_room (suc r) g = room_two _ _ _ _ _ h g
+    call_room e zero g = rw e (room_two _ _ _ _ _ h g)
+    call_room e (suc r) g = rw e (room_two _ _ _ _ _ h g)
 
-    -- and its CALL
-    module _ {u : List ℕ} {p : ℕ} (i : Built 2 plain q v u (close (2 * n + step) (x + inc)) p) where
+    -- and its CALL, for which the seat pays so much
+    module _ {c : ℕ} {u : List ℕ} {p : ℕ} (i : Built 2 plain q v u (close (2 * n + step) c) p) (d : c ≡ x + inc) where
       pub last_fits : (r : ℕ) → r ≡ 0 → Room at w (size (raised_tree k₀ k₁ base step inc close r j n x)) → (p < PLACES) × (at < length u)
       unfolding raised_tree
-      last_fits zero e g = two_fit _ _ h i g
+      last_fits zero e g = two_fit _ _ h (rw d at i) g
       last_fits (suc r) e g = absurd (omega arith)
 
       pub lays_last : (r : ℕ) → r ≡ 0 → Room at w (size (raised_tree k₀ k₁ base step inc close r j n x)) → {y : List ℕ} {m : ℕ} → m ≡ n + base
           → Chosen at j 2 (cond (eqb j 0) k₀ k₁ + m) p u y → Built 2 plain at w y (raised_tree k₀ k₁ base step inc close r j n x) p
       unfolding raised_tree
-      lays_last zero e g f c = lays_two _ _ h i g (rw f at c)
+      lays_last zero e g f c = lays_two _ _ h (rw d at i) g (rw f at c)
       lays_last (suc r) e g f c = absurd (omega arith)
 
-      pub again_room : (r : ℕ) → 0 < r → Room at w (size (raised_tree k₀ k₁ base step inc close r j n x)) → Room p u (size (raised_tree k₀ k₁ base step inc close (r - 1) (1 - j) (2 * n + 2 * step) (x + inc)))
+      pub again_room : {y : ℕ} → y ≡ x + inc → (r : ℕ) → 0 < r → Room at w (size (raised_tree k₀ k₁ base step inc close r j n x))
+          → Room p u (size (raised_tree k₀ k₁ base step inc close (r - 1) (1 - j) (2 * n + 2 * step) y))
       unfolding raised_tree
-      again_room zero l g = absurd (omega arith)
-      again_room (suc r) l g = let e : suc r - 1 ≡ r = omega arith in rw e (room_three _ _ _ _ _ h i _ g)
+      again_room a zero l g = absurd (omega arith)
+      again_room a (suc r) l g = let e : suc r - 1 ≡ r = omega arith in rw (a, e) (room_three _ _ _ _ _ h (rw d at i) _ g)
 
       -- and its RAISE
-      module _ {z : List ℕ} {o : ℕ} where
+      module _ {y : ℕ} {z : List ℕ} {o : ℕ} where
         pub again_fits : (r : ℕ) → 0 < r → Room at w (size (raised_tree k₀ k₁ base step inc close r j n x)) → Built 2 plain p u z
-            (raised_tree k₀ k₁ base step inc close (r - 1) (1 - j) (2 * n + 2 * step) (x + inc)) o → (o < PLACES) × (at < length z)
+            (raised_tree k₀ k₁ base step inc close (r - 1) (1 - j) (2 * n + 2 * step) y) o → y ≡ x + inc → (o < PLACES) × (at < length z)
         unfolding raised_tree
-        again_fits zero l g b = absurd (omega arith)
-        again_fits (suc r) l g b = let e : suc r - 1 ≡ r = omega arith in three_fit _ _ h i (rw e at b) g
+        again_fits zero l g b a = absurd (omega arith)
+        again_fits (suc r) l g b a = let e : suc r - 1 ≡ r = omega arith in three_fit _ _ h (rw d at i) (rw (a, e) at b) g
 
         pub lays_again : (r : ℕ) → 0 < r → Room at w (size (raised_tree k₀ k₁ base step inc close r j n x))
-            → Built 2 plain p u z (raised_tree k₀ k₁ base step inc close (r - 1) (1 - j) (2 * n + 2 * step) (x + inc)) o → {y : List ℕ} {m : ℕ}
-            → m ≡ n + base → Chosen at j 3 (cond (eqb j 0) k₀ k₁ + m) o z y → Built 2 plain at w y (raised_tree k₀ k₁ base step inc close r j n x) o
+            → Built 2 plain p u z (raised_tree k₀ k₁ base step inc close (r - 1) (1 - j) (2 * n + 2 * step) y) o → y ≡ x + inc → {t : List ℕ} {m : ℕ}
+            → m ≡ n + base → Chosen at j 3 (cond (eqb j 0) k₀ k₁ + m) o z t → Built 2 plain at w t (raised_tree k₀ k₁ base step inc close r j n x) o
         unfolding raised_tree
-        lays_again zero l g b f c = absurd (omega arith)
-        lays_again (suc r) l g b f c = let e : suc r - 1 ≡ r = omega arith in lays_three _ _ h i (rw e at b) g (rw f at c)
+        lays_again zero l g b a f c = absurd (omega arith)
+        lays_again (suc r) l g b a f c = let e : suc r - 1 ≡ r = omega arith in lays_three _ _ h (rw d at i) (rw (a, e) at b) g (rw f at c)
 
 -- ---- the numbers stay small
 module _ {j : ℕ} (l : j < 2) where
@@ -190,11 +192,11 @@ module _ {step inc most n x r : ℕ} (h : Raise step inc most n x r) where
   pub raise_few : (n ≤ 10 * step) × (2 * n + step ≤ 21 * step) × (x + inc ≤ most + 2 * inc)
   raise_few = (omega (arith, h.few), omega (arith, h.few), omega (arith, h.stakes))
 
-  pub raise_again : 0 < r → Raise step inc most (2 * n + 2 * step) (x + inc) (r - 1)
-  raise_again l = let e : suc (r - 1) ≡ r = omega arith in
+  pub raise_again : {y : ℕ} → y ≡ x + inc → 0 < r → Raise step inc most (2 * n + 2 * step) y (r - 1)
+  raise_again a l = let e : suc (r - 1) ≡ r = omega arith in
       let f : n + 6 * (step * suc (r - 1)) ≤ 10 * step = rw e h.few in
       let s : x + inc * suc (r - 1) ≤ most + inc = rw e h.stakes in
-      record { few = omega (arith, f, NatL.mul-suc step (r - 1)); stakes = omega (arith, s, NatL.mul-suc inc (r - 1)) }
+      record { few = omega (arith, f, NatL.mul-suc step (r - 1)); stakes = omega (arith, a, s, NatL.mul-suc inc (r - 1)) }
 
 -- ---- the tree of a number that is kept, or not
 module _ (g : ℕ → Tree) (x : ℕ) (b : Bool) (at : ℕ) (w : List ℕ) where

@@ -27,10 +27,12 @@ with_bet-with_bet-requires-clause-paid t c = (
 
 pub after_bet-next-requires : goal.after_bet-next-requires
 after_bet-next-requires t c = let a = c.args in let on = hands.after_goes_on a.cards.now a.number c.requires.betting c.requires.room c.if-left-eq0.false in
-    let more = c.with_bet-with_bet.ensures in (
+    let few = hands.after-words a.cards.now a.number c.requires.betting c.requires.room in
+    let acts = hands.after-seat a.cards.now a.number c.requires.betting c.requires.room in
+    let pays = hands.after-unit a.cards.now a.number c.requires.betting c.requires.room c.if-left-eq0.false in (
       omega (arith, c.decreases, c.if-left-eq0.false),
       (
-        hands.after_raise a.cards.now a.number c.requires.betting c.requires.room c.if-left-eq0.false _ _ _ more.lost more.pot more.winner,
+        hands.after_raise a.cards.now a.number c.requires.betting c.requires.room c.if-left-eq0.false _ _ _ (grind arith) (grind arith) (grind arith),
         (less_left a.number a.left 2 c.if-left-eq0.false c.requires.few (omega arith), hands.second_room _ a.cards.now a.number on c.requires.room c.after_bet-bet.ensures),
       ),
     )
