@@ -1,8 +1,9 @@
 -- The sum is NashConv over the seats passed. Assumes nothing.
-use mathlib.Core.Path.{◌≡◌, refl, ◌∙◌}
+use mathlib.Core.Path.{◌≡◌, refl, ap, ◌∙◌}
 use Prim.Native.Nat.{◌<◌}
 use native.Mathlib.Omega.{arith}
 use borrow.Author.Rules.{rules}
+use lib.IntN.{pos}
 use mir.Syntax.{w64}
 use mir.Val.{to_z, of_z}
 use Rattle.games.specs.internal.Numbered.{numbered}
@@ -31,7 +32,7 @@ loop-seat-preserved c =
     let whole : to_z w64 (of_z w64 c.best_value-best.result) ≡ c.best_value-best.result = search rules in
     let b = c.best_value-best.ensures in
     let gain = gain_is g t.parts t.entries.now t.accepted c.loop-seat.seat inside _ c.table_worths-worths.ensures.0 _ _ whole b.0 b.1 _ c.abs_diff-sum.ensures in (
-      one_seat_more g t.parts t.entries.now t.accepted c.loop-seat.seat c.loop-seat.sum c.abs_diff-sum.result c.loop-seat.invariant.0 gain,
+      ap pos (grind arith) ∙ one_seat_more g t.parts t.entries.now t.accepted c.loop-seat.seat c.loop-seat.sum c.abs_diff-sum.result c.loop-seat.invariant.0 gain,
       b.3,
       c.best_value-best.auto.words ∙ c.loop-seat.invariant.2,
     )
