@@ -1,18 +1,21 @@
-// One line of answers: words, and a checksum of every field of every answer.
+// One line of answers: words, and a checksum of every field of every answer. A line is written as it comes, or kept until it is shown.
 
+use refusals::{Refusal, number_of};
+use std::alloc::{AllocError, Global};
+use std::fmt;
 use std::fmt::Display;
 use std::io::{self, Write};
 
 // The checksum so far, which ends the line, and whether the words before it are written.
 #[derive(Clone, Copy)]
-pub struct Line {
+pub struct WrittenLine {
     pub sum: u32,
     pub shown: bool,
 }
 
-impl Line {
+impl WrittenLine {
     pub fn new(shown: bool) -> Self {
-        Line { sum: 1, shown }
+        WrittenLine { sum: 1, shown }
     }
 
     // A byte more in the checksum.
@@ -91,5 +94,84 @@ impl Line {
     pub fn end<O: Write>(self, out: &mut O) -> io::Result<()> {
         let sum = self.sum;
         writeln!(out, "{sum}")
+    }
+}
+
+// A line that is kept: the words that it begins with, none if they are not shown, and the checksum, which ends it.
+#[derive(Drop)]
+pub struct Line {
+    words: Option<String>,
+    sums: WrittenLine,
+}
+
+impl Line {
+    pub fn new(alloc: Global, shown: bool) -> Self {
+        Line {
+            words: shown.then_some(String::new(alloc)),
+            sums: WrittenLine::new(shown),
+        }
+    }
+
+    // A byte more in the checksum.
+    pub fn mix(&mut self, byte: u8) {
+        self.sums.mix(byte);
+    }
+
+    pub fn mix_all(&mut self, bytes: &[u8]) {
+        self.sums.mix_all(bytes);
+    }
+
+    // A number more, its lowest byte first.
+    pub fn mix_number(&mut self, number: u64) {
+        self.sums.mix_number(number);
+    }
+
+    pub fn mix_length(&mut self, length: usize) {
+        self.sums.mix_length(length);
+    }
+
+    // The words of work memory that a call had to leave: those from place `kept` on, or all if it was refused.
+    pub fn mix_left<T>(&mut self, work: &[u64], answer: &Result<T, Refusal>, kept: usize) {
+        self.sums.mix_left(work, number_of(answer), kept);
+    }
+
+    // A word more.
+    pub fn say<W: Display + Drop>(&mut self, word: W) -> Result<(), AllocError> {
+        if let Some(words) = &mut self.words {
+            write!(words, "{word} ")?;
+        }
+        Ok(())
+    }
+
+    // A word for each.
+    pub fn say_all<W: Display + Copy>(&mut self, words: &[W]) -> Result<(), AllocError> {
+        for word in words {
+            self.say(*word)?;
+        }
+        Ok(())
+    }
+
+    // The letter of a call, and its refusal number.
+    pub fn say_call<T>(
+        &mut self,
+        letter: char,
+        answer: &Result<T, Refusal>,
+    ) -> Result<(), AllocError> {
+        self.say(letter)?;
+        self.say(number_of(answer))
+    }
+
+    // The bytes behind their count.
+    pub fn say_list(&mut self, bytes: &[u8]) -> Result<(), AllocError> {
+        self.say(bytes.len())?;
+        self.say_all(bytes)
+    }
+}
+
+impl Display for Line {
+    fn fmt<W: fmt::Write>(&self, f: &mut fmt::Formatter<W>) -> fmt::Result {
+        let words = self.words.as_ref().map_or("", |words| words.as_str());
+        let sum = self.sums.sum;
+        write!(f, "{words}{sum}")
     }
 }

@@ -1,9 +1,12 @@
-// A list: decimal numbers with one byte between them, a record a line.
+// A list: decimal numbers, a record a line. `replay_numbers` reads all of it at once, up to a size, as numbers of 64 bits with one byte between them, and takes
+// whatever stands there for such. `replay` reads line by line, of any length, each word between spaces as what is asked for; what is none is refused.
 
 ghost use Rattle.std.specs.Prelude.{◌<◌};
 
 use std::alloc::{AllocError, Global};
-use std::io::{self, BufWriter, Printer, Read, Write};
+use std::fmt::Display;
+use std::io::{self, BufRead, BufReader, BufWriter, ErrorKind, Printer, Read, Write};
+use std::str::{FromStr, SplitWhitespace};
 
 // How many bytes a list has at most. Behind those of standard input it has zeros, each of which ends a number.
 const SIZE: usize = 4194304;
@@ -88,14 +91,14 @@ fn read_line(list: &[u8], numbers: &mut [u64; 4096]) -> usize {
 
 // A place among the numbers of a line, which are read from there one after the other.
 #[derive(Clone, Copy)]
-pub struct Record<'a> {
+pub struct Numbers<'a> {
     numbers: &'a [u64; 4096],
     at: usize,
 }
 
-impl<'a> Record<'a> {
+impl<'a> Numbers<'a> {
     pub fn new(numbers: &'a [u64; 4096]) -> Self {
-        Record { numbers, at: 0 }
+        Numbers { numbers, at: 0 }
     }
 
     // The next number, 0 behind the last that a line has room for.
@@ -147,10 +150,10 @@ fn room(alloc: Global) -> Result<Vec<u8>, AllocError> {
 pub type Output<'a, R> = BufWriter<Printer<'a, R>>;
 
 // Reads all of standard input, and then answers its records.
-pub fn replay<'a, R, F>(rt: &'a R, mut answer: F) -> io::Result<()>
+pub fn replay_numbers<'a, R, F>(rt: &'a R, mut answer: F) -> io::Result<()>
 where
     R: Input + Print + AllocGlobal,
-    F: FnMut(Record, &mut Output<'a, R>) -> io::Result<()>,
+    F: FnMut(Numbers, &mut Output<'a, R>) -> io::Result<()>,
     requires { F.IsAlwaysCallable answer }
 {
     let alloc = rt.alloc();
@@ -160,7 +163,69 @@ where
     let mut out = BufWriter::new(alloc, io::writer(rt))?;
     while source.left > 0 {
         source = source.line(&list, &mut numbers);
-        answer(Record::new(&numbers), &mut out)?;
+        answer(Numbers::new(&numbers), &mut out)?;
+    }
+    out.flush()
+}
+
+// The words of a record, one after the other.
+#[derive(Drop)]
+pub struct Record<'a> {
+    words: SplitWhitespace<'a>,
+}
+
+impl<'a> Record<'a> {
+    pub fn new(line: &'a str) -> Self {
+        Record {
+            words: line.split_whitespace(),
+        }
+    }
+
+    // The next number. A record that ends before it, or has something else there, is no record of a list.
+    pub fn number<N: FromStr>(&mut self) -> io::Result<N>
+    where
+        N: Drop,
+        N::Err: Drop,
+    {
+        let word = self.words.next().ok_or(ErrorKind::InvalidData)?;
+        let number = word.parse::<N>().map_err(|_| ErrorKind::InvalidData)?;
+        Ok(number)
+    }
+
+    // So many numbers more.
+    pub fn numbers<N: FromStr>(&mut self, alloc: Global, count: usize) -> io::Result<Vec<N>>
+    where
+        N: Drop,
+        N::Err: Drop,
+    {
+        let mut numbers = Vec::new(alloc);
+        for _ in 0..count {
+            numbers.push(self.number::<N>()?)?;
+        }
+        Ok(numbers)
+    }
+
+    // A count and as many bytes.
+    pub fn bytes(&mut self, alloc: Global) -> io::Result<Vec<u8>> {
+        let count = self.number::<usize>()?;
+        self.numbers::<u8>(alloc, count)
+    }
+}
+
+// Answers each record of standard input, while it reads.
+pub fn replay<R, T, F>(rt: &R, mut answer: F) -> io::Result<()>
+where
+    R: Input + Print + AllocGlobal,
+    T: Display + Drop,
+    F: FnMut(&mut Record) -> io::Result<T>,
+    requires { F.IsAlwaysCallable answer }
+{
+    let alloc = rt.alloc();
+    let mut out = BufWriter::new(alloc, io::writer(rt))?;
+    for line in BufReader::new(alloc, rt.reader())?.lines(alloc) {
+        let line = line?;
+        let answered = answer(&mut Record::new(&line))?;
+        writeln!(out, "{answered}")?;
     }
     out.flush()
 }

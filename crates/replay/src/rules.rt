@@ -1,10 +1,12 @@
 // The rules calls on a position, of either game: what a record asks for, and the line that answers it.
 // Every field of an answer goes into the checksum, as C has it, and the words are what was accepted.
 
-use crate::line::Line;
-use crate::list::Record;
-use crate::memory::{least, untouched_bytes};
-use std::io::{self, Write};
+use crate::line::{Line, WrittenLine};
+use crate::list::{Numbers, Record};
+use crate::memory::{first, least, output, untouched_bytes};
+use refusals::{Payoffs, Refusal, number_of};
+use std::alloc::{AllocError, Global};
+use std::io::{self, ErrorKind, Write};
 
 // How many bytes the output has; a call is lent the first of them.
 const ROOM: usize = 32;
@@ -37,12 +39,12 @@ pub struct Paid<P> {
 }
 
 // A game's position, with the rules calls on it. Each answers what C is answered, so what comes back after a refusal is the library's too.
-pub trait Position: Copy {
+pub trait CPosition: Copy {
     // The position without cards of the game that a record names.
-    fn of_game(record: &mut Record) -> Self;
+    fn of_game(record: &mut Numbers) -> Self;
 
     // The position that a record has.
-    fn of_record(record: &mut Record) -> Self;
+    fn of_record(record: &mut Numbers) -> Self;
 
     // The same without the public card, for a game that has one; a saved position is checked once more so.
     fn without_public(&self) -> Option<Self> {
@@ -71,10 +73,10 @@ pub trait Position: Copy {
     fn validate_decoded_state(&self, done: u64) -> Moved<Self>;
 
     // Every field in the checksum.
-    fn mix(&self, line: &mut Line);
+    fn mix(&self, line: &mut WrittenLine);
 
     // The words of the position up to its lengths.
-    fn say<O: Write>(&self, line: &Line, out: &mut O) -> io::Result<()>;
+    fn say<O: Write>(&self, line: &WrittenLine, out: &mut O) -> io::Result<()>;
 }
 
 // The payoff as a byte of the checksum: 128 more than it is.
@@ -84,12 +86,12 @@ fn code(payoff: i64) -> u8 {
 
 // The answers to one record: the position that all its calls are made on, and the line so far.
 #[derive(Clone, Copy)]
-struct Answers<P: Position> {
+struct Answers<P: CPosition> {
     position: P,
-    line: Line,
+    line: WrittenLine,
 }
 
-impl<P: Position> Answers<P> {
+impl<P: CPosition> Answers<P> {
     // A call's refusal number goes into the checksum, and then the position that came back.
     fn mix(&mut self, refusal: u64, position: P) {
         self.line.mix_number(refusal);
@@ -228,9 +230,9 @@ fn asked_by(code: u64) -> (Asked, bool) {
 }
 
 // Writes the line of a record.
-pub fn answer<P: Position, O: Write>(mut record: Record, out: &mut O) -> io::Result<()> {
+pub fn write_answer<P: CPosition, O: Write>(mut record: Numbers, out: &mut O) -> io::Result<()> {
     let (asked, shown) = asked_by(record.number());
-    let line = Line::new(shown);
+    let line = WrittenLine::new(shown);
     match asked {
         Asked::Start => {
             let position = P::of_game(&mut record);
@@ -254,6 +256,202 @@ pub fn answer<P: Position, O: Write>(mut record: Record, out: &mut O) -> io::Res
                 answers.say_saved(out)?;
             }
             answers.line.end(out)
+        }
+    }
+}
+
+// What a refused payoff call pays.
+const NOTHING_PAID: Payoffs = Payoffs {
+    count: 0,
+    payoffs: [0; 10],
+};
+
+// A game's position, with the rules calls on it, each as the game's own library answers it. After a refusal the position is the one handed in.
+pub trait Position: Sized + Drop {
+    // The position without cards of the game that a record names.
+    fn of_game(record: &mut Record) -> io::Result<Self>;
+
+    // The position that a record has.
+    fn of_record(alloc: Global, record: &mut Record) -> io::Result<Self>;
+
+    // The same without the public card, for a game that has one; a saved position is checked once more so.
+    fn without_public(&self) -> Option<Self> {
+        // A game without one has none to hide.
+        None
+    }
+
+    // The last seat and the last outcome that are asked for in turn from 0 on, one past those of the game, and all actions that are.
+    fn last_seat(&self) -> usize;
+
+    fn last_outcome(&self) -> usize;
+
+    fn actions(&self) -> &'static [usize];
+
+    fn initial_state(&self) -> Result<Self, Refusal>;
+
+    fn legal_actions(&self, seat: usize, out: &mut [u8]) -> Result<usize, Refusal>;
+
+    fn apply_chance_node(&self, outcome: usize) -> Result<Self, Refusal>;
+
+    fn step(&self, action: usize) -> Result<Self, Refusal>;
+
+    fn information_state_key(&self, seat: usize, out: &mut [u8]) -> Result<usize, Refusal>;
+
+    fn payouts(&self) -> Result<Payoffs, Refusal>;
+
+    fn validate_decoded_state(&self, done: u64) -> Result<(), Refusal>;
+
+    // Every field in the checksum.
+    fn mix(&self, line: &mut Line);
+
+    // The words of the position up to its lengths.
+    fn say(&self, line: &mut Line) -> Result<(), AllocError>;
+}
+
+// The answers to one record whose line is kept: the position that all its calls are made on, and the line so far.
+#[derive(Drop)]
+struct KeptAnswers<P: Position> {
+    position: P,
+    line: Line,
+}
+
+impl<P: Position> KeptAnswers<P> {
+    // A call's refusal number goes into the checksum, and then the position.
+    fn mix<T>(&mut self, answer: &Result<T, Refusal>) {
+        self.line.mix_number(number_of(answer));
+        self.position.mix(&mut self.line);
+    }
+
+    // A start, a deal or a step: the new position, or the one handed in.
+    fn say_moved(&mut self, letter: char, answer: Result<P, Refusal>) -> Result<(), AllocError> {
+        self.line.say_call(letter, &answer)?;
+        match &answer {
+            Ok(next) => {
+                self.line.mix_number(number_of(&answer));
+                next.mix(&mut self.line);
+                next.say(&mut self.line)?;
+            }
+            Err(_) => self.mix(&answer),
+        }
+        Ok(())
+    }
+
+    // A legal list or a key, which the call wrote to the front of the output: all of that goes into the checksum.
+    fn say_written(
+        &mut self,
+        letter: char,
+        answer: Result<usize, Refusal>,
+        out: &[u8],
+    ) -> Result<(), AllocError> {
+        self.line.say_call(letter, &answer)?;
+        let count = answer.unwrap_or(0);
+        if answer.is_ok() {
+            self.line.say_list(first(out, count))?;
+        }
+        self.mix(&answer);
+        self.line.mix_length(count);
+        self.line.mix_all(out);
+        Ok(())
+    }
+
+    fn say_paid(&mut self, answer: Result<Payoffs, Refusal>) -> Result<(), AllocError> {
+        self.line.say_call('P', &answer)?;
+        let paid = answer.unwrap_or(NOTHING_PAID);
+        if answer.is_ok() {
+            self.line.say(paid.count)?;
+            for payoff in paid.payoffs.iter().take(paid.count) {
+                self.line.say(*payoff)?;
+            }
+        }
+        self.mix(&answer);
+        self.line.mix_length(paid.count);
+        for payoff in paid.payoffs {
+            self.line.mix(code(payoff));
+        }
+        Ok(())
+    }
+
+    // A call that writes, for each seat that is asked for.
+    fn ask_seats<C: Fn(&P, usize, &mut [u8]) -> Result<usize, Refusal>>(
+        &mut self,
+        alloc: Global,
+        letter: char,
+        room: usize,
+        call: C,
+    ) -> Result<(), AllocError>
+        requires { C.IsAlwaysCallable call }
+    {
+        for seat in (0..=self.position.last_seat()).chain(FAR) {
+            let mut out = output(alloc, ROOM)?;
+            let lent = least(room, ROOM);
+            let answer = call(&self.position, seat, &mut out[..lent]);
+            self.say_written(letter, answer, &out)?;
+        }
+        Ok(())
+    }
+
+    // The family of rules calls: the legal lists, the deals, the steps, the keys and the payoff.
+    fn say_family(&mut self, alloc: Global, room: usize) -> Result<(), AllocError> {
+        self.ask_seats(alloc, 'L', room, P::legal_actions)?;
+        for outcome in (0..=self.position.last_outcome()).chain(FAR) {
+            let answer = self.position.apply_chance_node(outcome);
+            self.say_moved('D', answer)?;
+        }
+        for action in self.position.actions() {
+            let answer = self.position.step(*action);
+            self.say_moved('S', answer)?;
+        }
+        self.ask_seats(alloc, 'K', room, P::information_state_key)?;
+        let answer = self.position.payouts();
+        self.say_paid(answer)
+    }
+
+    // A saved position, with each end mark. The words have the numbers of the marks 0 and 1.
+    fn say_saved(&mut self) -> Result<(), AllocError> {
+        for done in [0, 1, 2, u64::MAX] {
+            let answer = self.position.validate_decoded_state(done);
+            if done < 2 {
+                self.line.say(number_of(&answer))?;
+            }
+            self.mix(&answer);
+        }
+        Ok(())
+    }
+}
+
+// The line of a record. A code that is none is refused, and so is a record that has something else where a number is due.
+pub fn answer<P: Position>(alloc: Global, record: &mut Record) -> io::Result<Line> {
+    let code = record.number::<u8>()?;
+    if 4 < code {
+        return Err(ErrorKind::InvalidData.into());
+    }
+    let (asked, shown) = asked_by(u64::from(code));
+    let line = Line::new(alloc, shown);
+    match asked {
+        Asked::Start => {
+            let position = P::of_game(record)?;
+            let start = position.initial_state();
+            let mut answers = KeptAnswers { position, line };
+            answers.say_moved('I', start)?;
+            Ok(answers.line)
+        }
+        Asked::Family => {
+            let room = record.number::<usize>()?;
+            let position = P::of_record(alloc, record)?;
+            let mut answers = KeptAnswers { position, line };
+            answers.say_family(alloc, room)?;
+            Ok(answers.line)
+        }
+        Asked::Saved => {
+            let position = P::of_record(alloc, record)?;
+            let hidden = position.without_public();
+            let mut answers = KeptAnswers { position, line };
+            answers.say_saved()?;
+            if let Some(position) = hidden {
+                answers.position = position;
+                answers.say_saved()?;
+            }
+            Ok(answers.line)
         }
     }
 }

@@ -11,7 +11,7 @@ use std::io;
 
 fn main(rt: HostRuntime) -> io::Result<()> {
     let mut memory = vec![in rt.alloc(); 0; WORDS]?;
-    list::replay(
+    list::replay_numbers(
         &rt,
         |record, out| Profile::of_record(record).answer(&mut memory, out),
     )

@@ -2,8 +2,8 @@
 
 use best_response::ValuesAnswer;
 use replay::least;
-use replay::line::Line;
-use replay::list::Record;
+use replay::line::WrittenLine;
+use replay::list::Numbers;
 use replay::tree::Tree;
 use std::io::{self, Write};
 
@@ -76,7 +76,7 @@ fn bits_of(value: f64) -> u64 {
 }
 
 impl Profile {
-    pub fn of_record(mut record: Record) -> Self {
+    pub fn of_record(mut record: Numbers) -> Self {
         // The list has the calls by number, since all of it is numbers.
         let call = record.size();
         let calls = if call == ALL {
@@ -84,7 +84,7 @@ impl Profile {
         } else {
             CALLS.get(call..=call).unwrap_or(&[])
         };
-        let tree = Tree::of_record(&mut record);
+        let tree = Tree::of_numbers(&mut record);
         let seat = record.size();
         let count = record.size();
         let given = record.size();
@@ -118,7 +118,7 @@ impl Profile {
     fn say_call<O: Write>(
         &self,
         memory: &mut [u64],
-        line: &mut Line,
+        line: &mut WrittenLine,
         out: &mut O,
         call: Call,
     ) -> io::Result<()> {
@@ -133,13 +133,13 @@ impl Profile {
         for value in values {
             line.say(out, bits_of(value))?;
         }
-        self.tree.mix_left(line, work, refusal);
+        self.tree.mix_left_by_number(line, work, refusal);
         Ok(())
     }
 
     // The calls that the record asks for.
     pub fn answer<O: Write>(&self, memory: &mut [u64], out: &mut O) -> io::Result<()> {
-        let mut line = Line::new(true);
+        let mut line = WrittenLine::new(true);
         for call in self.calls {
             self.say_call(memory, &mut line, out, *call)?;
         }

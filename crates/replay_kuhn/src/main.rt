@@ -9,8 +9,8 @@ use replay::{list, rules};
 use std::io;
 
 fn main(rt: HostRuntime) -> io::Result<()> {
-    list::replay(
+    list::replay_numbers(
         &rt,
-        |record, out| rules::answer::<KuhnPosition, _>(record, out),
+        |record, out| rules::write_answer::<KuhnPosition, _>(record, out),
     )
 }

@@ -4,9 +4,9 @@ use c_structs::of_kuhn;
 use c_structs::of_kuhn::{KuhnMoved, KuhnPayoffs, KuhnWritten};
 use kuhn::{KuhnPoker, KuhnState};
 use refusals::Refusal;
-use replay::line::Line;
-use replay::list::Record;
-use replay::rules::{Moved, Paid, Position, Written};
+use replay::line::WrittenLine;
+use replay::list::Numbers;
+use replay::rules::{CPosition, Moved, Paid, Written};
 use std::io::{self, Write};
 
 #[derive(Clone, Copy)]
@@ -46,9 +46,9 @@ impl KuhnPosition {
     }
 }
 
-impl Position for KuhnPosition {
+impl CPosition for KuhnPosition {
     // SEATS.
-    fn of_game(record: &mut Record) -> Self {
+    fn of_game(record: &mut Numbers) -> Self {
         let game = KuhnPoker {
             players: record.size(),
         };
@@ -59,7 +59,7 @@ impl Position for KuhnPosition {
     }
 
     // SEATS, both lengths, the number that fills the arrays, the cards and the history.
-    fn of_record(record: &mut Record) -> Self {
+    fn of_record(record: &mut Numbers) -> Self {
         let game = KuhnPoker {
             players: record.size(),
         };
@@ -131,14 +131,14 @@ impl Position for KuhnPosition {
         self.moved(outcome.and(Ok(self.state)))
     }
 
-    fn mix(&self, line: &mut Line) {
+    fn mix(&self, line: &mut WrittenLine) {
         line.mix_all(&self.state.cards);
         line.mix_length(self.state.dealt);
         line.mix_all(&self.state.history);
         line.mix_length(self.state.acted);
     }
 
-    fn say<O: Write>(&self, line: &Line, out: &mut O) -> io::Result<()> {
+    fn say<O: Write>(&self, line: &WrittenLine, out: &mut O) -> io::Result<()> {
         line.say_list(out, &self.state.cards, self.state.dealt)?;
         line.say_list(out, &self.state.history, self.state.acted)
     }

@@ -4,9 +4,9 @@ use c_structs::of_leduc;
 use c_structs::of_leduc::{LeducMoved, LeducPayoffs, LeducWritten};
 use leduc::{LeducPoker, LeducState};
 use refusals::Refusal;
-use replay::line::Line;
-use replay::list::Record;
-use replay::rules::{Moved, Paid, Position, Written};
+use replay::line::WrittenLine;
+use replay::list::Numbers;
+use replay::rules::{CPosition, Moved, Paid, Written};
 use std::io::{self, Write};
 
 #[derive(Clone, Copy)]
@@ -56,15 +56,15 @@ impl LeducPosition {
     }
 }
 
-impl Position for LeducPosition {
+impl CPosition for LeducPosition {
     // Nothing.
-    fn of_game(_record: &mut Record) -> Self {
+    fn of_game(_record: &mut Numbers) -> Self {
         let state = LeducState::new();
         LeducPosition { state }
     }
 
     // The cards' length, the public card, the rounds' lengths, the number that fills the arrays, the cards and the rounds.
-    fn of_record(record: &mut Record) -> Self {
+    fn of_record(record: &mut Numbers) -> Self {
         let dealt = record.size();
         let public = public_of(record.number());
         let acted1 = record.size();
@@ -148,7 +148,7 @@ impl Position for LeducPosition {
         self.moved(outcome.and(Ok(self.state)))
     }
 
-    fn mix(&self, line: &mut Line) {
+    fn mix(&self, line: &mut WrittenLine) {
         line.mix_all(&self.state.cards);
         line.mix_length(self.state.dealt);
         line.mix_number(number_of(self.state.public));
@@ -157,7 +157,7 @@ impl Position for LeducPosition {
         line.mix_length(self.state.acted2);
     }
 
-    fn say<O: Write>(&self, line: &Line, out: &mut O) -> io::Result<()> {
+    fn say<O: Write>(&self, line: &WrittenLine, out: &mut O) -> io::Result<()> {
         line.say_list(out, &self.state.cards, self.state.dealt)?;
         line.say(out, number_of(self.state.public))?;
         line.say_list(out, &self.state.history[..4], self.state.acted1)?;

@@ -3,8 +3,8 @@
 #![tactic(auto)]
 
 use listing::ListingAnswer;
-use replay::line::Line;
-use replay::list::Record;
+use replay::line::WrittenLine;
+use replay::list::Numbers;
 use replay::memory::WORDS;
 use replay::{least, list, untouched_bytes, untouched_words};
 use std::io::{self, Write};
@@ -28,7 +28,7 @@ fn say_set<O: Write>(out: &mut O, set: &[u8]) -> io::Result<()> {
 
 // One record: the game, the seats, and how many words and bytes are lent. The checksum has all that the call may not have touched, and below the line stands a
 // line for each set.
-fn answer<O: Write>(memory: &mut [u64], mut record: Record, out: &mut O) -> io::Result<()> {
+fn answer<O: Write>(memory: &mut [u64], mut record: Numbers, out: &mut O) -> io::Result<()> {
     let game = record.size();
     let seats = record.size();
     let words = least(record.size(), memory.len());
@@ -44,7 +44,7 @@ fn answer<O: Write>(memory: &mut [u64], mut record: Record, out: &mut O) -> io::
         nodes,
         sets,
     } = answer;
-    let mut line = Line::new(true);
+    let mut line = WrittenLine::new(true);
     line.say(out, refusal)?;
     line.say(out, nodes)?;
     line.say(out, sets)?;
@@ -62,5 +62,5 @@ fn answer<O: Write>(memory: &mut [u64], mut record: Record, out: &mut O) -> io::
 
 fn main(rt: HostRuntime) -> io::Result<()> {
     let mut memory = vec![in rt.alloc(); 0; WORDS]?;
-    list::replay(&rt, |record, out| answer(&mut memory, record, out))
+    list::replay_numbers(&rt, |record, out| answer(&mut memory, record, out))
 }

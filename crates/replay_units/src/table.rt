@@ -2,8 +2,8 @@
 
 use best_reply::ReplyAnswer;
 use nash_conv_units::NashConvAnswer;
-use replay::line::Line;
-use replay::list::Record;
+use replay::line::WrittenLine;
+use replay::list::Numbers;
 use replay::tree::Tree;
 use replay::{least, untouched_bytes};
 use std::io::{self, Write};
@@ -25,10 +25,10 @@ pub struct Table {
 }
 
 impl Table {
-    pub fn of_record(mut record: Record) -> Self {
+    pub fn of_record(mut record: Numbers) -> Self {
         // The list has codes, since all of it is numbers: 1 has the replies in words, 2 in the checksum alone.
         let code = record.number();
-        let tree = Tree::of_record(&mut record);
+        let tree = Tree::of_numbers(&mut record);
         let parts = record.size();
         let room = record.size();
         let mut given = record;
@@ -51,7 +51,7 @@ impl Table {
     fn say_worths<O: Write>(
         &self,
         memory: &mut [u64],
-        line: &mut Line,
+        line: &mut WrittenLine,
         out: &mut O,
     ) -> io::Result<()> {
         let Tree { game, seats, .. } = self.tree;
@@ -65,7 +65,7 @@ impl Table {
         line.say_call(out, 'W', refusal)?;
         line.say(out, count)?;
         line.say_all(out, &worths)?;
-        self.tree.mix_left(line, work, refusal);
+        self.tree.mix_left_by_number(line, work, refusal);
         Ok(())
     }
 
@@ -73,7 +73,7 @@ impl Table {
     fn say_reply<O: Write>(
         &self,
         memory: &mut [u64],
-        line: &mut Line,
+        line: &mut WrittenLine,
         out: &mut O,
         seat: usize,
     ) -> io::Result<()> {
@@ -91,7 +91,7 @@ impl Table {
             line.say_all(out, reply.get(..self.count).unwrap_or(reply))?;
         }
         line.mix_all(reply);
-        self.tree.mix_left(line, work, refusal);
+        self.tree.mix_left_by_number(line, work, refusal);
         Ok(())
     }
 
@@ -99,7 +99,7 @@ impl Table {
     fn say_nash_conv<O: Write>(
         &self,
         memory: &mut [u64],
-        line: &mut Line,
+        line: &mut WrittenLine,
         out: &mut O,
     ) -> io::Result<()> {
         let Tree { game, seats, .. } = self.tree;
@@ -113,13 +113,13 @@ impl Table {
         line.say_call(out, 'N', refusal)?;
         line.say(out, nash_conv)?;
         line.say(out, units)?;
-        self.tree.mix_left(line, work, refusal);
+        self.tree.mix_left_by_number(line, work, refusal);
         Ok(())
     }
 
     // The worths, the replies of the seats up to the seat count, which is none, but at most to 6, and of the largest number, and NashConv.
     pub fn answer<O: Write>(&self, memory: &mut [u64], out: &mut O) -> io::Result<()> {
-        let mut line = Line::new(true);
+        let mut line = WrittenLine::new(true);
         self.say_worths(memory, &mut line, out)?;
         for seat in (0..=self.tree.seats.min(6)).chain([usize::MAX]) {
             self.say_reply(memory, &mut line, out, seat)?;
