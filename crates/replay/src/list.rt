@@ -1,5 +1,5 @@
-// A list: decimal numbers, a record a line. `replay_numbers` reads all of it at once, up to a size, as numbers of 64 bits with one byte between them, and takes
-// whatever stands there for such. `replay` reads line by line, of any length, each word between spaces as what is asked for; what is none is refused.
+// A list: decimal numbers, a record a line. `replay_numbers` reads all of it at once, up to a size, as numbers of 64 bits with one byte between them; whatever
+// stands there is taken for numbers. `replay` reads line by line, of any length, each word between spaces as what is asked for; what is none is refused.
 
 ghost use Rattle.std.specs.Prelude.{◌<◌};
 

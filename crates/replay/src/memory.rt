@@ -1,6 +1,6 @@
 // Memory as a record gives it, and as it is before a call.
 
-ghost use Rattle.std.specs.Prelude.{◌≡◌, ◌≤◌, IfOk, vec_len};
+ghost use Rattle.std.specs.Prelude.{◌≡◌, ◌≤◌, IfOk, take, vec_len};
 
 use std::alloc::{AllocError, Global};
 
@@ -30,8 +30,10 @@ pub fn untouched_words(words: &mut [u64]) {
 }
 
 // The first bytes, as many as are asked for and there: a position and a call have lengths beside their bytes, and those of a list may be too long.
-pub fn first(bytes: &[u8], count: usize) -> &[u8] {
-    &bytes[..least(count, bytes.len())]
+pub fn first(bytes: &[u8], count: usize) -> &[u8]
+    ensures { result.now ≡ take count bytes.now }
+{
+    bytes.get(..count).unwrap_or(bytes)
 }
 
 // An array of a position: the bytes that a record gives, and behind them the filling. The array begins at place `start` of the position's,
@@ -56,7 +58,9 @@ pub fn output(alloc: Global, room: usize) -> Result<Vec<u8>, AllocError>
 }
 
 // So many words of work memory, as they are before a call.
-pub fn work(alloc: Global, words: usize) -> Result<Vec<u64>, AllocError> {
+pub fn work(alloc: Global, words: usize) -> Result<Vec<u64>, AllocError>
+    ensures { IfOk result (λ lent. vec_len lent ≡ words) }
+{
     let mut work = vec![in alloc; 0; words]?;
     untouched_words(&mut work);
     Ok(work)

@@ -1,5 +1,5 @@
-// Lines that are kept and records of words, by a game of one seat: a coin, whose side is a byte. The checksums come from compare/README.md's rule, by another
-// program.
+// Lines that are kept and records of words, by two games of one seat: a coin, whose side is a byte, and a public card, which is there or not. The checksums come
+// from compare/README.md's rule, by another program.
 
 use crate::line::Line;
 use crate::list::{Record, replay};
@@ -107,6 +107,81 @@ impl Position for Coin {
     }
 }
 
+// Every call on it is refused; saved, it may have no public card.
+#[derive(Drop)]
+struct Card {
+    public: bool,
+}
+
+impl Position for Card {
+    fn of_game(_record: &mut Record) -> io::Result<Self> {
+        Ok(Card { public: true })
+    }
+
+    fn of_record(_alloc: Global, record: &mut Record) -> io::Result<Self> {
+        let public = record.number::<u8>()? == 1;
+        Ok(Card { public })
+    }
+
+    fn without_public(&self) -> Option<Self> {
+        self.public.then_some(Card { public: false })
+    }
+
+    fn last_seat(&self) -> usize {
+        0
+    }
+
+    fn last_outcome(&self) -> usize {
+        0
+    }
+
+    fn actions(&self) -> &'static [usize] {
+        &[]
+    }
+
+    fn initial_state(&self) -> Result<Self, Refusal> {
+        Err(Refusal::Unfit)
+    }
+
+    fn legal_actions(&self, _seat: usize, _out: &mut [u8]) -> Result<usize, Refusal> {
+        Err(Refusal::Unfit)
+    }
+
+    fn apply_chance_node(&self, _outcome: usize) -> Result<Self, Refusal> {
+        Err(Refusal::Unfit)
+    }
+
+    fn step(&self, _action: usize) -> Result<Self, Refusal> {
+        Err(Refusal::Unfit)
+    }
+
+    fn information_state_key(&self, _seat: usize, _out: &mut [u8]) -> Result<usize, Refusal> {
+        Err(Refusal::Unfit)
+    }
+
+    fn payouts(&self) -> Result<Payoffs, Refusal> {
+        Err(Refusal::Unfit)
+    }
+
+    fn validate_decoded_state(&self, done: u64) -> Result<(), Refusal> {
+        if self.public {
+            return Err(Refusal::EarlyPublic);
+        }
+        if done != 0 {
+            return Err(Refusal::EndMark);
+        }
+        Ok(())
+    }
+
+    fn mix(&self, line: &mut Line) {
+        line.mix(u8::from(self.public));
+    }
+
+    fn say(&self, _line: &mut Line) -> Result<(), AllocError> {
+        Ok(())
+    }
+}
+
 #[test]
 fn a_line_is_kept(rt: HostRuntime) -> Result<(), Fail> {
     let alloc = rt.alloc();
@@ -191,11 +266,26 @@ const LINES: [(&str, &str); 5] = [
     ("4 1 1", "221351827"),
 ];
 
+const CARD_LINES: [(&str, &str); 5] = [
+    ("0", "I 20 2309102900"),
+    (
+        "1 32 1",
+        "L 20 L 20 L 20 D 20 D 20 D 20 K 20 K 20 K 20 P 20 769444481",
+    ),
+    ("3 1", "17 17 0 18 1453564243"),
+    ("3 0", "0 18 1517073747"),
+    ("4 1", "1453564243"),
+];
+
 #[test]
 fn each_record_has_its_line(rt: HostRuntime) -> Result<(), Fail> {
     let alloc = rt.alloc();
     for (record, want) in LINES {
         let line = answer::<Coin>(alloc, &mut Record::new(record))?;
+        assert_eq!(rt; line.to_string(alloc)?.as_str(), want, "{record}");
+    }
+    for (record, want) in CARD_LINES {
+        let line = answer::<Card>(alloc, &mut Record::new(record))?;
         assert_eq!(rt; line.to_string(alloc)?.as_str(), want, "{record}");
     }
     for record in ["", "5 7", "0", "0 256", "0 x", "1 2 1", "3 2 1"] {

@@ -1,5 +1,7 @@
 // What the records of calls over a tree have in common: the tree's game, and the work memory that each call is lent.
 
+ghost use Rattle.std.specs.Prelude.{◌≡◌, IfOk, vec_len};
+
 use crate::line::{Line, WrittenLine};
 use crate::list::{Numbers, Record};
 use crate::memory;
@@ -60,7 +62,9 @@ impl Tree {
     }
 
     // Work memory for a call, of as many words as the record asks for.
-    pub fn work(&self, alloc: Global) -> Result<Vec<u64>, AllocError> {
+    pub fn work(&self, alloc: Global) -> Result<Vec<u64>, AllocError>
+        ensures { IfOk result (λ lent. vec_len lent ≡ self.now.words) }
+    {
         memory::work(alloc, self.words)
     }
 
